@@ -274,7 +274,7 @@ QUOTED = [
     ("imagesize_stream/src/probe.rt", ["StreamProbe::new", "StreamProbe::push", "StreamProbe::kind", "StreamProbe::finish"]),
     ("imagesize_stream/src/laws.rt", ["probe_two"]),
     ("imagesize_stream/src/parts.rt", ["PartsProbe::new", "PartsProbe::answer", "PartsProbe::supply"]),
-    ("imagesize/src/types.rt", ["ImageType::all", "ImageType::name", "ImageType::place"]),
+    ("imagesize/src/types.rt", ["ImageType::all", "ImageType::name", "ImageType::position"]),
     ("imagesize/src/names.rt", ["ImageType::compression_name"]),
     ("imagesize/src/queries.rt", ["ImageType::compression_family", "ImageType::is_block_compressed", "ImageType::container_format",
                                   "ImageType::is_multi_compression_container"]),

@@ -32,10 +32,10 @@ same_most : (r : Result ImageType Halt) (d : List ℕ) → most_as r d ≡ most_
 same_most (Ok type) d = refl
 same_most (Err halt) d = refl
 
-pub cost_most : (d : List ℕ) (place : ℕ) → cost d place ≤ most_bytes d place
+pub cost_most : (d : List ℕ) (offset : ℕ) → cost d offset ≤ most_bytes d offset
 unfolding meaning_reads
-cost_most d place = subst (λ n. cost d place ≤ n) (same_most (kind_reads d place).answer d)
-    (onward_most (kind_reads d place).marks (kind_reads d place).answer d (kind_at_most d place))
+cost_most d offset = subst (λ n. cost d offset ≤ n) (same_most (kind_reads d offset).answer d)
+    (onward_most (kind_reads d offset).marks (kind_reads d offset).answer d (kind_at_most d offset))
 
 -- these are at most 41 more than the input has
 most_within : {E : Type 0} (r : Result ImageType E) (d : List ℕ) → most_as r d ≤ length d + 41
@@ -43,8 +43,8 @@ most_within (Ok Aseprite) d = omega arith
 most_within (Ok _) d = omega arith
 most_within (Err e) d = omega arith
 
-pub cost_within : (d : List ℕ) (place : ℕ) → cost d place ≤ length d + 41
-cost_within d place = omega (arith, cost_most d place, most_within (stated (kind_reads d place).answer) d)
+pub cost_within : (d : List ℕ) (offset : ℕ) → cost d offset ≤ length d + 41
+cost_within d offset = omega (arith, cost_most d offset, most_within (stated (kind_reads d offset).answer) d)
 
 pub size_within : (type : ImageType) (d : List ℕ) → total (size_reads type d).marks ≤ length d + 41
 size_within type d = omega (arith, size_most type d, most_within {E = Halt} (Ok type) d)
@@ -55,5 +55,5 @@ most_stated (Ok Aseprite) d = omega arith
 most_stated (Ok _) d = omega arith
 most_stated (Err e) d = omega arith
 
-pub cost_stated : (d : List ℕ) (place : ℕ) → cost d place ≤ stated_bytes d place
-cost_stated d place = omega (arith, cost_most d place, most_stated (stated (kind_reads d place).answer) d)
+pub cost_stated : (d : List ℕ) (offset : ℕ) → cost d offset ≤ stated_bytes d offset
+cost_stated d offset = omega (arith, cost_most d offset, most_stated (stated (kind_reads d offset).answer) d)

@@ -1,4 +1,4 @@
--- The type at a place: what it is read from, and what bytes that follow leave of it.
+-- The type at an offset: what it is read from, and what bytes that follow leave of it.
 use Rattle.std.proofs.Common.{◌≡◌, ℕ, zero, suc, ◌+◌, ◌-◌, ◌<◌, ◌≤◌, Bool, true, false, cond, leb, List, [], ◌∷◌, ◌++◌, length, take, drop, Option, Some, None, Result, Ok, Err, IfOk, IsTrue, ◌⊎◌, inl, inr, refl, sym, ap, ◌∙◌, subst, arith}
 use Rattle.std.specs.Prelude.{IsOkAnd, codes}
 use Rattle.std.specs.Str.{bytes_eq}
@@ -64,70 +64,70 @@ pub kind_few : (type : ImageType) → kind_cost type ≤ 37
 kind_few Tga = omega arith
 kind_few _ = omega arith
 
-with_costs : (place : ℕ) (head : List ℕ) (found : ImageType)
-    → CostsBy kind_cost 37 12 (with_compression place head found)
+with_costs : (offset : ℕ) (head : List ℕ) (found : ImageType)
+    → CostsBy kind_cost 37 12 (with_compression offset head found)
 unfolding with_compression
-with_costs place head (Heif _) =
-    costs_bind kind_cost 37 12 12 (heif_compression place head) _ (heif_compression_laws place head).few
+with_costs offset head (Heif _) =
+    costs_bind kind_cost 37 12 12 (heif_compression offset head) _ (heif_compression_laws offset head).few
     (omega arith) (λ _. omega arith)
-with_costs place head (Atc _) =
+with_costs offset head (Atc _) =
     costs_bind kind_cost 37 12 8 atc_compression _ atc_compression_laws.few (omega arith) (λ _. omega arith)
-with_costs place head (Pvrtc _) =
+with_costs offset head (Pvrtc _) =
     costs_bind kind_cost 37 12 12 pvrtc_compression _ pvrtc_compression_laws.few (omega arith)
     (λ _. omega arith)
-with_costs place head (Eac _) =
+with_costs offset head (Eac _) =
     costs_bind kind_cost 37 12 2 pkm_compression _ pkm_compression_laws.few (omega arith) (λ _. omega arith)
-with_costs place head (Etc2 _) =
+with_costs offset head (Etc2 _) =
     costs_bind kind_cost 37 12 2 pkm_compression _ pkm_compression_laws.few (omega arith) (λ _. omega arith)
-with_costs place head (Dds _) =
+with_costs offset head (Dds _) =
     costs_bind kind_cost 37 12 8 dds_compression _ dds_compression_laws.few (omega arith) (λ _. omega arith)
-with_costs place head Tga = omega arith
-with_costs place head _ = omega arith
+with_costs offset head Tga = omega arith
+with_costs offset head _ = omega arith
 
 none_costs : (is : Bool) → CostsBy kind_cost 37 37 (tga_or_none is)
 none_costs true = omega arith
 none_costs false = omega arith
 
-by_costs : (n place : ℕ) (head : List ℕ) (found : Option ImageType)
-    → CostsBy kind_cost 37 12 (kind_by n place head found)
-by_costs n place head (Some found) = with_costs place head found
-by_costs n place head None = costs_bind kind_cost 37 12 25 (is_tga n head) tga_or_none (is_tga_few n head) (omega arith)
+by_costs : (n offset : ℕ) (head : List ℕ) (found : Option ImageType)
+    → CostsBy kind_cost 37 12 (kind_by n offset head found)
+by_costs n offset head (Some found) = with_costs offset head found
+by_costs n offset head None = costs_bind kind_cost 37 12 25 (is_tga n head) tga_or_none (is_tga_few n head) (omega arith)
     (λ is. none_costs is)
 
-pub kind_costs : (n place : ℕ) → CostsBy kind_cost 37 0 (kind n place)
-kind_costs n place = (omega arith, λ head. by_costs n place head (first_row rows head))
+pub kind_costs : (n offset : ℕ) → CostsBy kind_cost 37 0 (kind n offset)
+kind_costs n offset = (omega arith, λ head. by_costs n offset head (first_row rows head))
 
 -- what a type is read from, by the type that is found
-pub kind_at_most : (d : List ℕ) (place : ℕ)
-    → total (kind_reads d place).marks ≤ bound_of kind_cost 37 (kind_reads d place).answer
-kind_at_most d place = omega (arith, costs kind_cost 37 0 d (kind (length d) place) (kind_costs (length d) place))
+pub kind_at_most : (d : List ℕ) (offset : ℕ)
+    → total (kind_reads d offset).marks ≤ bound_of kind_cost 37 (kind_reads d offset).answer
+kind_at_most d offset = omega (arith, costs kind_cost 37 0 d (kind (length d) offset) (kind_costs (length d) offset))
 
 few_of : (r : Result ImageType Halt) → bound_of kind_cost 37 r ≤ 37
 few_of (Ok type) = kind_few type
 few_of (Err e) = omega arith
 
 -- and at most, whatever is found
-pub kind_within : (d : List ℕ) (place : ℕ) → total (kind_reads d place).marks ≤ 37
-kind_within d place = omega (arith, kind_at_most d place, few_of (kind_reads d place).answer)
+pub kind_within : (d : List ℕ) (offset : ℕ) → total (kind_reads d offset).marks ≤ 37
+kind_within d offset = omega (arith, kind_at_most d offset, few_of (kind_reads d offset).answer)
 
 -- a type whose size is told in the same way, whatever its compression
 abbrev pub SameWay : ImageType → ImageType → Type 0
 SameWay found type = way_of type ≡ way_of found
 
-with_alike : (place : ℕ) (head : List ℕ) (found : ImageType)
-    → Always (SameWay found) (with_compression place head found)
+with_alike : (offset : ℕ) (head : List ℕ) (found : ImageType)
+    → Always (SameWay found) (with_compression offset head found)
 unfolding with_compression
-with_alike place head (Heif k) =
-    always_bind (SameWay (Heif k)) (heif_compression place head) _ (heif_compression_laws place head).answers
+with_alike offset head (Heif k) =
+    always_bind (SameWay (Heif k)) (heif_compression offset head) _ (heif_compression_laws offset head).answers
     (λ _. refl)
-with_alike place head (Atc k) = always_bind (SameWay (Atc k)) atc_compression _ atc_compression_laws.answers (λ _. refl)
-with_alike place head (Pvrtc k) =
+with_alike offset head (Atc k) = always_bind (SameWay (Atc k)) atc_compression _ atc_compression_laws.answers (λ _. refl)
+with_alike offset head (Pvrtc k) =
     always_bind (SameWay (Pvrtc k)) pvrtc_compression _ pvrtc_compression_laws.answers (λ _. refl)
-with_alike place head (Eac k) = always_bind (SameWay (Eac k)) pkm_compression _ pkm_compression_laws.answers (λ _. refl)
-with_alike place head (Etc2 k) =
+with_alike offset head (Eac k) = always_bind (SameWay (Eac k)) pkm_compression _ pkm_compression_laws.answers (λ _. refl)
+with_alike offset head (Etc2 k) =
     always_bind (SameWay (Etc2 k)) pkm_compression _ pkm_compression_laws.answers (λ _. refl)
-with_alike place head (Dds k) = always_bind (SameWay (Dds k)) dds_compression _ dds_compression_laws.answers (λ _. refl)
-with_alike place head _ = refl
+with_alike offset head (Dds k) = always_bind (SameWay (Dds k)) dds_compression _ dds_compression_laws.answers (λ _. refl)
+with_alike offset head _ = refl
 
 -- an answer behind readings is that behind what they answered
 onward_ok : {X Y : Type 0} (spans : List Span) (r : Result X Halt) (f : X → Reads Y) (y : Y)
@@ -147,42 +147,42 @@ ok_is e = cc
 abbrev Fades : {X : Type 0} → X → Layout X → Type 0
 Fades u (done x) = Unit {0}
 Fades u (refuse e) = ⊥
-Fades u (field order place n f) = ⊥
-Fades u (reading (AllOf n) place f) = ⊥
-Fades u (reading (PartOf n) place f) = (bs : List ℕ) → (length bs < n → f bs ≡ done u) × Fades u (f bs)
-Fades u (reading (TextOf t n) place f) = ⊥
+Fades u (field order offset n f) = ⊥
+Fades u (reading (AllOf n) offset f) = ⊥
+Fades u (reading (PartOf n) offset f) = (bs : List ℕ) → (length bs < n → f bs ≡ done u) × Fades u (f bs)
+Fades u (reading (TextOf t n) offset f) = ⊥
 Fades u (begin_record t) = Fades u t
 
 -- a part that is there is not changed by bytes that follow
-part_kept : (d x : List ℕ) (place n : ℕ) → n ≤ length d - place → part (d ++ x) place n ≡ part d place n
+part_kept : (d x : List ℕ) (offset n : ℕ) → n ≤ length d - offset → part (d ++ x) offset n ≡ part d offset n
 unfolding part
-part_kept d x place zero h = refl
-part_kept d x place (suc n) h =
-    let short = length-drop place d in
-    ap (take (suc n)) (drop-append-le place d x (omega (arith, h)))
-    ∙ take-append-le (suc n) (drop place d) x (omega (arith, h, short))
+part_kept d x offset zero h = refl
+part_kept d x offset (suc n) h =
+    let short = length-drop offset d in
+    ap (take (suc n)) (drop-append-le offset d x (omega (arith, h)))
+    ∙ take-append-le (suc n) (drop offset d) x (omega (arith, h, short))
 
 fades : {X : Type 0} (u : X) (d x : List ℕ) (t : Layout X) (v w : X) → Fades u t → (layout_reads d t).answer ≡ Ok v
     → (layout_reads (d ++ x) t).answer ≡ Ok w → (w ≡ v) ⊎ (v ≡ u)
 fades u d x (done y) v w h is more = inl cc
 fades u d x (refuse e) v w h is more = absurd h
-fades u d x (field order place n f) v w h is more = absurd h
-fades u d x (reading (AllOf n) place f) v w h is more = absurd h
-fades {X} u d x (reading (PartOf n) place f) v w h is more = elim (cases_lt (length d - place) n) [
+fades u d x (field order offset n f) v w h is more = absurd h
+fades u d x (reading (AllOf n) offset f) v w h is more = absurd h
+fades {X} u d x (reading (PartOf n) offset f) v w h is more = elim (cases_lt (length d - offset) n) [
   | inl cut ↦
-      let none : f (part d place n) ≡ done u = (h (part d place n)).0 (omega (arith, cut, part_length d place n)) in
+      let none : f (part d offset n) ≡ done u = (h (part d offset n)).0 (omega (arith, cut, part_length d offset n)) in
       let untold : ◌≡◌ {A = Result X Halt} (Ok u) (Ok v) = sym (ap (λ t. (layout_reads d t).answer) none) ∙ is in
       inr cc
-  | inr all ↦ fades u d x (f (part d place n)) v w (h (part d place n)).1 is
-      (ap (λ bs. (layout_reads (d ++ x) (f bs)).answer) (sym (part_kept d x place n all)) ∙ more)
+  | inr all ↦ fades u d x (f (part d offset n)) v w (h (part d offset n)).1 is
+      (ap (λ bs. (layout_reads (d ++ x) (f bs)).answer) (sym (part_kept d x offset n all)) ∙ more)
 ]
-fades u d x (reading (TextOf t n) place f) v w h is more = absurd h
+fades u d x (reading (TextOf t n) offset f) v w h is more = absurd h
 fades u d x (begin_record t) v w h is more = fades u d x t v w h is more
 
 -- all or nothing of a reading
-if_there_fades : {X : Type 0} (u : X) (place n : ℕ) (f : Option (List ℕ) → Layout X) → f None ≡ done u
-    → ((bs : List ℕ) → Fades u (f (Some bs))) → Fades u (if_there place n f)
-if_there_fades u place n f none some bs = (
+if_there_fades : {X : Type 0} (u : X) (offset n : ℕ) (f : Option (List ℕ) → Layout X) → f None ≡ done u
+    → ((bs : List ℕ) → Fades u (f (Some bs))) → Fades u (if_there offset n f)
+if_there_fades u offset n f none some bs = (
   λ cut. let short : leb n (length bs) ≡ false = grind (arith, nat_tests) in
       ap (λ (test : Bool). f (cond test (Some bs) None)) short ∙ none,
   by_test (leb n (length bs)),
@@ -192,10 +192,10 @@ if_there_fades u place n f none some bs = (
   by_test false = subst (Fades u) (sym none) tt
 
 -- of each compression
-heif_fades : (place : ℕ) (head : List ℕ) → Fades heif_unknown (heif_compression place head)
+heif_fades : (offset : ℕ) (head : List ℕ) → Fades heif_unknown (heif_compression offset head)
 unfolding heif_compression
-heif_fades place head = on_test (Fades heif_unknown) (is_general (four_at 8 head)) _ _
-    (λ _. if_there_fades heif_unknown (place + 12) 12 (λ more. done (compatible_compression more)) refl (λ bs. tt))
+heif_fades offset head = on_test (Fades heif_unknown) (is_general (four_at 8 head)) _ _
+    (λ _. if_there_fades heif_unknown (offset + 12) 12 (λ more. done (compatible_compression more)) refl (λ bs. tt))
     (λ _. tt)
 
 atc_fades : Fades atc_unknown atc_compression
@@ -238,29 +238,29 @@ type_stays {C} of u t d x type after h unknown is more =
       | inr none ↦ inr (sym found ∙ ap of none ∙ sym (unknown second.0) ∙ ap without_compression left)
     ]
 
-compression_stays : (d x : List ℕ) (place : ℕ) (head : List ℕ) (found type after : ImageType)
-    → (layout_reads d (with_compression place head found)).answer ≡ Ok type
-    → (layout_reads (d ++ x) (with_compression place head found)).answer ≡ Ok after → Stays type after
+compression_stays : (d x : List ℕ) (offset : ℕ) (head : List ℕ) (found type after : ImageType)
+    → (layout_reads d (with_compression offset head found)).answer ≡ Ok type
+    → (layout_reads (d ++ x) (with_compression offset head found)).answer ≡ Ok after → Stays type after
 unfolding with_compression
-compression_stays d x place head (Heif _) type after is more =
-    type_stays Heif heif_unknown (heif_compression place head) d x type after (heif_fades place head)
+compression_stays d x offset head (Heif _) type after is more =
+    type_stays Heif heif_unknown (heif_compression offset head) d x type after (heif_fades offset head)
     (λ _. refl) is more
-compression_stays d x place head (Atc _) type after is more =
+compression_stays d x offset head (Atc _) type after is more =
     type_stays Atc atc_unknown atc_compression d x type after atc_fades (λ _. refl) is more
-compression_stays d x place head (Pvrtc _) type after is more =
+compression_stays d x offset head (Pvrtc _) type after is more =
     type_stays Pvrtc pvrtc_unknown pvrtc_compression d x type after pvrtc_fades (λ _. refl) is more
-compression_stays d x place head (Eac _) type after is more =
+compression_stays d x offset head (Eac _) type after is more =
     type_stays Eac pkm_unknown pkm_compression d x type after pkm_fades (λ _. refl) is more
-compression_stays d x place head (Etc2 _) type after is more =
+compression_stays d x offset head (Etc2 _) type after is more =
     type_stays Etc2 pkm_unknown pkm_compression d x type after pkm_fades (λ _. refl) is more
-compression_stays d x place head (Dds _) type after is more =
+compression_stays d x offset head (Dds _) type after is more =
     type_stays Dds dds_unknown dds_compression d x type after dds_fades (λ _. refl) is more
-compression_stays d x place head _ type after is more = inl (sym (ok_is more) ∙ ok_is is)
+compression_stays d x offset head _ type after is more = inl (sym (ok_is more) ∙ ok_is is)
 
-none_keeps : (d : List ℕ) (n place : ℕ) (head : List ℕ) (type : ImageType)
+none_keeps : (d : List ℕ) (n offset : ℕ) (head : List ℕ) (type : ImageType)
     → (layout_reads d (bind (is_tga n head) tga_or_none)).answer ≡ Ok type
     → keeps type ≡ true → ⊥
-none_keeps d n place head type is stays =
+none_keeps d n offset head type is stays =
     let both = ap (λ r. r.answer) (sym (over-bind d (is_tga n head) tga_or_none)) ∙ is in
     let last = onward_ok (layout_reads d (is_tga n head)).marks (layout_reads d (is_tga n head)).answer
     (λ b. layout_reads d (tga_or_none b)) type both in
@@ -268,32 +268,32 @@ none_keeps d n place head type is stays =
     let not_tga : keeps Tga ≡ true = ap keeps (sym tga_found) ∙ stays in
     absurd cc
 
-by_more : (d x : List ℕ) (place : ℕ) (head : List ℕ) (row : Option ImageType) (type : ImageType)
-    → (layout_reads d (kind_by (length d) place head row)).answer ≡ Ok type → keeps type ≡ true → (after : ImageType)
-    × ((layout_reads (d ++ x) (kind_by (length (d ++ x)) place head row)).answer ≡ Ok after) × SameWay type after
+by_more : (d x : List ℕ) (offset : ℕ) (head : List ℕ) (row : Option ImageType) (type : ImageType)
+    → (layout_reads d (kind_by (length d) offset head row)).answer ≡ Ok type → keeps type ≡ true → (after : ImageType)
+    × ((layout_reads (d ++ x) (kind_by (length (d ++ x)) offset head row)).answer ≡ Ok after) × SameWay type after
     × Stays type after
-by_more d x place head None type is stays = absurd (none_keeps d (length d) place head type is stays)
-by_more d x place head (Some found) type is stays =
-    let before = always (SameWay found) d (with_compression place head found) (with_alike place head found) in
-    let after = always (SameWay found) (d ++ x) (with_compression place head found) (with_alike place head found) in
+by_more d x offset head None type is stays = absurd (none_keeps d (length d) offset head type is stays)
+by_more d x offset head (Some found) type is stays =
+    let before = always (SameWay found) d (with_compression offset head found) (with_alike offset head found) in
+    let after = always (SameWay found) (d ++ x) (with_compression offset head found) (with_alike offset head found) in
     let same : before.0 ≡ type = cc in
     let alike : SameWay found type = subst (SameWay found) same before.2 in
-    (after.0, after.1, after.2 ∙ sym alike, compression_stays d x place head found type after.0 is after.1)
+    (after.0, after.1, after.2 ∙ sym alike, compression_stays d x offset head found type after.0 is after.1)
 
 -- behind a type that is kept, bytes that follow leave it, and a compression that is told
-pub kind_more : (d x : List ℕ) (place : ℕ) (type : ImageType) → (kind_reads d place).answer ≡ Ok type
+pub kind_more : (d x : List ℕ) (offset : ℕ) (type : ImageType) → (kind_reads d offset).answer ≡ Ok type
     → keeps type ≡ true
-    → (after : ImageType) × ((kind_reads (d ++ x) place).answer ≡ Ok after) × SameWay type after × Stays type after
-kind_more d x place type is stays =
-    let head = onward_ok (span_of d place 12) (bytes_at d place 12)
-    (λ bs. layout_reads d (kind_by (length d) place bs (first_row rows bs))) type
+    → (after : ImageType) × ((kind_reads (d ++ x) offset).answer ≡ Ok after) × SameWay type after × Stays type after
+kind_more d x offset type is stays =
+    let head = onward_ok (span_of d offset 12) (bytes_at d offset 12)
+    (λ bs. layout_reads d (kind_by (length d) offset bs (first_row rows bs))) type
     is in
-    let there : bytes_at (d ++ x) place 12 ≡ Ok head.0 = bytes_more d x place 12 (bytes_ok d head.0 place 12 head.1)
+    let there : bytes_at (d ++ x) offset 12 ≡ Ok head.0 = bytes_more d x offset 12 (bytes_ok d head.0 offset 12 head.1)
     ∙ head.1 in
-    let after = by_more d x place head.0 (first_row rows head.0) type head.2 stays in (
+    let after = by_more d x offset head.0 (first_row rows head.0) type head.2 stays in (
       after.0,
-      ap (λ r. (go_on (span_of (d ++ x) place 12) r
-          (λ bs. layout_reads (d ++ x) (kind_by (length (d ++ x)) place bs (first_row rows bs)))).answer) there
+      ap (λ r. (go_on (span_of (d ++ x) offset 12) r
+          (λ bs. layout_reads (d ++ x) (kind_by (length (d ++ x)) offset bs (first_row rows bs)))).answer) there
           ∙ after.1,
       after.2,
       after.3,
@@ -304,23 +304,23 @@ lasting : (type : ImageType) → lasts type ≡ true → keeps type ≡ true
 lasting Tga stays = absurd cc
 lasting _ stays = refl
 
-pub way_more : (d x : List ℕ) (place : ℕ) (type : ImageType) → (kind_reads d place).answer ≡ Ok type → lasts type ≡ true
-    → (after : ImageType) × ((kind_reads (d ++ x) place).answer ≡ Ok after) × SameWay type after
-way_more d x place type is stays = let after = kind_more d x place type is (lasting type stays) in
+pub way_more : (d x : List ℕ) (offset : ℕ) (type : ImageType) → (kind_reads d offset).answer ≡ Ok type → lasts type ≡ true
+    → (after : ImageType) × ((kind_reads (d ++ x) offset).answer ≡ Ok after) × SameWay type after
+way_more d x offset type is stays = let after = kind_more d x offset type is (lasting type stays) in
     (after.0, after.1, after.2)
 
-pub kind_lasts : (d : List ℕ) (place : ℕ) (r : Result ImageType ImageError) → r ≡ (kind_of d place).answer
-    → IfOk r (λ type. IsTrue (keeps type) → (x : List ℕ) → IsOkAnd (kind_of (d ++ x) place).answer (Stays type))
-kind_lasts d place (Ok type) is = λ stays x.
-    let after = kind_more d x place type (stated_ok (kind_reads d place).answer type (sym is)) stays in
+pub kind_lasts : (d : List ℕ) (offset : ℕ) (r : Result ImageType ImageError) → r ≡ (kind_of d offset).answer
+    → IfOk r (λ type. IsTrue (keeps type) → (x : List ℕ) → IsOkAnd (kind_of (d ++ x) offset).answer (Stays type))
+kind_lasts d offset (Ok type) is = λ stays x.
+    let after = kind_more d x offset type (stated_ok (kind_reads d offset).answer type (sym is)) stays in
     subst (λ (r : Result ImageType ImageError). IsOkAnd r (Stays type)) (sym (ap stated after.1)) after.3
-kind_lasts d place (Err e) is = tt
+kind_lasts d offset (Err e) is = tt
 
 -- a head that was read, and the type by it
-pub head_then : {a m b : State} (r : Result ImageType Halt) (place : ℕ) (head : List ℕ) → length head ≡ 12
-    → Runs a m (Ok head) (bytes_read a.held.input place (length head))
-    → Runs m b r (layout_reads m.held.input (kind_by (length m.held.input) place head (first_row rows head)))
-    → Runs a b r (layout_reads a.held.input (kind (length a.held.input) place))
-head_then {a} {m} {b} r place head long first second = runs_then (bytes_read a.held.input place 12)
-    (λ bs held. layout_reads held.input (kind_by (length held.input) place bs (first_row rows bs)))
-    (subst (λ k. Runs a m (Ok head) (bytes_read a.held.input place k)) long first) second
+pub head_then : {a m b : State} (r : Result ImageType Halt) (offset : ℕ) (head : List ℕ) → length head ≡ 12
+    → Runs a m (Ok head) (bytes_read a.held.input offset (length head))
+    → Runs m b r (layout_reads m.held.input (kind_by (length m.held.input) offset head (first_row rows head)))
+    → Runs a b r (layout_reads a.held.input (kind (length a.held.input) offset))
+head_then {a} {m} {b} r offset head long first second = runs_then (bytes_read a.held.input offset 12)
+    (λ bs held. layout_reads held.input (kind_by (length held.input) offset bs (first_row rows bs)))
+    (subst (λ k. Runs a m (Ok head) (bytes_read a.held.input offset k)) long first) second

@@ -131,7 +131,7 @@ pub kept_plain : (fault : Option Error) (b : State) → b.failure ≡ kept_error
 kept_plain None b is = record { spent = ap (λ e. budget_spent e) is }
 kept_plain (Some e) b is = record { spent = ap (λ e. budget_spent e) is }
 
--- and the reader is left as it was, but for its place and the interruptions that came
+-- and the reader is left as it was, but for its offset and the interruptions that came
 pub leaves_reader : {X : Type 0} {a b : State} (telling mid new : Option Telling) (count : Option ℕ) (home : ℕ) (opened : Opened)
     (told retries : ℕ) (fault : Option Error) (r : Result X Halt) (reads : Reads X) → a ≡ start_state mid count home opened.told
     → model_of b.frame.backing ≡ behind_of told retries fault new → Runs a b r reads → Opens telling mid (Ok opened) → Leaves telling new

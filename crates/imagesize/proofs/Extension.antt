@@ -16,11 +16,11 @@ use Rattle.imagesize_source.specs.declared.halt.Halt.{Halt}
 use Rattle.imagesize_source.specs.Outcome.{stated}
 use Rattle.imagesize_source.proofs.Halts.{stated_ok}
 
-meaning_of : (d : List ℕ) (place : ℕ) (type : ImageType) → (kind_reads d place).answer ≡ Ok type
-    → (meaning_reads d place).answer
+meaning_of : (d : List ℕ) (offset : ℕ) (type : ImageType) → (kind_reads d offset).answer ≡ Ok type
+    → (meaning_reads d offset).answer
     ≡ (size_reads type d).answer
 unfolding meaning_reads
-meaning_of d place type is = ap (λ r. (go_on (kind_reads d place).marks r (λ found. size_reads found d)).answer) is
+meaning_of d offset type is = ap (λ r. (go_on (kind_reads d offset).marks r (λ found. size_reads found d)).answer) is
 
 lasting_kind : (r : Result ImageType Halt) → lasts_as r ≡ true
     → (type : ImageType) × (r ≡ Ok type) × (lasts type ≡ true)
@@ -28,14 +28,14 @@ lasting_kind (Ok type) stays = (type, refl, stays)
 lasting_kind (Err e) stays = absurd cc
 
 -- a size of a type that lasts is that of the bytes and any that follow
-meaning_more : (d x : List ℕ) (place : ℕ) (size : ImageSize) → lasts_as (kind_reads d place).answer ≡ true
-    → (meaning_reads d place).answer
-    ≡ Ok size → (meaning_reads (d ++ x) place).answer ≡ Ok size
-meaning_more d x place size stays is =
-    let found = lasting_kind (kind_reads d place).answer stays in
-    let after = way_more d x place found.0 found.1 found.2 in
-    let sized : (size_reads found.0 d).answer ≡ Ok size = sym (meaning_of d place found.0 found.1) ∙ is in
-    meaning_of (d ++ x) place after.0 after.1 ∙ ap (λ way. (by_way way (d ++ x)).answer) after.2
+meaning_more : (d x : List ℕ) (offset : ℕ) (size : ImageSize) → lasts_as (kind_reads d offset).answer ≡ true
+    → (meaning_reads d offset).answer
+    ≡ Ok size → (meaning_reads (d ++ x) offset).answer ≡ Ok size
+meaning_more d x offset size stays is =
+    let found = lasting_kind (kind_reads d offset).answer stays in
+    let after = way_more d x offset found.0 found.1 found.2 in
+    let sized : (size_reads found.0 d).answer ≡ Ok size = sym (meaning_of d offset found.0 found.1) ∙ is in
+    meaning_of (d ++ x) offset after.0 after.1 ∙ ap (λ way. (by_way way (d ++ x)).answer) after.2
     ∙ lasts_way (kind_cost found.0) (lasts found.0) (has_texts found.0) (way_of found.0) found.2 (laws_of found.0)
     d x size sized
 
@@ -43,9 +43,9 @@ same_lasts : (r : Result ImageType Halt) → lasts_as (stated r) ≡ lasts_as r
 same_lasts (Ok type) = refl
 same_lasts (Err halt) = refl
 
-pub size_lasts : (d : List ℕ) (place : ℕ) (r : Result ImageSize ImageError) → r ≡ (meaning d place).answer
-    → IsTrue (lasts_as (kind_of d place).answer)
-    → IfOk r (λ size. (x : List ℕ) → (meaning (d ++ x) place).answer ≡ Ok size)
-size_lasts d place (Ok size) is stays = λ x. ap stated (meaning_more d x place size
-    (sym (same_lasts (kind_reads d place).answer) ∙ stays) (stated_ok (meaning_reads d place).answer size (sym is)))
-size_lasts d place (Err e) is stays = tt
+pub size_lasts : (d : List ℕ) (offset : ℕ) (r : Result ImageSize ImageError) → r ≡ (meaning d offset).answer
+    → IsTrue (lasts_as (kind_of d offset).answer)
+    → IfOk r (λ size. (x : List ℕ) → (meaning (d ++ x) offset).answer ≡ Ok size)
+size_lasts d offset (Ok size) is stays = λ x. ap stated (meaning_more d x offset size
+    (sym (same_lasts (kind_reads d offset).answer) ∙ stays) (stated_ok (meaning_reads d offset).answer size (sym is)))
+size_lasts d offset (Err e) is stays = tt

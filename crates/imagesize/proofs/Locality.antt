@@ -14,9 +14,9 @@ use Rattle.imagesize_source.specs.Layout.{layout_reads}
 use Rattle.imagesize_source.specs.Reading.{Reads}
 
 -- the type sees an input by its marks
-pub local_kind : (place : ℕ) → IsLocal false (λ d. kind_reads d place)
-local_kind place = local_length (λ n d. layout_reads d (kind n place))
-    (λ n. local_layout (kind n place) (costed_texts false kind_cost 37 0 (kind n place) (kind_costs n place)))
+pub local_kind : (offset : ℕ) → IsLocal false (λ d. kind_reads d offset)
+local_kind offset = local_length (λ n d. layout_reads d (kind n offset))
+    (λ n. local_layout (kind n offset) (costed_texts false kind_cost 37 0 (kind n offset) (kind_costs n offset)))
 
 -- and a size does
 pub local_size : (type : ImageType) → IsLocal (has_texts type) (size_reads type)
@@ -28,8 +28,8 @@ widened true r is = is
 widened false r is = λ d e long. alike_more true d e (r d) (r e) (is d e long)
 
 -- an input that agrees with another on its marks has the same type, the same size and the same marks
-pub local_meaning : (place : ℕ) → IsLocal true (λ d. meaning_reads d place)
+pub local_meaning : (offset : ℕ) → IsLocal true (λ d. meaning_reads d offset)
 unfolding meaning_reads
-local_meaning place =
-    local_then (λ d. kind_reads d place) size_reads (widened false (λ d. kind_reads d place) (local_kind place))
+local_meaning offset =
+    local_then (λ d. kind_reads d offset) size_reads (widened false (λ d. kind_reads d offset) (local_kind offset))
     (λ type. widened (has_texts type) (size_reads type) (local_size type))

@@ -24,50 +24,50 @@ use Rattle.imagesize_source.specs.declared.halt.Halt.{Halt}
 use Rattle.imagesize_io.specs.declared.reader.Opened.{Opened}
 
 -- a type that was found, and the size by it
-pub found_then : {a m b : State} (type : ImageType) (r : Result ImageSize Halt) (place : ℕ)
-    → Runs a m (Ok type) (kind_reads a.held.input place) → Runs m b r (size_reads type m.held.input)
-    → Runs a b r (meaning_reads a.held.input place)
+pub found_then : {a m b : State} (type : ImageType) (r : Result ImageSize Halt) (offset : ℕ)
+    → Runs a m (Ok type) (kind_reads a.held.input offset) → Runs m b r (size_reads type m.held.input)
+    → Runs a b r (meaning_reads a.held.input offset)
 unfolding meaning_reads
-found_then {a} {m} {b} type r place first second =
-    runs_then (kind_reads a.held.input place) (λ found held. size_reads found held.input) first second
+found_then {a} {m} {b} type r offset first second =
+    runs_then (kind_reads a.held.input offset) (λ found held. size_reads found held.input) first second
 
 -- no type was found
-pub none_found : {a b : State} (halt : Halt) (place : ℕ)
-    → Runs {X = ImageType} a b (Err halt) (kind_reads a.held.input place)
-    → Runs {X = ImageSize} a b (Err halt) (meaning_reads a.held.input place)
+pub none_found : {a b : State} (halt : Halt) (offset : ℕ)
+    → Runs {X = ImageType} a b (Err halt) (kind_reads a.held.input offset)
+    → Runs {X = ImageSize} a b (Err halt) (meaning_reads a.held.input offset)
 unfolding meaning_reads
-none_found {a} {b} halt place h =
-    runs_refused (kind_reads a.held.input place) (λ found. size_reads found a.held.input) h
+none_found {a} {b} halt offset h =
+    runs_refused (kind_reads a.held.input offset) (λ found. size_reads found a.held.input) h
 
 -- an honest budget is enough for a type and for every size
 bounded_kind : IsBounded kind_reads
-bounded_kind d place = omega (arith, kind_within d place)
+bounded_kind d offset = omega (arith, kind_within d offset)
 
 bounded_meaning : IsBounded meaning_reads
-bounded_meaning d place = omega (arith, cost_within d place)
+bounded_meaning d offset = omega (arith, cost_within d offset)
 
 -- the type that a reader was found to hold
 pub kind_answers : (telling mid : Option Telling) (count : Option ℕ) (home : ℕ) (opened : Opened) (a b : State)
     (r : Result ImageType Halt) → a ≡ start_state mid count home opened.told → is_some b.failed ≡ true
     → Opens telling mid (Ok opened)
-    → Runs a b r (kind_reads a.held.input opened.place)
+    → Runs a b r (kind_reads a.held.input opened.offset)
     → Answers telling kind_of (with_error b.failure b.frame.budget r)
 kind_answers telling mid count home opened a b r start told opens h =
     opened_answers telling mid count home opened b r kind_reads bounded_kind told opens
-    (subst (λ s. Runs s b r (kind_reads s.held.input opened.place)) start h)
+    (subst (λ s. Runs s b r (kind_reads s.held.input opened.offset)) start h)
 
-found_kind : (t : Telling) (mid : Option Telling) (count : Option ℕ) (home told place : ℕ) (a : State)
+found_kind : (t : Telling) (mid : Option Telling) (count : Option ℕ) (home told offset : ℕ) (a : State)
     (found : Option ImageType)
-    (r : Result ImageSize Halt) → IsHonest t → Began t mid told place → a ≡ start_state mid count home told
-    → FindsKind a place found r
-    → (IfSome found (λ type. (kind_reads t.bytes t.place).answer ≡ Ok type)) × (is_stopped r ≡ false
-    → found ≡ result_ok (kind_reads t.bytes t.place).answer)
-found_kind t mid count home told place a found r honest began start finds =
-    let held : a.held ≡ claim t = ap (λ s. s.held) (start ∙ start_of t mid count home told place began)
+    (r : Result ImageSize Halt) → IsHonest t → Began t mid told offset → a ≡ start_state mid count home told
+    → FindsKind a offset found r
+    → (IfSome found (λ type. (kind_reads t.bytes t.offset).answer ≡ Ok type)) × (is_stopped r ≡ false
+    → found ≡ result_ok (kind_reads t.bytes t.offset).answer)
+found_kind t mid count home told offset a found r honest began start finds =
+    let held : a.held ≡ claim t = ap (λ s. s.held) (start ∙ start_of t mid count home told offset began)
     ∙ start_holds t count home honest
     in
     let is_honest : a.held.honest ≡ true = ap (λ h. h.honest) held in
-    let same : kind_reads a.held.input place ≡ kind_reads t.bytes t.place = ap (λ h. kind_reads h.input place) held
+    let same : kind_reads a.held.input offset ≡ kind_reads t.bytes t.offset = ap (λ h. kind_reads h.input offset) held
     ∙ ap (kind_reads t.bytes)
     began.at in (
       subst (λ reads. IfSome found (λ type. reads.answer ≡ Ok type)) same (finds.right is_honest),
@@ -89,34 +89,34 @@ pub probes_opened : (telling mid : Option Telling) (count : Option ℕ) (home : 
     (probed : Probed)
     (r : Result ImageSize Halt) → probed.answer ≡ with_error b.failure b.frame.budget r
     → a ≡ start_state mid count home opened.told
-    → is_some b.failed ≡ true → Opens telling mid (Ok opened) → Runs a b r (meaning_reads a.held.input opened.place)
-    → FindsKind a opened.place probed.kind r → probed.taken ≡ b.taken → Probes telling probed
+    → is_some b.failed ≡ true → Opens telling mid (Ok opened) → Runs a b r (meaning_reads a.held.input opened.offset)
+    → FindsKind a opened.offset probed.kind r → probed.taken ≡ b.taken → Probes telling probed
 probes_opened None mid count home opened a b probed r is start told opens h finds took = tt
 probes_opened (Some t) mid count home opened a b probed r is start told opens h finds took = λ honest.
-    let began : Began t mid opened.told opened.place =
+    let began : Began t mid opened.told opened.offset =
     record { at_end = opens.0; length_told = opens.2; at = opens.1 } in
-    let runs = subst (λ s. Runs s b r (meaning_reads s.held.input opened.place)) start h in
-    let kinds = found_kind t mid count home opened.told opened.place a probed.kind r honest began start finds in
-    let takes = subst (λ q. TakesAs t (meaning t.bytes t.place) q probed.taken) (sym is)
-    (subst (λ n. TakesAs t (meaning t.bytes t.place) (with_error b.failure b.frame.budget r) n) (sym took)
+    let runs = subst (λ s. Runs s b r (meaning_reads s.held.input opened.offset)) start h in
+    let kinds = found_kind t mid count home opened.told opened.offset a probed.kind r honest began start finds in
+    let takes = subst (λ q. TakesAs t (meaning t.bytes t.offset) q probed.taken) (sym is)
+    (subst (λ n. TakesAs t (meaning t.bytes t.offset) (with_error b.failure b.frame.budget r) n) (sym took)
     (opened_takes (Some t) mid count home opened b r meaning_reads told opens runs honest)) in
-    let few : probed.taken ≤ cost t.bytes t.place = takes.most in
-    let answers = subst (λ q. AnswersAs t (meaning t.bytes t.place) q) (sym is)
+    let few : probed.taken ≤ cost t.bytes t.offset = takes.most in
+    let answers = subst (λ q. AnswersAs t (meaning t.bytes t.offset) q) (sym is)
     (opened_answers (Some t) mid count home opened b r meaning_reads bounded_meaning told opens runs honest) in
     record {
       answer = answers;
       takes = takes;
-      right = stated_kind probed.kind (kind_reads t.bytes t.place).answer kinds.0;
+      right = stated_kind probed.kind (kind_reads t.bytes t.offset).answer kinds.0;
       whole = λ goes_on. kinds.1 (error_goes_on b r told h.ended (sym (ap (λ q. is_stopped_error q) is) ∙ goes_on))
-          ∙ same_kind (kind_reads t.bytes t.place).answer;
-      stated = omega (arith, few, cost_stated t.bytes t.place);
-      most = omega (arith, few, cost_most t.bytes t.place);
-      within = omega (arith, few, cost_within t.bytes t.place);
-      short = λ few goes_on. sym (answers.answer goes_on) ∙ no_meaning t.bytes t.place few;
+          ∙ same_kind (kind_reads t.bytes t.offset).answer;
+      stated = omega (arith, few, cost_stated t.bytes t.offset);
+      most = omega (arith, few, cost_most t.bytes t.offset);
+      within = omega (arith, few, cost_within t.bytes t.offset);
+      short = λ few goes_on. sym (answers.answer goes_on) ∙ no_meaning t.bytes t.offset few;
     }
 
-bounded_size : (type : ImageType) → IsBounded (λ d place. size_reads type d)
-bounded_size type d place = omega (arith, size_within type d)
+bounded_size : (type : ImageType) → IsBounded (λ d offset. size_reads type d)
+bounded_size type d offset = omega (arith, size_within type d)
 
 -- the size that a reader was found to have, read as a type
 pub size_answers : (telling mid : Option Telling) (count : Option ℕ) (home : ℕ) (opened : Opened) (a b : State)
@@ -124,7 +124,7 @@ pub size_answers : (telling mid : Option Telling) (count : Option ℕ) (home : �
     (r : Result ImageSize Halt) → a ≡ start_state mid count home opened.told → is_some b.failed ≡ true
     → Opens telling mid (Ok opened)
     → Runs a b r (size_reads type a.held.input)
-    → Answers telling (λ d place. size_of type d) (with_error b.failure b.frame.budget r)
+    → Answers telling (λ d offset. size_of type d) (with_error b.failure b.frame.budget r)
 size_answers telling mid count home opened a b type r start told opens h =
-    opened_answers telling mid count home opened b r (λ d place. size_reads type d) (bounded_size type) told opens
+    opened_answers telling mid count home opened b r (λ d offset. size_reads type d) (bounded_size type) told opens
     (subst (λ s. Runs s b r (size_reads type s.held.input)) start h)

@@ -15,29 +15,29 @@ use Rattle.imagesize_source.specs.Reading.{bytes_at, go_on}
 use Rattle.imagesize_source.specs.declared.halt.Halt.TheVariants.{Ended}
 use Rattle.imagesize_source.specs.declared.error.ImageError.{ImageError}
 
-no_head : (d : List ℕ) (place : ℕ) → length d < place + 12 → bytes_at d place 12 ≡ Err Ended
+no_head : (d : List ℕ) (offset : ℕ) → length d < offset + 12 → bytes_at d offset 12 ≡ Err Ended
 unfolding bytes_at
-no_head d place few = grind (arith, nat_tests)
+no_head d offset few = grind (arith, nat_tests)
 
-no_kind_reads : (d : List ℕ) (place : ℕ) → length d < place + 12 → (kind_reads d place).answer ≡ Err Ended
-no_kind_reads d place few =
-    ap (λ r. (go_on (span_of d place 12) r
-    (λ head. layout_reads d (kind_by (length d) place head (first_row rows head)))).answer)
-    (no_head d place few)
+no_kind_reads : (d : List ℕ) (offset : ℕ) → length d < offset + 12 → (kind_reads d offset).answer ≡ Err Ended
+no_kind_reads d offset few =
+    ap (λ r. (go_on (span_of d offset 12) r
+    (λ head. layout_reads d (kind_by (length d) offset head (first_row rows head)))).answer)
+    (no_head d offset few)
 
-pub no_kind : (d : List ℕ) (place : ℕ) → length d < place + 12 → (kind_of d place).answer ≡ Err end_of_input
-no_kind d place few = ap stated (no_kind_reads d place few)
+pub no_kind : (d : List ℕ) (offset : ℕ) → length d < offset + 12 → (kind_of d offset).answer ≡ Err end_of_input
+no_kind d offset few = ap stated (no_kind_reads d offset few)
 
-pub no_meaning : (d : List ℕ) (place : ℕ) → length d < place + 12 → (meaning d place).answer ≡ Err end_of_input
+pub no_meaning : (d : List ℕ) (offset : ℕ) → length d < offset + 12 → (meaning d offset).answer ≡ Err end_of_input
 unfolding meaning_reads
-no_meaning d place few = ap (λ r. stated (go_on (kind_reads d place).marks r (λ found. size_reads found d)).answer)
-    (no_kind_reads d place few)
+no_meaning d offset few = ap (λ r. stated (go_on (kind_reads d offset).marks r (λ found. size_reads found d)).answer)
+    (no_kind_reads d offset few)
 
 -- so does an answer of a reader
 pub answers_end : {X : Type 0} (telling : Option Telling) (reads_of : List ℕ → ℕ → Outcome X) (r : Result X ImageError)
-    → ((d : List ℕ) (place : ℕ) → length d < place + 12 → (reads_of d place).answer ≡ Err end_of_input)
+    → ((d : List ℕ) (offset : ℕ) → length d < offset + 12 → (reads_of d offset).answer ≡ Err end_of_input)
     → Answers telling reads_of r
     → Ends telling r
 answers_end None reads_of r short answers = tt
 answers_end (Some t) reads_of r short answers = λ honest few goes_on. sym ((answers honest).answer goes_on)
-    ∙ short t.bytes t.place few
+    ∙ short t.bytes t.offset few

@@ -47,7 +47,7 @@ module _ (d after : List ℕ) (spans : List Span) (home there : ℕ) (r : Result
   recorded_count count short counted seen =
       omega (arith, counted, seen, short, ap length recorded_marks, ap total recorded_marks, cost_within d 0)
 
-  -- the buffer holds as many of them as it has places for
+  -- the buffer holds as many of them as it has elements
   pub recorded_spans : (buffer new : List Span) (count : ℕ) → count ≡ length (meaning d 0).marks
       → take (length spans) buffer ≡ take (length buffer) spans → new ≡ buffer → take count new ≡ take (length new) (meaning d 0).marks
   recorded_spans buffer new count is written same =

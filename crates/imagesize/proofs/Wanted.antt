@@ -17,7 +17,7 @@ use Rattle.imagesize_source.specs.declared.error.ImageError.{ImageError}
 use Rattle.imagesize_source.specs.declared.halt.Halt.{Halt}
 use Rattle.imagesize_source.specs.declared.source.parts.Missing.{Missing}
 use Rattle.imagesize_source.specs.declared.span.Span.{Span}
-use Rattle.imagesize_source.specs.Agreement.{Agrees, IsLocal, Parting, is_covered, has_place, has_whole}
+use Rattle.imagesize_source.specs.Agreement.{Agrees, IsLocal, Parting, is_covered, has_offset, has_whole}
 use Rattle.imagesize_source.specs.Input.{span_at}
 use Rattle.imagesize_source.specs.Known.{AllKnown, HasParts, Lacks, byte_in_parts, byte_of, filled_input, length_within, reaches, parts_state, sure_of}
 use Rattle.imagesize_source.specs.Errors.{is_stopped as is_stopped_error}
@@ -53,9 +53,9 @@ middle : (before : List Span) (m : Span) (rest : List Span) → Among m (before 
 middle [] m rest P is = or_left (P m) (list_any P rest) is
 middle (x ∷ before) m rest P is = or_right (P x) (list_any P (before ++ m ∷ rest)) (middle before m rest P is)
 
-covered-any : (spans : List Span) (place : ℕ) → is_covered spans place ≡ list_any (λ s. has_place s place) spans
-covered-any [] place = refl
-covered-any (s ∷ spans) place = ap (λ b. has_place s place || b) (covered-any spans place)
+covered-any : (spans : List Span) (offset : ℕ) → is_covered spans offset ≡ list_any (λ s. has_offset s offset) spans
+covered-any [] offset = refl
+covered-any (s ∷ spans) offset = ap (λ b. has_offset s offset || b) (covered-any spans offset)
 
 head_is : {x y : Span} {xs ys : List Span} → ◌≡◌ {A = List Span} (x ∷ xs) (y ∷ ys) → x ≡ y
 head_is e = cc
@@ -106,7 +106,7 @@ some_is e = cc
 pub filled_known : (n : ℕ) (spans : List Span) (bytes : List ℕ) → HasKnown (filled_input n spans bytes) n spans bytes
 filled_known n spans bytes = record {
   as_long = length-filled_input n spans bytes;
-  known = λ place byte is. filled_at n spans bytes place (known_below n spans bytes place (ap is_some is))
+  known = λ offset byte is. filled_at n spans bytes offset (known_below n spans bytes offset (ap is_some is))
       ∙ ap (λ o. unwrap_or o 0) is;
 }
 
@@ -115,53 +115,53 @@ pub parts_known : (d : List ℕ) (n : ℕ) (spans : List Span) (bytes : List ℕ
     → HasKnown d n spans bytes
 parts_known d n spans bytes has = record {
   as_long = has.as_long;
-  known = λ place byte is. has_known d spans bytes place byte has.bytes
-      (ap (λ m. byte_in_parts m spans bytes place) has.as_long ∙ is);
+  known = λ offset byte is. has_known d spans bytes offset byte has.bytes
+      (ap (λ m. byte_in_parts m spans bytes offset) has.as_long ∙ is);
 }
 
--- a place that is known is one of a span
-known_covered : (n : ℕ) (spans : List Span) (bytes : List ℕ) (place : ℕ)
-    → is_some (byte_in_parts n spans bytes place) ≡ true
-    → is_covered spans place ≡ true
-known_covered n [] bytes place is = absurd cc
-known_covered n (s ∷ spans) bytes place is =
-    by_test (reaches n s place) refl (known_covered n spans (drop (length_within n s) bytes) place) is where
-      by_test : (test : Bool) → reaches n s place ≡ test
-          → (is_some (byte_in_parts n spans (drop (length_within n s) bytes) place) ≡ true
-          → is_covered spans place ≡ true)
-          → is_some (cond test (byte_of bytes (place - s.start))
-          (byte_in_parts n spans (drop (length_within n s) bytes) place)) ≡ true
-          → has_place s place || is_covered spans place ≡ true
-      by_test true has later is = let there : has_place s place ≡ true = grind (arith, nat_tests) in
-          or_left (has_place s place) (is_covered spans place) there
-      by_test false has later is = or_right (has_place s place) (is_covered spans place) (later is)
+-- an offset that is known is one of a span
+known_covered : (n : ℕ) (spans : List Span) (bytes : List ℕ) (offset : ℕ)
+    → is_some (byte_in_parts n spans bytes offset) ≡ true
+    → is_covered spans offset ≡ true
+known_covered n [] bytes offset is = absurd cc
+known_covered n (s ∷ spans) bytes offset is =
+    by_test (reaches n s offset) refl (known_covered n spans (drop (length_within n s) bytes) offset) is where
+      by_test : (test : Bool) → reaches n s offset ≡ test
+          → (is_some (byte_in_parts n spans (drop (length_within n s) bytes) offset) ≡ true
+          → is_covered spans offset ≡ true)
+          → is_some (cond test (byte_of bytes (offset - s.start))
+          (byte_in_parts n spans (drop (length_within n s) bytes) offset)) ≡ true
+          → has_offset s offset || is_covered spans offset ≡ true
+      by_test true has later is = let there : has_offset s offset ≡ true = grind (arith, nat_tests) in
+          or_left (has_offset s offset) (is_covered spans offset) there
+      by_test false has later is = or_right (has_offset s offset) (is_covered spans offset) (later is)
 
--- and of an input that has the parts each place of a span is known
-pub known_where_covered : (d : List ℕ) (n : ℕ) (spans : List Span) (bytes : List ℕ) (place : ℕ)
-    → HasParts d n spans bytes → place < n
-    → is_some (byte_in_parts n spans bytes place) ≡ is_covered spans place
-known_where_covered d n spans bytes place has below = by_test (is_some (byte_in_parts n spans bytes place)) refl where
-  by_test : (test : Bool) → is_some (byte_in_parts n spans bytes place) ≡ test → test ≡ is_covered spans place
-  by_test true is = sym (known_covered n spans bytes place is)
-  by_test false is = sym (unknown_free d n spans bytes place has below is)
+-- and of an input that has the parts each offset of a span is known
+pub known_where_covered : (d : List ℕ) (n : ℕ) (spans : List Span) (bytes : List ℕ) (offset : ℕ)
+    → HasParts d n spans bytes → offset < n
+    → is_some (byte_in_parts n spans bytes offset) ≡ is_covered spans offset
+known_where_covered d n spans bytes offset has below = by_test (is_some (byte_in_parts n spans bytes offset)) refl where
+  by_test : (test : Bool) → is_some (byte_in_parts n spans bytes offset) ≡ test → test ≡ is_covered spans offset
+  by_test true is = sym (known_covered n spans bytes offset is)
+  by_test false is = sym (unknown_free d n spans bytes offset has below is)
 
 some_byte : (o : Option ℕ) → is_some o ≡ true → (byte : ℕ) × (o ≡ Some byte)
 some_byte None is = absurd cc
 some_byte (Some byte) is = (byte, refl)
 
 -- one that has them has the byte of the filled input where it is known
-same_known : (d : List ℕ) (n : ℕ) (spans : List Span) (bytes : List ℕ) (place : ℕ) → HasKnown d n spans bytes
-    → is_some (byte_in_parts n spans bytes place) ≡ true
-    → slice_index d place ≡ slice_index (filled_input n spans bytes) place
-same_known d n spans bytes place has is =
-    let b = some_byte (byte_in_parts n spans bytes place) is in
-    has.known place b.0 b.1 ∙ sym ((filled_known n spans bytes).known place b.0 b.1)
+same_known : (d : List ℕ) (n : ℕ) (spans : List Span) (bytes : List ℕ) (offset : ℕ) → HasKnown d n spans bytes
+    → is_some (byte_in_parts n spans bytes offset) ≡ true
+    → slice_index d offset ≡ slice_index (filled_input n spans bytes) offset
+same_known d n spans bytes offset has is =
+    let b = some_byte (byte_in_parts n spans bytes offset) is in
+    has.known offset b.0 b.1 ∙ sym ((filled_known n spans bytes).known offset b.0 b.1)
 
 agrees_known : (d : List ℕ) (n : ℕ) (spans : List Span) (bytes : List ℕ) (marks : List Span) → HasKnown d n spans bytes
     → AllKnown n spans bytes marks → Agrees (filled_input n spans bytes) d marks
 agrees_known d n spans bytes marks has all = record {
   as_long = has.as_long ∙ sym (length-filled_input n spans bytes);
-  same_byte = λ place here. same_known d n spans bytes place has (all place here);
+  same_byte = λ offset here. same_known d n spans bytes offset has (all offset here);
 }
 
 module _ {X : Type 0} (texts : Bool) (f : List ℕ → Reads X) (is_local : IsLocal texts f) (d : List ℕ) (n : ℕ)
@@ -217,8 +217,8 @@ module _ {X : Type 0} (texts : Bool) (f : List ℕ → Reads X) (is_local : IsLo
           let begins = from in let ends = fits in
           among (λ x. leb x.start s.start && leb (s.start + s.len) (x.start + x.len)) (grind (arith, nat_tests))
 
-      begun : (x : Span) → Among x (f d).marks → has_place x s.start ≡ true → is_covered (f d).marks s.start ≡ true
-      begun x among there = covered-any (f d).marks s.start ∙ among (λ y. has_place y s.start) there
+      begun : (x : Span) → Among x (f d).marks → has_offset x s.start ≡ true → is_covered (f d).marks s.start ≡ true
+      begun x among there = covered-any (f d).marks s.start ∙ among (λ y. has_offset y s.start) there
 
       both : Among mark (f d).marks
           → (is_covered (f d).marks s.start ≡ true) × (texts ≡ false → has_whole (f d).marks s ≡ true)
@@ -227,23 +227,23 @@ module _ {X : Type 0} (texts : Bool) (f : List ℕ → Reads X) (is_local : IsLo
           (begun mark among (grind (arith, nat_tests)), λ _. whole among)
 
       not_seen : (parts : Parting texts (filled_input n spans bytes) d (f (filled_input n spans bytes)).marks
-          (f d).marks) → is_covered log parts.place ≡ true → ⊥
-      not_seen parts here = parts.differs (same_known d n spans bytes parts.place has (seen parts.place here))
+          (f d).marks) → is_covered log parts.offset ≡ true → ⊥
+      not_seen parts here = parts.differs (same_known d n spans bytes parts.offset has (seen parts.offset here))
 
       -- the inputs part behind what was seen
       later : (parts : Parting texts (filled_input n spans bytes) d (f (filled_input n spans bytes)).marks (f d).marks)
-          → mark ≡ parts.mark → (parts.place < s.start) ⊎ (s.start ≤ parts.place) → s.start ≤ parts.place
+          → mark ≡ parts.mark → (parts.offset < s.start) ⊎ (s.start ≤ parts.offset) → s.start ≤ parts.offset
       later parts at (inr more) = more
       later parts at (inl less) =
-          let has_it : has_place mark parts.place ≡ true = ap (λ x. has_place x parts.place) at ∙ parts.within in
-          let above : mark.start ≤ parts.place = grind (arith, nat_tests) in
-          let same : mark.start + (parts.place - mark.start) ≡ parts.place = omega (arith, above) in
+          let has_it : has_offset mark parts.offset ≡ true = ap (λ x. has_offset x parts.offset) at ∙ parts.within in
+          let above : mark.start ≤ parts.offset = grind (arith, nat_tests) in
+          let same : mark.start + (parts.offset - mark.start) ≡ parts.offset = omega (arith, above) in
           let part : List Span = span_at mark.start (s.start - mark.start) in
-          let seen_it : is_covered part parts.place ≡ true =
+          let seen_it : is_covered part parts.offset ≡ true =
           subst (λ p. is_covered part p ≡ true) same
-          (covered-one mark.start (s.start - mark.start) (parts.place - mark.start) (omega (arith, less, above))) in
+          (covered-one mark.start (s.start - mark.start) (parts.offset - mark.start) (omega (arith, less, above))) in
           absurd (not_seen parts
-          (subst (λ l. is_covered l parts.place ≡ true) (sym is_log) (covered-right made part parts.place seen_it)))
+          (subst (λ l. is_covered l parts.offset ≡ true) (sym is_log) (covered-right made part parts.offset seen_it)))
 
       at_parting : (parts : Parting texts (filled_input n spans bytes) d (f (filled_input n spans bytes)).marks
           (f d).marks) → mark ≡ parts.mark
@@ -252,7 +252,7 @@ module _ {X : Type 0} (texts : Bool) (f : List ℕ → Reads X) (is_local : IsLo
           let there : Among parts.other (f d).marks =
           subst (Among parts.other) (sym parts.there) (middle parts.seen parts.other parts.others) in
           let starts : parts.other.start ≡ mark.start = parts.start ∙ ap (λ x. x.start) (sym at) in
-          let after : s.start ≤ parts.place = later parts at (cases_lt parts.place s.start) in
+          let after : s.start ≤ parts.offset = later parts at (cases_lt parts.offset s.start) in
           let also = parts.also in let begins = from in (
             begun parts.other there (grind (arith, nat_tests)),
             λ none. whole (subst (λ x. Among x (f d).marks) (parts.same none ∙ sym at) there),
@@ -261,9 +261,9 @@ module _ {X : Type 0} (texts : Bool) (f : List ℕ → Reads X) (is_local : IsLo
       by_cut : (parts : Parting texts (filled_input n spans bytes) d (f (filled_input n spans bytes)).marks (f d).marks)
           → Among parts.mark made ⊎ ((mark ≡ parts.mark) ⊎ ((more : List Span) → Among mark (parts.seen ++ more)))
           → (is_covered (f d).marks s.start ≡ true) × (texts ≡ false → has_whole (f d).marks s ≡ true)
-      by_cut parts (inl before) = absurd (not_seen parts (subst (λ l. is_covered l parts.place ≡ true) (sym is_log)
-          (covered-left made (span_at mark.start (s.start - mark.start)) parts.place
-          (covered-any made parts.place ∙ before (λ x. has_place x parts.place) parts.within))))
+      by_cut parts (inl before) = absurd (not_seen parts (subst (λ l. is_covered l parts.offset ≡ true) (sym is_log)
+          (covered-left made (span_at mark.start (s.start - mark.start)) parts.offset
+          (covered-any made parts.offset ∙ before (λ x. has_offset x parts.offset) parts.within))))
       by_cut parts (inr (inl at)) = at_parting parts at
       by_cut parts (inr (inr among)) = both (subst (Among mark) (sym parts.there) (among (parts.other ∷ parts.others)))
 

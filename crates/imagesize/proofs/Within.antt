@@ -43,26 +43,26 @@ one_within : (n : ℕ) (s : Span) → IsWithin n s → AreWithin n (s ∷ [])
 one_within n s is = grind (arith, common_steps)
 
 -- what has a byte and lies within
-by_count : (n place count : ℕ) (none : Bool) → eqb count 0 ≡ none → (0 < count → place + count ≤ n)
-    → AreWithin n (cond none [] (record { start = place; len = count } ∷ []))
-by_count n place count true is fits = All-nil (IsWithin n)
-by_count n place count false is fits =
+by_count : (n offset count : ℕ) (none : Bool) → eqb count 0 ≡ none → (0 < count → offset + count ≤ n)
+    → AreWithin n (cond none [] (record { start = offset; len = count } ∷ []))
+by_count n offset count true is fits = All-nil (IsWithin n)
+by_count n offset count false is fits =
     let some : 0 < count = grind (arith, nat_tests) in
-    one_within n (record { start = place; len = count }) (some, fits some)
+    one_within n (record { start = offset; len = count }) (some, fits some)
 
-span_within : (n place count : ℕ) → (0 < count → place + count ≤ n) → AreWithin n (span_at place count)
+span_within : (n offset count : ℕ) → (0 < count → offset + count ≤ n) → AreWithin n (span_at offset count)
 unfolding span_at
-span_within n place count fits = by_count n place count (eqb count 0) refl fits
+span_within n offset count fits = by_count n offset count (eqb count 0) refl fits
 
-reading_within : (d : List ℕ) (place k : ℕ) → AreWithin (length d) (span_of d place k)
+reading_within : (d : List ℕ) (offset k : ℕ) → AreWithin (length d) (span_of d offset k)
 unfolding span_of
-reading_within d place k = span_within (length d) place (min k (length d - place)) (λ some. omega (arith, some))
+reading_within d offset k = span_within (length d) offset (min k (length d - offset)) (λ some. omega (arith, some))
 
-read_within : (d : List ℕ) (r : Reading) (place : ℕ) → AreWithin (length d) (read_of d r place).marks
-read_within d (AllOf k) place = reading_within d place k
-read_within d (PartOf k) place = reading_within d place k
-read_within d (TextOf t k) place = span_within (length d) place (length (text_part d t place k))
-    (λ some. omega (arith, some, text_length d t place k, part_length d place k))
+read_within : (d : List ℕ) (r : Reading) (offset : ℕ) → AreWithin (length d) (read_of d r offset).marks
+read_within d (AllOf k) offset = reading_within d offset k
+read_within d (PartOf k) offset = reading_within d offset k
+read_within d (TextOf t k) offset = span_within (length d) offset (length (text_part d t offset k))
+    (λ some. omega (arith, some, text_length d t offset k, part_length d offset k))
 
 onward_within : {X Y : Type 0} (n : ℕ) (spans : List Span) (r : Result X Halt) (f : X → Reads Y) → AreWithin n spans
     → ((x : X) → AreWithin n (f x).marks) → AreWithin n (go_on spans r f).marks
@@ -73,10 +73,10 @@ onward_within n spans (Err e) f first rest = first
 pub layout_within : {X : Type 0} (d : List ℕ) (t : Layout X) → AreWithin (length d) (layout_reads d t).marks
 layout_within d (done x) = All-nil (IsWithin (length d))
 layout_within d (refuse e) = All-nil (IsWithin (length d))
-layout_within d (field order place k f) = onward_within (length d) (span_of d place k) (number_at d order place k)
-    (λ v. layout_reads d (f v)) (reading_within d place k) (λ v. layout_within d (f v))
-layout_within d (reading r place f) = onward_within (length d) (read_of d r place).marks (read_of d r place).answer
-    (λ bs. layout_reads d (f bs)) (read_within d r place) (λ bs. layout_within d (f bs))
+layout_within d (field order offset k f) = onward_within (length d) (span_of d offset k) (number_at d order offset k)
+    (λ v. layout_reads d (f v)) (reading_within d offset k) (λ v. layout_within d (f v))
+layout_within d (reading r offset f) = onward_within (length d) (read_of d r offset).marks (read_of d r offset).answer
+    (λ bs. layout_reads d (f bs)) (read_within d r offset) (λ bs. layout_within d (f bs))
 layout_within d (begin_record t) = layout_within d t
 
 then_within : {X Y : Type 0} (n : ℕ) (r : Reads X) (f : X → Reads Y) → AreWithin n r.marks
@@ -87,7 +87,7 @@ then_within n r f first rest = onward_within n r.marks r.answer f first rest
 record_within : {C X : Type 0} (c : Chain C X) (d : List ℕ) (at : Option (Along C))
     → AreWithin (length d) (option_map_or (λ u. (next_record c d u).marks) at [])
 record_within c d None = All-nil (IsWithin (length d))
-record_within c d (Some u) = layout_within d (c.said u.held u.place)
+record_within c d (Some u) = layout_within d (c.said u.held u.offset)
 
 records_within : {C X : Type 0} (c : Chain C X) (d : List ℕ) (t : Along C) (indices : List ℕ)
     → AreWithin (length d) (flat_map (marks_of c d t) indices)
@@ -120,16 +120,16 @@ heif_within d =
     (reading_within d 0 4)
     (λ first. then_within (length d) (chain_at (search_for (codes "meta") first) d) (λ meta. heif_in_meta meta d)
     (chain_within (search_for (codes "meta") first) d)
-    (λ meta. then_within (length d) (bytes_read d (meta.place + 8) 4)
-    (λ version. and_then (chain_at (search_for (codes "iprp") (meta.place + 12)) d) (λ iprp. heif_in_iprp iprp d))
-    (reading_within d (meta.place + 8) 4)
-    (λ version. then_within (length d) (chain_at (search_for (codes "iprp") (meta.place + 12)) d)
+    (λ meta. then_within (length d) (bytes_read d (meta.offset + 8) 4)
+    (λ version. and_then (chain_at (search_for (codes "iprp") (meta.offset + 12)) d) (λ iprp. heif_in_iprp iprp d))
+    (reading_within d (meta.offset + 8) 4)
+    (λ version. then_within (length d) (chain_at (search_for (codes "iprp") (meta.offset + 12)) d)
     (λ iprp. heif_in_iprp iprp d)
-    (chain_within (search_for (codes "iprp") (meta.place + 12)) d)
-    (λ iprp. then_within (length d) (chain_at (search_for (codes "ipco") (iprp.place + 8)) d)
-    (λ ipco. chain_at (properties ipco.size (ipco.place + 8)) d)
-    (chain_within (search_for (codes "ipco") (iprp.place + 8)) d)
-    (λ ipco. chain_within (properties ipco.size (ipco.place + 8)) d)))))
+    (chain_within (search_for (codes "iprp") (meta.offset + 12)) d)
+    (λ iprp. then_within (length d) (chain_at (search_for (codes "ipco") (iprp.offset + 8)) d)
+    (λ ipco. chain_at (properties ipco.size (ipco.offset + 8)) d)
+    (chain_within (search_for (codes "ipco") (iprp.offset + 8)) d)
+    (λ ipco. chain_within (properties ipco.size (ipco.offset + 8)) d)))))
 
 codestream_within : (d : List ℕ) (found : Option (List ℕ)) → AreWithin (length d) (codestream d found).marks
 codestream_within d None = chain_within jxl_chain d
@@ -180,10 +180,10 @@ type_marked _ = tt
 size_within : (type : ImageType) (d : List ℕ) → AreWithin (length d) (size_reads type d).marks
 size_within type d = way_within (way_of type) d (type_marked type)
 
-pub meaning_within : (d : List ℕ) (place : ℕ) → AreWithin (length d) (meaning_reads d place).marks
+pub meaning_within : (d : List ℕ) (offset : ℕ) → AreWithin (length d) (meaning_reads d offset).marks
 unfolding meaning_reads
-meaning_within d place =
-    then_within (length d) (kind_reads d place) (λ found. size_reads found d) (layout_within d (kind (length d) place))
+meaning_within d offset =
+    then_within (length d) (kind_reads d offset) (λ found. size_reads found d) (layout_within d (kind (length d) offset))
     (λ found. size_within found d)
 
 -- there are no more of them than they are long
@@ -194,9 +194,9 @@ count_within n (s ∷ spans) is =
     let rest = count_within n spans (λ k d below. is (suc k) d (omega (arith, below))) in
     omega (arith, rest, here.0)
 
-pub marks_few : (d : List ℕ) (place : ℕ) → length (meaning_reads d place).marks ≤ length d + 64
-marks_few d place = omega
-    (arith, count_within (length d) (meaning_reads d place).marks (meaning_within d place), cost_within d place)
+pub marks_few : (d : List ℕ) (offset : ℕ) → length (meaning_reads d offset).marks ≤ length d + 64
+marks_few d offset = omega
+    (arith, count_within (length d) (meaning_reads d offset).marks (meaning_within d offset), cost_within d offset)
 
 -- those that a buffer begins with
 pub front_within : (n : ℕ) (marks new rest : List Span) (count again : ℕ) → count ≡ length marks → again ≡ length marks

@@ -15,7 +15,7 @@ use Rattle.imagesize_source.specs.Way.{most_by, stated_by}
 
 -- the sum of the spans' lengths, with repeats
 abbrev pub cost : List ℕ → ℕ → ℕ
-cost d place = total (meaning d place).marks
+cost d offset = total (meaning d offset).marks
 
 -- The bound over all types, in bytes: 41 for an unknown type and for a size at fixed offsets. For a size in records:
 -- 64, and 20 for each record that is begun (540 in EXR). For a text: 64 more than the length of the input.
@@ -24,7 +24,7 @@ stated_as (Ok type) d = stated_by (way_of type) d
 stated_as (Err _) d = stated_fixed
 
 abbrev pub stated_bytes : List ℕ → ℕ → ℕ
-stated_bytes d place = stated_as (kind_of d place).answer d
+stated_bytes d offset = stated_as (kind_of d offset).answer d
 
 -- the bound for each format, in bytes; 37 for an unknown type
 abbrev pub most_as : {E : Type 0} → Result ImageType E → List ℕ → ℕ
@@ -32,7 +32,7 @@ most_as (Ok type) d = most_by (way_of type) d
 most_as (Err _) d = 37
 
 abbrev pub most_bytes : List ℕ → ℕ → ℕ
-most_bytes d place = most_as (kind_of d place).answer d
+most_bytes d offset = most_as (kind_of d offset).answer d
 
 -- Appended bytes do not change such a type, except for an unknown compression. The bytes after an image may make it a
 -- TGA, or no TGA any more.

@@ -33,7 +33,7 @@ texts_of d = texts_as (kind_of d 0).answer
 -- exists for all parts.
 pub record HasKnown (d : List ℕ) (n : ℕ) (spans : List Span) (content : List ℕ) : Type 0 where
   pub as_long : length d ≡ n
-  pub known : (place byte : ℕ) → byte_in_parts n spans content place ≡ Some byte → slice_index d place ≡ byte
+  pub known : (offset byte : ℕ) → byte_in_parts n spans content offset ≡ Some byte → slice_index d offset ≡ byte
 
 -- The first byte of a requested span lies in one of the spans that the result depends on, and is not known. If no
 -- text is read, one of these contains the whole requested span.

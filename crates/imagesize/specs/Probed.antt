@@ -16,9 +16,9 @@ use Rattle.imagesize_source.specs.State.{State}
 use Rattle.imagesize_io.specs.Telling.{Telling, IsHonest}
 
 -- A named type is that of the input. If nothing stopped the call, a type is named if the input has one.
-pub record FindsKind (a : State) (place : ℕ) (found : Option ImageType) (r : Result ImageSize Halt) : Type 0 where
-  pub right : a.held.honest ≡ true → IfSome found (λ type. (kind_reads a.held.input place).answer ≡ Ok type)
-  pub whole : a.held.honest ≡ true → has_stopped r ≡ false → found ≡ result_ok (kind_reads a.held.input place).answer
+pub record FindsKind (a : State) (offset : ℕ) (found : Option ImageType) (r : Result ImageSize Halt) : Type 0 where
+  pub right : a.held.honest ≡ true → IfSome found (λ type. (kind_reads a.held.input offset).answer ≡ Ok type)
+  pub whole : a.held.honest ≡ true → has_stopped r ≡ false → found ≡ result_ok (kind_reads a.held.input offset).answer
 
 -- Over an honest reader, the result is that of the layouts or a failure, and the named type is right. The bytes read
 -- are those of the layouts' reads, within three bounds: the one over all types, the one for the format, and the
@@ -28,8 +28,8 @@ pub record ProbesOf (t : Telling) (probed : Probed) : Type 0 where
   pub takes : TakesAs t (over_reader t meaning) probed.answer probed.taken
   pub right : IfSome probed.kind (λ type. (over_reader t kind_of).answer ≡ Ok type)
   pub whole : is_stopped probed.answer ≡ false → probed.kind ≡ result_ok (over_reader t kind_of).answer
-  pub stated : probed.taken ≤ stated_bytes t.bytes t.place
-  pub most : probed.taken ≤ most_bytes t.bytes t.place
+  pub stated : probed.taken ≤ stated_bytes t.bytes t.offset
+  pub most : probed.taken ≤ most_bytes t.bytes t.offset
   pub within : probed.taken ≤ length t.bytes + allowance
   pub short : EndsAs t probed.answer
 

@@ -6,7 +6,7 @@ use Rattle.imagesize_source.specs.declared.error.ImageError.{ImageError}
 
 -- If fewer than twelve bytes are left at a reader's offset, the result is an end of input, or a failure.
 abbrev pub EndsAs : {X : Type 0} → Telling → Result X ImageError → Type 0
-EndsAs t r = length t.bytes < t.place + 12 → is_stopped r ≡ false → r ≡ Err end_of_input
+EndsAs t r = length t.bytes < t.offset + 12 → is_stopped r ≡ false → r ≡ Err end_of_input
 
 -- the same result over an honest reader
 abbrev pub Ends : {X : Type 0} → Option Telling → Result X ImageError → Type 0

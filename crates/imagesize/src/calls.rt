@@ -49,8 +49,8 @@ pub fn image_type(header: &[u8]) -> ImageResult<ImageType>
     ensures short { length header.now < 12 → result ≡ Err end_of_input }
 
     // Another input of this length that agrees on the spans `marks` has the same type, at every offset.
-    ensures local { (place : ℕ) (e : List ℕ) → Agrees header.now e (kind_of header.now place).marks
-        → kind_of e place ≡ kind_of header.now place }
+    ensures local { (offset : ℕ) (e : List ℕ) → Agrees header.now e (kind_of header.now offset).marks
+        → kind_of e offset ≡ kind_of header.now offset }
 
     // Appended bytes change no type but TGA, and no compression but an unknown one.
     ensures lasts { IfOk result (λ type. IsTrue (keeps type) → (x : List ℕ) → IsOkAnd (kind_of (header.now ++ x) 0).answer (Stays type)) }
@@ -78,19 +78,19 @@ pub fn blob_size(data: &[u8]) -> ImageResult<ImageSize>
     ensures short { length «data».now < 12 → result ≡ Err end_of_input }
 
     // Another input of this length that agrees on the spans `marks` has the same size and the same spans, at every offset.
-    ensures local { (place : ℕ) (e : List ℕ) → Agrees «data».now e (meaning «data».now place).marks
-        → meaning e place ≡ meaning «data».now place }
+    ensures local { (offset : ℕ) (e : List ℕ) → Agrees «data».now e (meaning «data».now offset).marks
+        → meaning e offset ≡ meaning «data».now offset }
 
     // `cost` adds up the lengths of the spans. At every offset it is at most 41 for an unknown type and for a size at fixed
     // offsets. For a walk it is at most 64, plus 20 for each segment, chunk, box or entry that is begun.
-    ensures stated { (place : ℕ) → cost «data».now place ≤ stated_bytes «data».now place }
+    ensures stated { (offset : ℕ) → cost «data».now offset ≤ stated_bytes «data».now offset }
 
     // Each format has its own bound: a number for fixed offsets, and for a walk a number plus another for each record that is
     // begun. Walks and text formats also cost at most 28 bytes more than the input has.
-    ensures most { (place : ℕ) → cost «data».now place ≤ most_bytes «data».now place }
+    ensures most { (offset : ℕ) → cost «data».now offset ≤ most_bytes «data».now offset }
 
     // Every size and every error costs at most 64 bytes more than the input has.
-    ensures within { (place : ℕ) → cost «data».now place ≤ length «data».now + allowance }
+    ensures within { (offset : ℕ) → cost «data».now offset ≤ length «data».now + allowance }
 
     // Appended bytes change no size, except for HEIF, icons and TGA.
     ensures lasts { IsTrue (lasts_as (kind_of «data».now 0).answer) → IfOk result (λ size.
@@ -114,14 +114,14 @@ fn probe_slice(data: &[u8]) -> Result<ImageSize, Halt>
 // The type at an offset of a source, and the size by that type.
 pub(crate) fn probe<S: Source>(
     source: &mut S,
-    place: u64,
+    offset: u64,
 ) -> (Option<ImageType>, Result<ImageSize, Halt>)
     ensures runs { Runs (S.state source.old) (S.state source.new) result.1
-        (meaning_reads (S.state source.old).held.input place) }
-    ensures kind { FindsKind (S.state source.old) place result.0 result.1 }
+        (meaning_reads (S.state source.old).held.input offset) }
+    ensures kind { FindsKind (S.state source.old) offset result.0 result.1 }
     ensures typed { IfOk result.1 (λ _. IsSome result.0) }
 {
-    match detect(source, place) {
+    match detect(source, offset) {
         Ok(found) => (Some(found), size(source, found)),
         Err(halt) => (None, Err(halt)),
     }
@@ -147,7 +147,7 @@ pub fn reader_type<R: Told>(mut reader: R) -> ImageResult<ImageType>
     // A spent budget is the reported length plus 64.
     ensures spent { IfErr result (λ e. IfSome (budget_spent e) (λ budget. allowance ≤ budget)) }
 {
-    let opened = open(&mut reader, Origin::Place)?;
+    let opened = open(&mut reader, Origin::Offset)?;
     type_opened(&mut reader, opened)
 }
 
@@ -200,7 +200,7 @@ pub fn reader_probe<R: Told>(reader: &mut R) -> Probed
     ensures fault { IfErr result.answer (λ e. is_fault e ≡ true → IsLast (R.failure reader.new) e) }
     ensures leaves { Leaves (R.telling reader.old) (R.telling reader.new) }
 {
-    match open(reader, Origin::Place) {
+    match open(reader, Origin::Offset) {
         Ok(opened) => probe_opened(reader, opened),
         Err(error) => Probed {
             kind: None,
@@ -225,8 +225,8 @@ impl ImageType {
     /// assert_eq!(ImageType::Gif.reader_size(&mut Cursor::new(bytes))?.height, 480);
     /// ```
     pub fn reader_size<R: Told>(&self, reader: &mut R) -> ImageResult<ImageSize>
-        ensures answers { Answers (R.telling reader.old) (λ d place. size_of self.now d) result }
-        ensures counts { CountsWithin (R.telling reader.old) (R.count reader.old) (R.count reader.new) (λ d place. size_of self.now d) }
+        ensures answers { Answers (R.telling reader.old) (λ d offset. size_of self.now d) result }
+        ensures counts { CountsWithin (R.telling reader.old) (R.count reader.old) (R.count reader.new) (λ d offset. size_of self.now d) }
 
         // For every reader, even one without a model that reports a wrong length:
         ensures spent { IfErr result (λ e. IfSome (budget_spent e) (λ budget. SpentAll (R.count reader.old) (R.count reader.new) budget)) }
@@ -251,16 +251,16 @@ fn type_opened<R: Told>(reader: &mut R, opened: Opened) -> ImageResult<ImageType
     ensures spent { IfErr result (λ e. IfSome (budget_spent e) (λ budget. allowance ≤ budget)) }
 {
     let mut source = ReaderSource::new(reader, opened.told);
-    let found = detect(&mut source, opened.place);
+    let found = detect(&mut source, opened.offset);
     with_error(found, &source)
 }
 
 // The size of the image in the bytes of a reader that was opened, read as this type.
 fn size_opened<R: Told>(kind: ImageType, reader: &mut R, opened: Opened) -> ImageResult<ImageSize>
     ensures answers { (telling : Option Telling) → Opens telling (R.telling reader.old) (Ok opened)
-        → Answers telling (λ d place. size_of kind d) result }
+        → Answers telling (λ d offset. size_of kind d) result }
     ensures counts { (telling : Option Telling) → Opens telling (R.telling reader.old) (Ok opened)
-        → CountsWithin telling (R.count reader.old) (R.count reader.new) (λ d place. size_of kind d) }
+        → CountsWithin telling (R.count reader.old) (R.count reader.new) (λ d offset. size_of kind d) }
     ensures spent { IfErr result (λ e. IfSome (budget_spent e) (λ budget. SpentAll (R.count reader.old) (R.count reader.new) budget)) }
     ensures memory { IfErr result (λ e. is_memory e ≡ false) }
     ensures fault { IfErr result (λ e. is_fault e ≡ true → IsLast (R.failure reader.new) e) }
@@ -285,7 +285,7 @@ fn probe_opened<R: Told>(reader: &mut R, opened: Opened) -> Probed
         → Leaves telling (R.telling reader.new) }
 {
     let mut source = ReaderSource::new(reader, opened.told);
-    let (kind, found) = probe(&mut source, opened.place);
+    let (kind, found) = probe(&mut source, opened.offset);
     Probed {
         kind,
         taken: source.taken(),

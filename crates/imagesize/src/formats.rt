@@ -25,24 +25,24 @@ use imagesize_walked::formats::{ico, ilbm, jpeg, tiff};
 /// The type at an offset, from the twelve bytes there.
 #[inline(always)]
 #[tactic(auto, using(imagesize_source::proofs::Runs::steps))]
-pub(crate) fn detect<S: Source>(source: &mut S, place: u64) -> Result<ImageType, Halt>
-    ensures { Follows (S.state source.old) (S.state source.new) result (kind (length (S.state source.old).held.input) place) }
+pub(crate) fn detect<S: Source>(source: &mut S, offset: u64) -> Result<ImageType, Halt>
+    ensures { Follows (S.state source.old) (S.state source.new) result (kind (length (S.state source.old).held.input) offset) }
 {
     let mut head = [0u8; 12];
-    read_exact_at(source, place, &mut head)?;
-    by_head(source, place, &head)
+    read_exact_at(source, offset, &mut head)?;
+    by_head(source, offset, &head)
 }
 
 // The type from the twelve bytes at an offset.
 #[inline(always)]
 #[tactic(auto, using(imagesize_source::proofs::Runs::steps, imagesize_source::proofs::Layouts::binding))]
-fn by_head<S: Source>(source: &mut S, place: u64, head: &[u8; 12]) -> Result<ImageType, Halt>
+fn by_head<S: Source>(source: &mut S, offset: u64, head: &[u8; 12]) -> Result<ImageType, Halt>
     requires { IsSound (S.state source.old) }
     ensures { Follows (S.state source.old) (S.state source.new) result
-        (kind_by (length (S.state source.old).held.input) place head.now (first_row rows head.now)) }
+        (kind_by (length (S.state source.old).held.input) offset head.now (first_row rows head.now)) }
 {
     match first_row(head) {
-        Some(found) => with_compression(source, place, head, found),
+        Some(found) => with_compression(source, offset, head, found),
         None => tga_or_none(source, head),
     }
 }
@@ -99,12 +99,12 @@ pub fn first_row(head: &[u8; 12]) -> Option<ImageType>
 #[tactic(auto, using(imagesize_source::proofs::Runs::steps), unfolding(crate::specs::Kind::with_compression))]
 pub fn with_compression<S: Source>(
     source: &mut S,
-    place: u64,
+    offset: u64,
     head: &[u8; 12],
     found: ImageType,
 ) -> Result<ImageType, Halt>
     requires { IsSound (S.state source.old) }
-    ensures { Follows (S.state source.old) (S.state source.new) result (with_compression place head.now found) }
+    ensures { Follows (S.state source.old) (S.state source.new) result (with_compression offset head.now found) }
 {
     match found {
         ImageType::Heif(_)
@@ -112,7 +112,7 @@ pub fn with_compression<S: Source>(
         | ImageType::Pvrtc(_)
         | ImageType::Eac(_)
         | ImageType::Etc2(_)
-        | ImageType::Dds(_) => read_compression(source, place, head, found),
+        | ImageType::Dds(_) => read_compression(source, offset, head, found),
         _ => Ok(found),
     }
 }
@@ -122,15 +122,15 @@ pub fn with_compression<S: Source>(
 #[tactic(auto, using(imagesize_source::proofs::Runs::steps, imagesize_source::proofs::Layouts::binding), unfolding(crate::specs::Kind::with_compression))]
 fn read_compression<S: Source>(
     source: &mut S,
-    place: u64,
+    offset: u64,
     head: &[u8; 12],
     found: ImageType,
 ) -> Result<ImageType, Halt>
     requires { IsSound (S.state source.old) }
-    ensures { Follows (S.state source.old) (S.state source.new) result (with_compression place head.now found) }
+    ensures { Follows (S.state source.old) (S.state source.new) result (with_compression offset head.now found) }
 {
     Ok(match found {
-        ImageType::Heif(_) => ImageType::Heif(heif::detect_compression(source, place, head)?),
+        ImageType::Heif(_) => ImageType::Heif(heif::detect_compression(source, offset, head)?),
         ImageType::Atc(_) => ImageType::Atc(atc::detect_compression(source)?),
         ImageType::Pvrtc(_) => ImageType::Pvrtc(pvrtc::detect_compression(source)?),
         ImageType::Eac(_) | ImageType::Etc2(_) => {

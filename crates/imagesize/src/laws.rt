@@ -38,8 +38,8 @@ fn parts_laws()
     ensures parts { (d : List ℕ) (n : ℕ) (spans : List Span) (content : List ℕ) → HasParts d n spans content → HasKnown d n spans content }
 
     // Of such an input exactly the bytes in the spans are known.
-    ensures covered { (d : List ℕ) (n : ℕ) (spans : List Span) (content : List ℕ) (place : ℕ) → HasParts d n spans content → place < n
-        → is_some (byte_in_parts n spans content place) ≡ is_covered spans place }
+    ensures covered { (d : List ℕ) (n : ℕ) (spans : List Span) (content : List ℕ) (offset : ℕ) → HasParts d n spans content → offset < n
+        → is_some (byte_in_parts n spans content offset) ≡ is_covered spans offset }
 {}
 
 fn span_laws()

@@ -24,18 +24,18 @@ use imagesize_types::size::ImageSize;
 /// let mut buffer = [Span { start: 0, len: 0 }; 8];
 /// assert_eq!(blob_spans(b"GIF89a\x80\x02\xe0\x01\0\0", &mut buffer), 3);
 /// ```
-pub fn blob_spans(data: &[u8], room: &mut [Span]) -> usize
+pub fn blob_spans(data: &[u8], buffer: &mut [Span]) -> usize
     ensures count { result ≡ length (meaning «data».now 0).marks }
-    ensures spans { result ≤ length room.old → room.new ≡ (meaning «data».now 0).marks ++ drop result room.old }
+    ensures spans { result ≤ length buffer.old → buffer.new ≡ (meaning «data».now 0).marks ++ drop result buffer.old }
 
     // Each span has a byte and lies within the input. There are at most as many as the input has bytes, plus 64.
-    ensures cuts { result ≤ length room.old → AreWithin (length «data».now) (take result room.new) }
+    ensures cuts { result ≤ length buffer.old → AreWithin (length «data».now) (take result buffer.new) }
     ensures few { result ≤ length «data».now + allowance }
-    ensures unchanged { length room.old < result → room.new ≡ room.old }
+    ensures unchanged { length buffer.old < result → buffer.new ≡ buffer.old }
 {
     let count = record(data, &mut []).count;
-    if count <= room.len() {
-        record(data, &mut room[..count]);
+    if count <= buffer.len() {
+        record(data, &mut buffer[..count]);
     }
     count
 }

@@ -164,9 +164,9 @@ impl ImageType {
     /// ```
     /// use imagesize::ImageType;
     ///
-    /// assert_eq!(ImageType::Aseprite.place(), 0);
+    /// assert_eq!(ImageType::Aseprite.position(), 0);
     /// ```
-    pub fn place(&self) -> u32
+    pub fn position(&self) -> u32
         ensures { result ≡ type_rank self.now }
     {
         self.row().0
@@ -174,7 +174,7 @@ impl ImageType {
 
     // The position of the type, and its name.
     fn row(&self) -> (u32, &'static str)
-        ensures place { result.0 ≡ type_rank self.now }
+        ensures position { result.0 ≡ type_rank self.now }
         ensures name { (result.1).now ≡ type_name_of self.now }
     {
         match self {

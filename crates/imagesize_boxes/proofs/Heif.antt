@@ -60,65 +60,65 @@ big_four bs i h =
     (first_four (drop i bs) (omega (arith, length-drop i bs)))
 
 -- what holds of each box of a search
-pub by_searched : (P : Layout (Said (Unit {0}) FoundBox) → Type 0) (tag : List ℕ) (place : ℕ) (head : List ℕ)
-    → P (done (Decided (record { place = place; size = box_size head })))
+pub by_searched : (P : Layout (Said (Unit {0}) FoundBox) → Type 0) (tag : List ℕ) (offset : ℕ) (head : List ℕ)
+    → P (done (Decided (record { offset = offset; size = box_size head })))
     → P (refuse (InvalidHeifBoxSize (box_size head)))
-    → (8 ≤ box_size head → P (done (Next tt (place + box_size head)))) → P (box_searched tag place head)
-by_searched P tag place head found small next =
-    on_test P (is_named tag head) (done (Decided (record { place = place; size = box_size head }))) _ (λ _. found)
+    → (8 ≤ box_size head → P (done (Next tt (offset + box_size head)))) → P (box_searched tag offset head)
+by_searched P tag offset head found small next =
+    on_test P (is_named tag head) (done (Decided (record { offset = offset; size = box_size head }))) _ (λ _. found)
     (λ _. on_test P (nat_lt (box_size head) 8) (refuse (InvalidHeifBoxSize (box_size head)))
-    (done (Next tt (place + box_size head))) (λ _. small) (λ no. next (grind (arith, nat_tests))))
+    (done (Next tt (offset + box_size head))) (λ _. small) (λ no. next (grind (arith, nat_tests))))
 
 pub search_advances : (tag : List ℕ) (first : ℕ) (d : List ℕ) → Advances (search_for tag first) d
 search_advances tag first = advances (search_for tag first)
-    (λ passed place head. by_searched (Tells (λ p. place < p)) tag place head tt tt (λ big. omega arith))
-    (λ passed place. (omega arith, omega arith))
+    (λ passed offset head. by_searched (Tells (λ p. offset < p)) tag offset head tt tt (λ big. omega arith))
+    (λ passed offset. (omega arith, omega arith))
 
 -- from the end of the input on there is no box
-pub search_ends : (tag : List ℕ) (d : List ℕ) (place : ℕ) → length d ≤ place
-    → uncounted (layout_reads d (searched_box tag place)) ≡ refuses Ended
-search_ends tag d place far =
-    ap uncounted (bytes_beyond d place 8 (λ head. box_searched tag place head) far (omega arith))
+pub search_ends : (tag : List ℕ) (d : List ℕ) (offset : ℕ) → length d ≤ offset
+    → uncounted (layout_reads d (searched_box tag offset)) ≡ refuses Ended
+search_ends tag d offset far =
+    ap uncounted (bytes_beyond d offset 8 (λ head. box_searched tag offset head) far (omega arith))
 
-search_beyond : (tag : List ℕ) (d : List ℕ) (place : ℕ) → length d ≤ place
-    → uncounted (chain_at (search_for tag place) d) ≡ refuses Ended
-search_beyond tag d place far =
-    let none = search_ends tag d place far in
-    ap uncounted (chain_stop (search_for tag place) d (start (search_for tag place)) (Err Ended)
+search_beyond : (tag : List ℕ) (d : List ℕ) (offset : ℕ) → length d ≤ offset
+    → uncounted (chain_at (search_for tag offset) d) ≡ refuses Ended
+search_beyond tag d offset far =
+    let none = search_ends tag d offset far in
+    ap uncounted (chain_stop (search_for tag offset) d (start (search_for tag offset)) (Err Ended)
     (ap (λ r. verdict r.answer) none))
     ∙ ap (with_answer (Err Ended)) none
 
-pub search_saturated : {a b : State} {r : Result FoundBox Halt} (tag : List ℕ) (place at : ℕ)
-    → Runs a b r (chain_at (search_for tag at) a.held.input) → at ≡ min place (2 ^ 64 - 1)
-    → Runs a b r (chain_at (search_for tag place) a.held.input)
-search_saturated tag place at = saturated_by (λ p d. chain_at (search_for tag p) d) (refuses Ended) place at
+pub search_saturated : {a b : State} {r : Result FoundBox Halt} (tag : List ℕ) (offset at : ℕ)
+    → Runs a b r (chain_at (search_for tag at) a.held.input) → at ≡ min offset (2 ^ 64 - 1)
+    → Runs a b r (chain_at (search_for tag offset) a.held.input)
+search_saturated tag offset at = saturated_by (λ p d. chain_at (search_for tag p) d) (refuses Ended) offset at
     (λ d p far. search_beyond tag d p far)
 
 -- what holds of each property, by its name
-by_named : (P : Layout (Option Property) → Type 0) (left place : ℕ) (head : List ℕ) → P (done None)
+by_named : (P : Layout (Option Property) → Type 0) (left offset : ℕ) (head : List ℕ) → P (done None)
     → P (refuse Corrupted)
-    → P (bytes (place + 8) 12 (λ content. done (Some (Extents (extents_size content)))))
-    → P (bytes (place + 8) 1 (λ content. done (Some (Rotation (slice_index content 0)))))
-    → (8 ≤ box_size head → P (done (Some (Skipped (box_size head))))) → P (property_named left place head)
-by_named P left place head end bad extents rotation skipped =
+    → P (bytes (offset + 8) 12 (λ content. done (Some (Extents (extents_size content)))))
+    → P (bytes (offset + 8) 1 (λ content. done (Some (Rotation (slice_index content 0)))))
+    → (8 ≤ box_size head → P (done (Some (Skipped (box_size head))))) → P (property_named left offset head)
+by_named P left offset head end bad extents rotation skipped =
     on_test P (nat_lt (box_size head) 8) (cond (is_named (codes "mdat") head) (done None) (refuse Corrupted)) _
     (λ _. on_test P (is_named (codes "mdat") head) (done None) (refuse Corrupted) (λ _. end) (λ _. bad))
     (λ big. on_test P (is_named (codes "ispe") head)
-    (bytes (place + 8) 12 (λ content. done (Some (Extents (extents_size content))))) _
+    (bytes (offset + 8) 12 (λ content. done (Some (Extents (extents_size content))))) _
     (λ _. extents)
     (λ _. on_test P (is_named (codes "irot") head)
-    (bytes (place + 8) 1 (λ content. done (Some (Rotation (slice_index content 0))))) _
+    (bytes (offset + 8) 1 (λ content. done (Some (Rotation (slice_index content 0))))) _
     (λ _. rotation)
     (λ _. on_test P (nat_le left (box_size head)) (done None) (done (Some (Skipped (box_size head)))) (λ _. end)
     (λ _. skipped (grind (arith, nat_tests))))))
 
-pub by_found : (P : Layout (Option Property) → Type 0) (left place : ℕ) (found : Option (List ℕ)) → P (done None)
+pub by_found : (P : Layout (Option Property) → Type 0) (left offset : ℕ) (found : Option (List ℕ)) → P (done None)
     → P (refuse Corrupted)
-    → P (bytes (place + 8) 12 (λ content. done (Some (Extents (extents_size content)))))
-    → P (bytes (place + 8) 1 (λ content. done (Some (Rotation (slice_index content 0)))))
-    → ((size : ℕ) → 8 ≤ size → P (done (Some (Skipped size)))) → P (property_found left place found)
-by_found P left place None end bad extents rotation skipped = end
-by_found P left place (Some head) end bad extents rotation skipped = by_named P left place head end bad extents rotation
+    → P (bytes (offset + 8) 12 (λ content. done (Some (Extents (extents_size content)))))
+    → P (bytes (offset + 8) 1 (λ content. done (Some (Rotation (slice_index content 0)))))
+    → ((size : ℕ) → 8 ≤ size → P (done (Some (Skipped size)))) → P (property_found left offset found)
+by_found P left offset None end bad extents rotation skipped = end
+by_found P left offset (Some head) end bad extents rotation skipped = by_named P left offset head end bad extents rotation
     (skipped (box_size head))
 
 -- and of each way that the list ends
@@ -128,25 +128,25 @@ by_answer P None turn none some = none
 by_answer P (Some size) turn none some = some (turn_by turn size)
 
 -- and of what stands in the list, behind these properties
-by_listed : (P : Layout (Said Property ImageSize) → Type 0) (held : List Property) (left place : ℕ)
+by_listed : (P : Layout (Said Property ImageSize) → Type 0) (held : List Property) (left offset : ℕ)
     (found : Option (List ℕ))
     → ((e : Halt) → P (refuse e)) → ((size : ImageSize) → P (done (Decided size)))
-    → P (bytes (place + 8) 12 (λ content. done (Next (Extents (extents_size content)) (place + 20))))
-    → P (bytes (place + 8) 1 (λ content. done (Next (Rotation (slice_index content 0)) (place + 9))))
-    → ((size : ℕ) → 8 ≤ size → P (done (Next (Skipped size) (place + size))))
-    → P (bind (property_found left place found) (property_or_answer held place))
-by_listed P held left place found refused decided extents rotation skipped =
-    by_found (λ t. P (bind t (property_or_answer held place))) left place found
+    → P (bytes (offset + 8) 12 (λ content. done (Next (Extents (extents_size content)) (offset + 20))))
+    → P (bytes (offset + 8) 1 (λ content. done (Next (Rotation (slice_index content 0)) (offset + 9))))
+    → ((size : ℕ) → 8 ≤ size → P (done (Next (Skipped size) (offset + size))))
+    → P (bind (property_found left offset found) (property_or_answer held offset))
+by_listed P held left offset found refused decided extents rotation skipped =
+    by_found (λ t. P (bind t (property_or_answer held offset))) left offset found
     (by_answer P (largest_extents (flat_map extents_of held)) (last_or None (flat_map rotations_of held))
     (refused NotEnoughData) decided)
     (refused Corrupted) extents rotation skipped
 
 pub properties_advance : (all first : ℕ) (d : List ℕ) → Advances (properties all first) d
 properties_advance all first = advances (properties all first)
-    (λ held place bs. by_listed (Tells (λ p. place < p)) held (all - sum_by skipped_bytes held) place (whole 8 bs)
+    (λ held offset bs. by_listed (Tells (λ p. offset < p)) held (all - sum_by skipped_bytes held) offset (whole 8 bs)
     (λ e. tt) (λ size. tt)
     (λ content. omega arith) (λ content. omega arith) (λ size big. omega arith))
-    (λ held place. (
+    (λ held offset. (
       omega arith,
       by_answer (Tells (λ _. ⊥)) (largest_extents (flat_map extents_of held))
           (last_or None (flat_map rotations_of held)) tt (λ size. tt),
@@ -274,18 +274,18 @@ amounts_on all g held (Skipped size) h = record {
 }
 
 -- what is answered by what the properties amount to
-pub answers : (all : ℕ) (g : Gathered) (held : List Property) (place : ℕ) (d : List ℕ) → Amounts all g held
-    → layout_reads d (property_or_answer held place None)
+pub answers : (all : ℕ) (g : Gathered) (held : List Property) (offset : ℕ) (d : List ℕ) → Amounts all g held
+    → layout_reads d (property_or_answer held offset None)
     ≡ layout_reads d (heif_answer g.best g.turn)
-answers all g held place d h =
+answers all g held offset d h =
     ap (λ o. layout_reads d (heif_answer o (last_or None (flat_map rotations_of held)))) h.best.is
     ∙ ap (λ t. layout_reads d (heif_answer g.best t)) h.turn
 
--- at a place beyond the input it ends too
-none_listed : (d : List ℕ) (held : List Property) (left place : ℕ) → length d ≤ place
-    → uncounted (layout_reads d (bind (property_at left place) (property_or_answer held place)))
-    ≡ uncounted (layout_reads d (property_or_answer held place None))
-none_listed d held left place far = rw (no_part d place 8 far, no_span d place 8 far) refl
+-- at an offset beyond the input it ends too
+none_listed : (d : List ℕ) (held : List Property) (left offset : ℕ) → length d ≤ offset
+    → uncounted (layout_reads d (bind (property_at left offset) (property_or_answer held offset)))
+    ≡ uncounted (layout_reads d (property_or_answer held offset None))
+none_listed d held left offset far = rw (no_part d offset 8 far, no_span d offset 8 far) refl
 
 pub answer_read : (d : List ℕ) (best : Option ImageSize) (turn : Option ℕ) → layout_reads d (heif_answer best turn)
     ≡ just (map_answer Decided (ok_or (option_map (turn_by turn) best) NotEnoughData)) []
@@ -293,101 +293,101 @@ answer_read d None turn = refl
 answer_read d (Some size) turn = refl
 
 -- a record of the list, by what the properties before it amount to
-module _ {b end : State} (all : ℕ) (g : Gathered) (place : ℕ) (held : List Property) (h : Amounts all g held) where
+module _ {b end : State} (all : ℕ) (g : Gathered) (offset : ℕ) (held : List Property) (h : Amounts all g held) where
   said_by : {r : Result (Said Property ImageSize) Halt}
-      → Runs b end r (layout_reads b.held.input (bind (property_at g.left place) (property_or_answer held place)))
+      → Runs b end r (layout_reads b.held.input (bind (property_at g.left offset) (property_or_answer held offset)))
       → Runs b end r (layout_reads b.held.input
-      (bind (property_at (all - sum_by skipped_bytes held) place) (property_or_answer held place)))
+      (bind (property_at (all - sum_by skipped_bytes held) offset) (property_or_answer held offset)))
   said_by {r} run =
-      subst (λ n. Runs b end r (layout_reads b.held.input (bind (property_at n place) (property_or_answer held place))))
+      subst (λ n. Runs b end r (layout_reads b.held.input (bind (property_at n offset) (property_or_answer held offset))))
       (sym h.left) run
 
   pub listed_next : (property : Property)
-      → Runs b end (Ok (Some property)) (layout_reads b.held.input (property_at g.left place))
-      → Runs b end (Ok (Next property (place + property_bytes property)))
+      → Runs b end (Ok (Some property)) (layout_reads b.held.input (property_at g.left offset))
+      → Runs b end (Ok (Next property (offset + property_bytes property)))
       (layout_reads b.held.input
-      (bind (property_at (all - sum_by skipped_bytes held) place) (property_or_answer held place)))
+      (bind (property_at (all - sum_by skipped_bytes held) offset) (property_or_answer held offset)))
   listed_next property run =
-      said_by (runs_bind (Ok (Next property (place + property_bytes property))) (property_at g.left place)
-      (property_or_answer held place) run (λ d. refl) refl tt)
+      said_by (runs_bind (Ok (Next property (offset + property_bytes property))) (property_at g.left offset)
+      (property_or_answer held offset) run (λ d. refl) refl tt)
 
   pub listed_out : (e : Halt)
-      → Runs {X = Option Property} b end (Err e) (layout_reads b.held.input (property_at g.left place))
+      → Runs {X = Option Property} b end (Err e) (layout_reads b.held.input (property_at g.left offset))
       → Runs {X = Said Property ImageSize} b end (Err e)
       (layout_reads b.held.input
-      (bind (property_at (all - sum_by skipped_bytes held) place) (property_or_answer held place)))
-  listed_out e run = said_by (refused_bind (property_at g.left place) (property_or_answer held place) run)
+      (bind (property_at (all - sum_by skipped_bytes held) offset) (property_or_answer held offset)))
+  listed_out e run = said_by (refused_bind (property_at g.left offset) (property_or_answer held offset) run)
 
-pub list_ends : (all : ℕ) (g : Gathered) (held : List Property) → Amounts all g held → (d : List ℕ) (place : ℕ)
-    → length d ≤ place
+pub list_ends : (all : ℕ) (g : Gathered) (held : List Property) → Amounts all g held → (d : List ℕ) (offset : ℕ)
+    → length d ≤ offset
     → uncounted (layout_reads d
-    (bind (property_at (all - sum_by skipped_bytes held) place) (property_or_answer held place)))
+    (bind (property_at (all - sum_by skipped_bytes held) offset) (property_or_answer held offset)))
     ≡ just (map_answer Decided (gathered_answer g)) []
-list_ends all g held h d place far =
-    none_listed d held (all - sum_by skipped_bytes held) place far
-    ∙ ap uncounted (answers all g held place d h ∙ answer_read d g.best g.turn)
+list_ends all g held h d offset far =
+    none_listed d held (all - sum_by skipped_bytes held) offset far
+    ∙ ap uncounted (answers all g held offset d h ∙ answer_read d g.best g.turn)
 
-none_gathered : (all place : ℕ) (d : List ℕ) → length d ≤ place
-    → uncounted (chain_at (properties all place) d) ≡ refuses NotEnoughData
-none_gathered all place d far =
+none_gathered : (all offset : ℕ) (d : List ℕ) → length d ≤ offset
+    → uncounted (chain_at (properties all offset) d) ≡ refuses NotEnoughData
+none_gathered all offset d far =
     let says = list_ends all (record { left = all; best = None; turn = None }) [] (record {
       left = omega arith;
       best = record { is = refl; first = refl; area = refl; found = λ some. absurd (omega arith) };
       turn = refl;
-    }) d place far in
-    ap uncounted (chain_stop (properties all place) d (start (properties all place)) (Err NotEnoughData)
+    }) d offset far in
+    ap uncounted (chain_stop (properties all offset) d (start (properties all offset)) (Err NotEnoughData)
     (ap (λ r. verdict r.answer) says))
     ∙ ap (with_answer (Err NotEnoughData)) says
 
-pub list_saturated : {a b : State} {r : Result ImageSize Halt} (all place at : ℕ)
-    → Runs a b r (chain_at (properties all at) a.held.input) → at ≡ min place (2 ^ 64 - 1)
-    → Runs a b r (chain_at (properties all place) a.held.input)
-list_saturated all place at = saturated_by (λ p d. chain_at (properties all p) d)
-    (refuses NotEnoughData) place at (λ d p far. none_gathered all p d far)
+pub list_saturated : {a b : State} {r : Result ImageSize Halt} (all offset at : ℕ)
+    → Runs a b r (chain_at (properties all at) a.held.input) → at ≡ min offset (2 ^ 64 - 1)
+    → Runs a b r (chain_at (properties all offset) a.held.input)
+list_saturated all offset at = saturated_by (λ p d. chain_at (properties all p) d)
+    (refuses NotEnoughData) offset at (λ d p far. none_gathered all p d far)
 
 -- the compression is read from at most 12 bytes, and is always told
-pub heif_compression_laws : (place : ℕ) (head : List ℕ) → CompressionLaws 12 (heif_compression place head)
+pub heif_compression_laws : (offset : ℕ) (head : List ℕ) → CompressionLaws 12 (heif_compression offset head)
 unfolding heif_compression
-heif_compression_laws place head =
+heif_compression_laws offset head =
     on_test (CompressionLaws 12) (is_general (four_at 8 head)) _ _
     (λ _. record { few = (omega arith, λ _. tt); answers = λ _. tt })
     (λ _. record { few = tt; answers = tt })
 
 -- a box that is passed, or a property, is read from at most 20 bytes
-search_at_most : (tag : List ℕ) (place : ℕ) (passed : List (Unit {0})) (q : ℕ)
-    → AtMost 20 ((search_for tag place).said passed q)
-search_at_most tag place passed q = (omega arith, λ head. by_searched (AtMost 12) tag q head tt tt (λ big. tt))
+search_at_most : (tag : List ℕ) (offset : ℕ) (passed : List (Unit {0})) (q : ℕ)
+    → AtMost 20 ((search_for tag offset).said passed q)
+search_at_most tag offset passed q = (omega arith, λ head. by_searched (AtMost 12) tag q head tt tt (λ big. tt))
 
-property_at_most : (all place : ℕ) (held : List Property) (q : ℕ) → AtMost 20 ((properties all place).said held q)
-property_at_most all place held q = (
+property_at_most : (all offset : ℕ) (held : List Property) (q : ℕ) → AtMost 20 ((properties all offset).said held q)
+property_at_most all offset held q = (
   omega arith,
   λ bs. by_listed (AtMost 12) held (all - sum_by skipped_bytes held) q (whole 8 bs) (λ e. tt) (λ size. tt)
       (omega arith, λ content. tt) (omega arith, λ content. tt) (λ size big. tt),
 )
 
-search_cost : (tag : List ℕ) (place : ℕ) (d : List ℕ) → Bounded 0 20 (chain_at (search_for tag place) d)
-search_cost tag place d =
-    chain_cost (search_for tag place) d (search_advances tag place d) 20 (search_at_most tag place)
+search_cost : (tag : List ℕ) (offset : ℕ) (d : List ℕ) → Bounded 0 20 (chain_at (search_for tag offset) d)
+search_cost tag offset d =
+    chain_cost (search_for tag offset) d (search_advances tag offset d) 20 (search_at_most tag offset)
 
 -- what is seen of an input
-local_search : (tag : List ℕ) (place : ℕ) → IsLocal false (λ d. chain_at (search_for tag place) d)
-local_search tag place = local_chain (search_for tag place) (search_advances tag place)
-    (λ passed q. without_texts false 20 ((search_for tag place).said passed q) (search_at_most tag place passed q))
+local_search : (tag : List ℕ) (offset : ℕ) → IsLocal false (λ d. chain_at (search_for tag offset) d)
+local_search tag offset = local_chain (search_for tag offset) (search_advances tag offset)
+    (λ passed q. without_texts false 20 ((search_for tag offset).said passed q) (search_at_most tag offset passed q))
 
 in_iprp_local : (iprp : FoundBox) → IsLocal false (heif_in_iprp iprp)
-in_iprp_local iprp = local_then (λ d. chain_at (search_for (codes "ipco") (iprp.place + 8)) d)
-    (λ ipco d. chain_at (properties ipco.size (ipco.place + 8)) d)
-    (local_search (codes "ipco") (iprp.place + 8))
-    (λ ipco. local_chain (properties ipco.size (ipco.place + 8)) (properties_advance ipco.size (ipco.place + 8))
-    (λ held q. without_texts false 20 ((properties ipco.size (ipco.place + 8)).said held q)
-    (property_at_most ipco.size (ipco.place + 8) held q)))
+in_iprp_local iprp = local_then (λ d. chain_at (search_for (codes "ipco") (iprp.offset + 8)) d)
+    (λ ipco d. chain_at (properties ipco.size (ipco.offset + 8)) d)
+    (local_search (codes "ipco") (iprp.offset + 8))
+    (λ ipco. local_chain (properties ipco.size (ipco.offset + 8)) (properties_advance ipco.size (ipco.offset + 8))
+    (λ held q. without_texts false 20 ((properties ipco.size (ipco.offset + 8)).said held q)
+    (property_at_most ipco.size (ipco.offset + 8) held q)))
 
 in_meta_local : (meta : FoundBox) → IsLocal false (heif_in_meta meta)
-in_meta_local meta = local_then (λ d. bytes_read d (meta.place + 8) 4)
-    (λ version d. and_then (chain_at (search_for (codes "iprp") (meta.place + 12)) d) (λ iprp. heif_in_iprp iprp d))
-    (local_bytes (meta.place + 8) 4)
-    (λ version. local_then (λ d. chain_at (search_for (codes "iprp") (meta.place + 12)) d) heif_in_iprp
-    (local_search (codes "iprp") (meta.place + 12)) in_iprp_local)
+in_meta_local meta = local_then (λ d. bytes_read d (meta.offset + 8) 4)
+    (λ version d. and_then (chain_at (search_for (codes "iprp") (meta.offset + 12)) d) (λ iprp. heif_in_iprp iprp d))
+    (local_bytes (meta.offset + 8) 4)
+    (λ version. local_then (λ d. chain_at (search_for (codes "iprp") (meta.offset + 12)) d) heif_in_iprp
+    (local_search (codes "iprp") (meta.offset + 12)) in_iprp_local)
 
 pub heif_local : IsLocal false heif
 heif_local = local_then (λ d. number_read d Big 0 4) (λ first d. and_then (chain_at (search_for (codes "meta") first) d)
@@ -398,17 +398,17 @@ heif_local = local_then (λ d. number_read d Big 0 4) (λ first d. and_then (cha
     in_meta_local)
 
 in_iprp_cost : (iprp : FoundBox) (d : List ℕ) → Bounded 0 20 (heif_in_iprp iprp d)
-in_iprp_cost iprp d = bounded_then 20 0 0 (chain_at (search_for (codes "ipco") (iprp.place + 8)) d)
-    (λ ipco. chain_at (properties ipco.size (ipco.place + 8)) d) (search_cost (codes "ipco") (iprp.place + 8) d)
-    (λ ipco _. chain_cost (properties ipco.size (ipco.place + 8)) d
-    (properties_advance ipco.size (ipco.place + 8) d) 20 (property_at_most ipco.size (ipco.place + 8)))
+in_iprp_cost iprp d = bounded_then 20 0 0 (chain_at (search_for (codes "ipco") (iprp.offset + 8)) d)
+    (λ ipco. chain_at (properties ipco.size (ipco.offset + 8)) d) (search_cost (codes "ipco") (iprp.offset + 8) d)
+    (λ ipco _. chain_cost (properties ipco.size (ipco.offset + 8)) d
+    (properties_advance ipco.size (ipco.offset + 8) d) 20 (property_at_most ipco.size (ipco.offset + 8)))
 
 in_meta_cost : (meta : FoundBox) (d : List ℕ) → Bounded 4 20 (heif_in_meta meta d)
-in_meta_cost meta d = bounded_then 20 4 0 (bytes_read d (meta.place + 8) 4)
-    (λ version. and_then (chain_at (search_for (codes "iprp") (meta.place + 12)) d) (λ iprp. heif_in_iprp iprp d))
-    (omega (arith, total-span_of d (meta.place + 8) 4))
-    (λ version _. bounded_then 20 0 0 (chain_at (search_for (codes "iprp") (meta.place + 12)) d)
-    (λ iprp. heif_in_iprp iprp d) (search_cost (codes "iprp") (meta.place + 12) d) (λ iprp _. in_iprp_cost iprp d))
+in_meta_cost meta d = bounded_then 20 4 0 (bytes_read d (meta.offset + 8) 4)
+    (λ version. and_then (chain_at (search_for (codes "iprp") (meta.offset + 12)) d) (λ iprp. heif_in_iprp iprp d))
+    (omega (arith, total-span_of d (meta.offset + 8) 4))
+    (λ version _. bounded_then 20 0 0 (chain_at (search_for (codes "iprp") (meta.offset + 12)) d)
+    (λ iprp. heif_in_iprp iprp d) (search_cost (codes "iprp") (meta.offset + 12) d) (λ iprp _. in_iprp_cost iprp d))
 
 -- a box is read from at most 20 bytes
 pub heif_cost : (d : List ℕ) → 24 + total (heif d).marks ≤ 32 + 20 * (heif d).begun
@@ -423,7 +423,7 @@ heif_cost d = omega (
 
 -- what follows is read behind the head of a box that was found
 abbrev behind_head : FoundBox → Option ℕ
-behind_head found = Some (found.place + 8)
+behind_head found = Some (found.offset + 8)
 
 search_spends : (tag : List ℕ) (first : ℕ) (d : List ℕ)
     → Spends (length d) first behind_head (chain_at (search_for tag first) d)
@@ -438,8 +438,8 @@ search_spends tag first d = chain_onto (search_for tag first) d behind_head (sea
 abbrev ends : ImageSize → Option ℕ
 ends size = None
 
-properties_spend : (all place : ℕ) (d : List ℕ) → Spends (length d) place ends (chain_at (properties all place) d)
-properties_spend all place d = chain_onto (properties all place) d ends (properties_advance all place d)
+properties_spend : (all offset : ℕ) (d : List ℕ) → Spends (length d) offset ends (chain_at (properties all offset) d)
+properties_spend all offset d = chain_onto (properties all offset) d ends (properties_advance all offset d)
     (λ held q. (
       omega arith,
       λ bs. by_listed (Onto (said_to ends) (q + 8)) held (all - sum_by skipped_bytes held) q (whole 8 bs)
@@ -447,26 +447,26 @@ properties_spend all place d = chain_onto (properties all place) d ends (propert
           (λ size big. omega arith),
     ))
 
-version_spends : (d : List ℕ) (place : ℕ) (r : Result (List ℕ) Halt) → total (span_of d place 4) + left (length d)
-    (λ _. Some (place + 4)) r ≤ length d - place
-version_spends d place (Ok version) = omega (arith, total_behind d place 4, total-span_of d place 4)
-version_spends d place (Err e) = omega (arith, total_behind d place 4)
+version_spends : (d : List ℕ) (offset : ℕ) (r : Result (List ℕ) Halt) → total (span_of d offset 4) + left (length d)
+    (λ _. Some (offset + 4)) r ≤ length d - offset
+version_spends d offset (Ok version) = omega (arith, total_behind d offset 4, total-span_of d offset 4)
+version_spends d offset (Err e) = omega (arith, total_behind d offset 4)
 
-in_iprp_spends : (iprp : FoundBox) (d : List ℕ) → Spends (length d) (iprp.place + 8) ends (heif_in_iprp iprp d)
-in_iprp_spends iprp d = spends_then (length d) (iprp.place + 8) (λ ipco. ipco.place + 8) ends
-    (chain_at (search_for (codes "ipco") (iprp.place + 8)) d)
-    (λ ipco. chain_at (properties ipco.size (ipco.place + 8)) d)
-    (search_spends (codes "ipco") (iprp.place + 8) d) (λ ipco _. properties_spend ipco.size (ipco.place + 8) d)
+in_iprp_spends : (iprp : FoundBox) (d : List ℕ) → Spends (length d) (iprp.offset + 8) ends (heif_in_iprp iprp d)
+in_iprp_spends iprp d = spends_then (length d) (iprp.offset + 8) (λ ipco. ipco.offset + 8) ends
+    (chain_at (search_for (codes "ipco") (iprp.offset + 8)) d)
+    (λ ipco. chain_at (properties ipco.size (ipco.offset + 8)) d)
+    (search_spends (codes "ipco") (iprp.offset + 8) d) (λ ipco _. properties_spend ipco.size (ipco.offset + 8) d)
 
-in_meta_spends : (meta : FoundBox) (d : List ℕ) → Spends (length d) (meta.place + 8) ends (heif_in_meta meta d)
+in_meta_spends : (meta : FoundBox) (d : List ℕ) → Spends (length d) (meta.offset + 8) ends (heif_in_meta meta d)
 in_meta_spends meta d =
-    spends_then (length d) (meta.place + 8) (λ version. meta.place + 8 + 4) ends (bytes_read d (meta.place + 8) 4)
-    (λ version. and_then (chain_at (search_for (codes "iprp") (meta.place + 12)) d) (λ iprp. heif_in_iprp iprp d))
-    (version_spends d (meta.place + 8) (bytes_at d (meta.place + 8) 4))
-    (λ version _. let here : meta.place + 8 + 4 ≡ meta.place + 12 = omega arith in
-    rw here (spends_then (length d) (meta.place + 12) (λ iprp. iprp.place + 8) ends
-    (chain_at (search_for (codes "iprp") (meta.place + 12)) d) (λ iprp. heif_in_iprp iprp d)
-    (search_spends (codes "iprp") (meta.place + 12) d) (λ iprp _. in_iprp_spends iprp d)))
+    spends_then (length d) (meta.offset + 8) (λ version. meta.offset + 8 + 4) ends (bytes_read d (meta.offset + 8) 4)
+    (λ version. and_then (chain_at (search_for (codes "iprp") (meta.offset + 12)) d) (λ iprp. heif_in_iprp iprp d))
+    (version_spends d (meta.offset + 8) (bytes_at d (meta.offset + 8) 4))
+    (λ version _. let here : meta.offset + 8 + 4 ≡ meta.offset + 12 = omega arith in
+    rw here (spends_then (length d) (meta.offset + 12) (λ iprp. iprp.offset + 8) ends
+    (chain_at (search_for (codes "iprp") (meta.offset + 12)) d) (λ iprp. heif_in_iprp iprp d)
+    (search_spends (codes "iprp") (meta.offset + 12) d) (λ iprp _. in_iprp_spends iprp d)))
 
 -- with its type it is read from at most 28 bytes more than the input has: its first four may be read twice again
 pub heif_within : (d : List ℕ) → 24 + total (heif d).marks ≤ length d + 28
@@ -477,7 +477,7 @@ heif_within d = omega (
       (length d) (total-span_of d 0 4)
       (λ first _. omega (
         arith,
-        spends_then (length d) first (λ meta. meta.place + 8) ends (chain_at (search_for (codes "meta") first) d)
+        spends_then (length d) first (λ meta. meta.offset + 8) ends (chain_at (search_for (codes "meta") first) d)
             (λ meta. heif_in_meta meta d)
             (search_spends (codes "meta") first d) (λ meta _. in_meta_spends meta d),
       )),

@@ -29,48 +29,48 @@ use Rattle.imagesize_boxes.proofs.JxlGrowth.{jxl_lasts, box_sized}
 use Rattle.imagesize_source.proofs.Parts.{part_length}
 
 -- a box goes forward: its content stands behind its head, and the next box behind both
-content_ahead : (q : ℕ) (held : List ℕ) (place : ℕ) (head : BoxHead) → q ≤ place + head.length
-    → (0 < head.size → head.length ≤ head.size) → Ahead q (box_content held place head)
-content_ahead q held place head before sized =
+content_ahead : (q : ℕ) (held : List ℕ) (offset : ℕ) (head : BoxHead) → q ≤ offset + head.length
+    → (0 < head.size → head.length ≤ head.size) → Ahead q (box_content held offset head)
+content_ahead q held offset head before sized =
     let End : ℕ → Said (List ℕ) (List ℕ) → Type 0 = λ p s. Ahead p (done s) in
-    by_content (Ahead q) held place head
-    (by_piece (Ahead q) (place + head.length) (min 16 (box_room head)) (λ front. done (Decided front)) (λ _. tt)
+    by_content (Ahead q) held offset head
+    (by_piece (Ahead q) (offset + head.length) (min 16 (box_room head)) (λ front. done (Decided front)) (λ _. tt)
     (λ _. (before, λ front. tt)))
     tt
     (λ enough. (
       before,
-      λ index. by_piece (Ahead (place + head.length + 4)) (place + (head.length + 4))
+      λ index. by_piece (Ahead (offset + head.length + 4)) (offset + (head.length + 4))
           (min (box_room head - 4) (16 - length held))
-          (λ piece. done (partial_said held place head index piece))
-          (λ _. by_partial (End (place + head.length + 4)) held place head index [] tt
+          (λ piece. done (partial_said held offset head index piece))
+          (λ _. by_partial (End (offset + head.length + 4)) held offset head index [] tt
           (λ closed. let is = box_sized head closed in
           let fits = sized closed in omega arith))
           (λ some. (
             omega arith,
-            λ piece. by_partial (End (place + (head.length + 4) + min (box_room head - 4) (16 - length held))) held
-                place head index piece tt
+            λ piece. by_partial (End (offset + (head.length + 4) + min (box_room head - 4) (16 - length held))) held
+                offset head index piece tt
                 (λ closed. let is = box_sized head closed in let fits = sized closed in omega arith),
           )),
     ))
-    (by_end (End q) held place head [] tt (λ closed. let fits = sized closed in omega arith))
+    (by_end (End q) held offset head [] tt (λ closed. let fits = sized closed in omega arith))
 
-box_ahead : (held : List ℕ) (place : ℕ) → Ahead place (jxl_box held place)
+box_ahead : (held : List ℕ) (offset : ℕ) → Ahead offset (jxl_box held offset)
 unfolding box_head
-box_ahead held place = (
+box_ahead held offset = (
   omega arith,
-  λ front. by_head (Ahead (place + 8)) place front (box_content held place) (
+  λ front. by_head (Ahead (offset + 8)) offset front (box_content held offset) (
     omega arith,
-    λ size. by_checked (Ahead (place + 8 + 8)) place (record { tag = drop 4 front; size = size; length = 16 })
-        (box_content held place)
+    λ size. by_checked (Ahead (offset + 8 + 8)) offset (record { tag = drop 4 front; size = size; length = 16 })
+        (box_content held offset)
         (λ e. tt)
-        (λ _ sized. content_ahead (place + 8 + 8) held place (record { tag = drop 4 front; size = size; length = 16 })
+        (λ _ sized. content_ahead (offset + 8 + 8) held offset (record { tag = drop 4 front; size = size; length = 16 })
         (omega arith)
         sized),
   )
-      (by_checked (Ahead (place + 8)) place
+      (by_checked (Ahead (offset + 8)) offset
       (record { tag = drop 4 front; size = number Big (take 4 front); length = 8 })
-      (box_content held place) (λ e. tt)
-      (λ _ sized. content_ahead (place + 8) held place
+      (box_content held offset) (λ e. tt)
+      (λ _ sized. content_ahead (offset + 8) held offset
       (record { tag = drop 4 front; size = number Big (take 4 front); length = 8 })
       (omega arith) sized)),
 )
@@ -98,7 +98,7 @@ start_costs = (
 -- with its type it is read from at most 28 bytes more than the input has: the codestream from at most 16 more
 pub jxl_within : (d : List ℕ) → 12 + total (jxl d).marks ≤ length d + 28
 jxl_within d =
-    let boxes = chain_ahead jxl_chain d (jxl_advances d) (λ pieces place. box_ahead (concat pieces) place) in
+    let boxes = chain_ahead jxl_chain d (jxl_advances d) (λ pieces offset. box_ahead (concat pieces) offset) in
     let found = then_within (layout_reads d jxl_start) (codestream d) 16 (length d) (at_most d 16 jxl_start start_few)
     (λ o _. by_start o boxes) in
     let all = then_within (jxl_codestream d) (λ front. just (jxl_size front) [])
@@ -111,39 +111,39 @@ jxl_within d =
       by_start (Some front) boxes = omega arith
 
 -- a box reads at most 32 bytes, and those that its piece may still have
-content_few : (held : List ℕ) (place : ℕ) (head : BoxHead)
-    → AtMost (16 + (16 - length held)) (box_content held place head)
-content_few held place head =
+content_few : (held : List ℕ) (offset : ℕ) (head : BoxHead)
+    → AtMost (16 + (16 - length held)) (box_content held offset head)
+content_few held offset head =
     let k : ℕ = 16 + (16 - length held) in
-    by_content (AtMost k) held place head
-    (by_piece (AtMost k) (place + head.length) (min 16 (box_room head)) (λ front. done (Decided front)) (λ _. tt)
+    by_content (AtMost k) held offset head
+    (by_piece (AtMost k) (offset + head.length) (min 16 (box_room head)) (λ front. done (Decided front)) (λ _. tt)
     (λ _. (omega arith, λ front. tt)))
     tt
     (λ _. (
       omega arith,
-      λ index. by_piece (AtMost (k - 4)) (place + (head.length + 4)) (min (box_room head - 4) (16 - length held))
-          (λ piece. done (partial_said held place head index piece))
+      λ index. by_piece (AtMost (k - 4)) (offset + (head.length + 4)) (min (box_room head - 4) (16 - length held))
+          (λ piece. done (partial_said held offset head index piece))
           (λ _. tt) (λ _. (omega arith, λ piece. tt)),
     ))
     tt
 
-box_few : (held : List ℕ) (place : ℕ) → AtMost (32 + (16 - length held)) (jxl_box held place)
+box_few : (held : List ℕ) (offset : ℕ) → AtMost (32 + (16 - length held)) (jxl_box held offset)
 unfolding box_head
-box_few held place =
+box_few held offset =
     let k : ℕ = 16 + (16 - length held) in
     let long : ℕ = 32 + (16 - length held) in
-    let content : (j : ℕ) (head : BoxHead) → k ≤ j → AtMost j (box_content held place head) =
-    λ j head fits. at_most_more k j (box_content held place head) fits (content_few held place head) in (
+    let content : (j : ℕ) (head : BoxHead) → k ≤ j → AtMost j (box_content held offset head) =
+    λ j head fits. at_most_more k j (box_content held offset head) fits (content_few held offset head) in (
       omega arith,
-      λ front. by_head (AtMost (long - 8)) place front (box_content held place) (
+      λ front. by_head (AtMost (long - 8)) offset front (box_content held offset) (
         omega arith,
-        λ size. by_checked (AtMost (long - 8 - 8)) place (record { tag = drop 4 front; size = size; length = 16 })
-            (box_content held place) (λ e. tt)
+        λ size. by_checked (AtMost (long - 8 - 8)) offset (record { tag = drop 4 front; size = size; length = 16 })
+            (box_content held offset) (λ e. tt)
             (λ _ _. content (long - 8 - 8) (record { tag = drop 4 front; size = size; length = 16 }) (omega arith)),
       )
-          (by_checked (AtMost (long - 8)) place
+          (by_checked (AtMost (long - 8)) offset
           (record { tag = drop 4 front; size = number Big (take 4 front); length = 8 })
-          (box_content held place) (λ e. tt)
+          (box_content held offset) (λ e. tt)
           (λ _ _. content (long - 8) (record { tag = drop 4 front; size = number Big (take 4 front); length = 8 })
           (omega arith))),
     )
@@ -151,8 +151,8 @@ box_few held place =
 -- what is seen of an input
 local_behind : (found : Option (List ℕ)) → IsLocal false (λ d. codestream d found)
 local_behind None = local_chain jxl_chain jxl_advances
-    (λ pieces place. without_texts false (32 + (16 - length (concat pieces))) (jxl_box (concat pieces) place)
-    (box_few (concat pieces) place))
+    (λ pieces offset. without_texts false (32 + (16 - length (concat pieces))) (jxl_box (concat pieces) offset)
+    (box_few (concat pieces) offset))
 local_behind (Some front) = λ d e long. inl refl
 
 pub jxl_local : IsLocal false jxl
@@ -162,9 +162,9 @@ jxl_local = local_then jxl_codestream (λ front d. just (jxl_size front) [])
     local_behind)
     (λ front d e long. inl refl)
 
--- Behind u bytes: where it leads to a next box, it has read at most 20 bytes and its piece, for which there is room.
+-- Behind u bytes: where it leads to a next box, it has read at most 20 bytes and its piece, which fits.
 Lean : ℕ → List ℕ → Reads (Said (List ℕ) (List ℕ)) → Type 0
-Lean u held r = (piece : List ℕ) (place : ℕ) → r.answer ≡ Ok (Next piece place)
+Lean u held r = (piece : List ℕ) (offset : ℕ) → r.answer ≡ Ok (Next piece offset)
     → (u + total r.marks ≤ 20 + length piece)
     × (length piece ≤ 16 - length held)
 
@@ -172,92 +172,92 @@ lean_onward : {Y : Type 0} (u n : ℕ) (held : List ℕ) (spans : List Span) (r 
     (f : Y → Reads (Said (List ℕ) (List ℕ))) → total spans ≤ n → ((y : Y) → Lean (u + n) held (f y))
     → Lean u held (go_on spans r f)
 unfolding Lean
-lean_onward u n held spans (Ok y) f few each piece place is = let rest = each y piece place is in
+lean_onward u n held spans (Ok y) f few each piece offset is = let rest = each y piece offset is in
     (omega (arith, rest.0, total-append spans (f y).marks), rest.1)
-lean_onward u n held spans (Err e) f few each piece place is = absurd cc
+lean_onward u n held spans (Err e) f few each piece offset is = absurd cc
 
 -- what a box says at once, behind its piece
 lean_said : (u : ℕ) (held : List ℕ) (spans : List Span) (s : Said (List ℕ) (List ℕ)) (piece : List ℕ)
-    → ((found : List ℕ) (place : ℕ) → s ≡ Next found place → found ≡ piece) → u ≤ 20 → total spans ≤ length piece
+    → ((found : List ℕ) (offset : ℕ) → s ≡ Next found offset → found ≡ piece) → u ≤ 20 → total spans ≤ length piece
     → length piece ≤ 16 - length held → Lean u held (put_behind spans (gives s))
 unfolding Lean
-lean_said u held spans s piece same few seen fits found place is =
-    let at : s ≡ Next found place = cc in
-    let long : length found ≡ length piece = ap length (same found place at) in
+lean_said u held spans s piece same few seen fits found offset is =
+    let at : s ≡ Next found offset = cc in
+    let long : length found ≡ length piece = ap length (same found offset at) in
     let all = total-append spans [] in
     (omega arith, omega arith)
 
-end_piece : (held : List ℕ) (at : ℕ) (head : BoxHead) (piece found : List ℕ) (place : ℕ)
+end_piece : (held : List ℕ) (at : ℕ) (head : BoxHead) (piece found : List ℕ) (offset : ℕ)
     → said_behind held at head piece
-    ≡ Next found place → found ≡ piece
-end_piece held at head piece found place =
-    by_end (λ s. s ≡ Next found place → found ≡ piece) held at head piece (λ is. absurd cc)
+    ≡ Next found offset → found ≡ piece
+end_piece held at head piece found offset =
+    by_end (λ s. s ≡ Next found offset → found ≡ piece) held at head piece (λ is. absurd cc)
     (λ _ is. cc)
 
-partial_piece : (held : List ℕ) (at : ℕ) (head : BoxHead) (index piece found : List ℕ) (place : ℕ)
-    → partial_said held at head index piece ≡ Next found place → found ≡ piece
-partial_piece held at head index piece found place =
-    by_partial (λ s. s ≡ Next found place → found ≡ piece) held at head index piece
+partial_piece : (held : List ℕ) (at : ℕ) (head : BoxHead) (index piece found : List ℕ) (offset : ℕ)
+    → partial_said held at head index piece ≡ Next found offset → found ≡ piece
+partial_piece held at head index piece found offset =
+    by_partial (λ s. s ≡ Next found offset → found ≡ piece) held at head index piece
     (λ is. absurd cc) (λ _ is. cc)
 
 module _ (d : List ℕ) where
-  content_lean : (u : ℕ) (held : List ℕ) (place : ℕ) (head : BoxHead) → u ≤ 16
-      → Lean u held (layout_reads d (box_content held place head))
+  content_lean : (u : ℕ) (held : List ℕ) (offset : ℕ) (head : BoxHead) → u ≤ 16
+      → Lean u held (layout_reads d (box_content held offset head))
   unfolding Lean
-  content_lean u held place head few =
+  content_lean u held offset head few =
       let P : BoxSays → Type 0 = λ t. Lean u held (layout_reads d t) in
-      by_content P held place head
-      (by_piece P (place + head.length) (min 16 (box_room head)) (λ front. done (Decided front))
+      by_content P held offset head
+      (by_piece P (offset + head.length) (min 16 (box_room head)) (λ front. done (Decided front))
       (λ _ piece next is. absurd cc)
       (λ _ piece next is. absurd cc))
       (λ piece next is. absurd cc)
-      (λ _. lean_onward u 4 held (span_of d (place + head.length) 4) (bytes_at d (place + head.length) 4) _
-      (total-span_of d (place + head.length) 4)
-      (λ index. by_piece (λ t. Lean (u + 4) held (layout_reads d t)) (place + (head.length + 4))
+      (λ _. lean_onward u 4 held (span_of d (offset + head.length) 4) (bytes_at d (offset + head.length) 4) _
+      (total-span_of d (offset + head.length) 4)
+      (λ index. by_piece (λ t. Lean (u + 4) held (layout_reads d t)) (offset + (head.length + 4))
       (min (box_room head - 4) (16 - length held))
-      (λ piece. done (partial_said held place head index piece))
-      (λ _. lean_said (u + 4) held [] (partial_said held place head index []) []
-      (λ found next is. partial_piece held place head index []
+      (λ piece. done (partial_said held offset head index piece))
+      (λ _. lean_said (u + 4) held [] (partial_said held offset head index []) []
+      (λ found next is. partial_piece held offset head index []
       found next is) (omega arith) (omega arith) (omega arith))
-      (λ _. let q : ℕ = place + (head.length + 4) in let k : ℕ = min (box_room head - 4) (16 - length held) in
+      (λ _. let q : ℕ = offset + (head.length + 4) in let k : ℕ = min (box_room head - 4) (16 - length held) in
       let few_of = total-span_of d q k in let seen = total_behind d q k in let long = part_length d q k in
-      lean_said (u + 4) held (span_of d q k) (partial_said held place head index (part d q k)) (part d q k)
-      (λ found next is. partial_piece held place head index (part d q k) found next is) (omega arith) (omega arith)
+      lean_said (u + 4) held (span_of d q k) (partial_said held offset head index (part d q k)) (part d q k)
+      (λ found next is. partial_piece held offset head index (part d q k) found next is) (omega arith) (omega arith)
       (omega arith))))
-      (lean_said u held [] (said_behind held place head []) []
-      (λ found next is. end_piece held place head [] found next is)
+      (lean_said u held [] (said_behind held offset head []) []
+      (λ found next is. end_piece held offset head [] found next is)
       (omega arith) (omega arith) (omega arith))
 
-  box_lean : (held : List ℕ) (place : ℕ) → Lean 0 held (layout_reads d (jxl_box held place))
+  box_lean : (held : List ℕ) (offset : ℕ) → Lean 0 held (layout_reads d (jxl_box held offset))
   unfolding box_head Lean
-  box_lean held place =
-      lean_onward 0 8 held (span_of d place 8) (bytes_at d place 8) _ (total-span_of d place 8)
-      (λ front. by_head (λ t. Lean 8 held (layout_reads d t)) place front (box_content held place)
-      (lean_onward 8 8 held (span_of d (place + 8) 8) (number_at d Big (place + 8) 8) _ (total-span_of d (place + 8) 8)
-      (λ size. by_checked (λ t. Lean 16 held (layout_reads d t)) place
+  box_lean held offset =
+      lean_onward 0 8 held (span_of d offset 8) (bytes_at d offset 8) _ (total-span_of d offset 8)
+      (λ front. by_head (λ t. Lean 8 held (layout_reads d t)) offset front (box_content held offset)
+      (lean_onward 8 8 held (span_of d (offset + 8) 8) (number_at d Big (offset + 8) 8) _ (total-span_of d (offset + 8) 8)
+      (λ size. by_checked (λ t. Lean 16 held (layout_reads d t)) offset
       (record { tag = drop 4 front; size = size; length = 16 })
-      (box_content held place) (λ e piece next is. absurd cc)
-      (λ _ _. content_lean 16 held place (record { tag = drop 4 front; size = size; length = 16 }) (omega arith))))
-      (by_checked (λ t. Lean 8 held (layout_reads d t)) place
+      (box_content held offset) (λ e piece next is. absurd cc)
+      (λ _ _. content_lean 16 held offset (record { tag = drop 4 front; size = size; length = 16 }) (omega arith))))
+      (by_checked (λ t. Lean 8 held (layout_reads d t)) offset
       (record { tag = drop 4 front; size = number Big (take 4 front); length = 8 })
-      (box_content held place) (λ e piece next is. absurd cc)
-      (λ _ _. content_lean 8 held place (record { tag = drop 4 front; size = number Big (take 4 front); length = 8 })
+      (box_content held offset) (λ e piece next is. absurd cc)
+      (λ _ _. content_lean 8 held offset (record { tag = drop 4 front; size = number Big (take 4 front); length = 8 })
       (omega arith))))
 
   -- the pieces together have at most 16 bytes, and the last box reads at most 12 more
   boxes_cost : Bounded 28 20 (chain_at jxl_chain d)
   unfolding Lean
   boxes_cost = chain_bounded jxl_chain d (jxl_advances d) 20 (λ t. 12 + (16 - length (concat t.held)))
-      (λ t v place is.
-      let here = box_lean (concat t.held) t.place v place is in
+      (λ t v offset is.
+      let here = box_lean (concat t.held) t.offset v offset is in
       let few = here.0 in let fits = here.1 in
       let together = length_more t.held v in
       omega (arith, begins_one t))
       (λ t. omega (
         arith,
         begins_one t,
-        at_most d (32 + (16 - length (concat t.held))) (jxl_box (concat t.held) t.place)
-            (box_few (concat t.held) t.place),
+        at_most d (32 + (16 - length (concat t.held))) (jxl_box (concat t.held) t.offset)
+            (box_few (concat t.held) t.offset),
       ))
       (start jxl_chain) where
         begins_one : (t : Along (List ℕ)) → 1 ≤ (next_record jxl_chain d t).begun

@@ -66,117 +66,117 @@ size_signed all len n count enough within is small sums counts =
 abbrev pub BoxSays : Type 0
 BoxSays = Layout (Said (List ℕ) (List ℕ))
 
-pub by_checked : (P : BoxSays → Type 0) (place : ℕ) (head : BoxHead) (f : BoxHead → BoxSays)
+pub by_checked : (P : BoxSays → Type 0) (offset : ℕ) (head : BoxHead) (f : BoxHead → BoxSays)
     → ((e : Halt) → P (refuse e))
-    → (place + head.size < 2 ^ 64 → (0 < head.size → head.length ≤ head.size) → P (f head))
-    → P (bind (accept (box_checked place head) done) f)
-by_checked P place head f out on =
-    on_test (λ r. P (bind (accept r done) f)) (ltb (2 ^ 64 - 1) (place + head.size)) (Err Corrupted) _
+    → (offset + head.size < 2 ^ 64 → (0 < head.size → head.length ≤ head.size) → P (f head))
+    → P (bind (accept (box_checked offset head) done) f)
+by_checked P offset head f out on =
+    on_test (λ r. P (bind (accept r done) f)) (ltb (2 ^ 64 - 1) (offset + head.size)) (Err Corrupted) _
     (λ _. out Corrupted)
     (λ within. on_test (λ r. P (bind (accept r done) f)) (not (eqb head.size 0) && ltb head.size head.length)
     (Err (InvalidJxlBoxSize head.size (number Big head.tag))) (Ok head)
     (λ _. out (InvalidJxlBoxSize head.size (number Big head.tag)))
     (λ whole. on (grind (arith, nat_tests)) (λ some. grind (arith, nat_tests))))
 
-pub by_head : (P : BoxSays → Type 0) (place : ℕ) (front : List ℕ) (f : BoxHead → BoxSays)
-    → P (field Big (place + 8) 8
-    (λ size. bind (accept (box_checked place (record { tag = drop 4 front; size = size; length = 16 })) done) f))
-    → P (bind (accept (box_checked place
+pub by_head : (P : BoxSays → Type 0) (offset : ℕ) (front : List ℕ) (f : BoxHead → BoxSays)
+    → P (field Big (offset + 8) 8
+    (λ size. bind (accept (box_checked offset (record { tag = drop 4 front; size = size; length = 16 })) done) f))
+    → P (bind (accept (box_checked offset
     (record { tag = drop 4 front; size = number Big (take 4 front); length = 8 })) done) f)
     → P (bind (cond (eqb (number Big (take 4 front)) 1)
-    (field Big (place + 8) 8
-    (λ size. accept (box_checked place (record { tag = drop 4 front; size = size; length = 16 })) done))
-    (accept (box_checked place (record { tag = drop 4 front; size = number Big (take 4 front); length = 8 })) done)) f)
-by_head P place front f long short =
+    (field Big (offset + 8) 8
+    (λ size. accept (box_checked offset (record { tag = drop 4 front; size = size; length = 16 })) done))
+    (accept (box_checked offset (record { tag = drop 4 front; size = number Big (take 4 front); length = 8 })) done)) f)
+by_head P offset front f long short =
     on_test (λ t. P (bind t f)) (eqb (number Big (take 4 front)) 1)
-    (field Big (place + 8) 8
-    (λ size. accept (box_checked place (record { tag = drop 4 front; size = size; length = 16 })) done))
-    (accept (box_checked place (record { tag = drop 4 front; size = number Big (take 4 front); length = 8 })) done)
+    (field Big (offset + 8) 8
+    (λ size. accept (box_checked offset (record { tag = drop 4 front; size = size; length = 16 })) done))
+    (accept (box_checked offset (record { tag = drop 4 front; size = number Big (take 4 front); length = 8 })) done)
     (λ _. long) (λ _. short)
 
-pub by_piece : (P : BoxSays → Type 0) (place k : ℕ) (f : List ℕ → BoxSays) → (k ≡ 0 → P (f []))
-    → (0 < k → P (bytes_there place k f))
-    → P (bind (piece_at place k) f)
+pub by_piece : (P : BoxSays → Type 0) (offset k : ℕ) (f : List ℕ → BoxSays) → (k ≡ 0 → P (f []))
+    → (0 < k → P (bytes_there offset k f))
+    → P (bind (piece_at offset k) f)
 unfolding piece_at
-by_piece P place k f none some =
-    on_test (λ t. P (bind t f)) (eqb k 0) (done []) (bytes_there place k (λ piece. done piece))
+by_piece P offset k f none some =
+    on_test (λ t. P (bind t f)) (eqb k 0) (done []) (bytes_there offset k (λ piece. done piece))
     (λ is. none (grind (arith, nat_tests)))
     (λ is. some (grind (arith, nat_tests)))
 
-pub by_end : (P : Said (List ℕ) (List ℕ) → Type 0) (held : List ℕ) (place : ℕ) (head : BoxHead) (piece : List ℕ)
-    → P (Decided (held ++ piece)) → (0 < head.size → P (Next piece (place + head.size)))
-    → P (said_behind held place head piece)
-by_end P held place head piece last next =
-    on_test P (eqb head.size 0) (Decided (held ++ piece)) (Next piece (place + head.size))
+pub by_end : (P : Said (List ℕ) (List ℕ) → Type 0) (held : List ℕ) (offset : ℕ) (head : BoxHead) (piece : List ℕ)
+    → P (Decided (held ++ piece)) → (0 < head.size → P (Next piece (offset + head.size)))
+    → P (said_behind held offset head piece)
+by_end P held offset head piece last next =
+    on_test P (eqb head.size 0) (Decided (held ++ piece)) (Next piece (offset + head.size))
     (λ _. last) (λ is. next (grind (arith, nat_tests)))
 
-pub by_partial : (P : Said (List ℕ) (List ℕ) → Type 0) (held : List ℕ) (place : ℕ) (head : BoxHead)
+pub by_partial : (P : Said (List ℕ) (List ℕ) → Type 0) (held : List ℕ) (offset : ℕ) (head : BoxHead)
     (index piece : List ℕ)
-    → P (Decided (held ++ piece)) → (0 < head.size → P (Next piece (place + head.size)))
-    → P (partial_said held place head index piece)
-by_partial P held place head index piece last next =
+    → P (Decided (held ++ piece)) → (0 < head.size → P (Next piece (offset + head.size)))
+    → P (partial_said held offset head index piece)
+by_partial P held offset head index piece last next =
     on_test P (eqb (length held + length piece) 16 || leb 0x80 (slice_index index 0)) (Decided (held ++ piece))
-    (said_behind held place head piece) (λ _. last)
-    (λ _. by_end P held place head piece last next)
+    (said_behind held offset head piece) (λ _. last)
+    (λ _. by_end P held offset head piece last next)
 
-pub by_content : (P : BoxSays → Type 0) (held : List ℕ) (place : ℕ) (head : BoxHead) → P (codestream_box place head)
+pub by_content : (P : BoxSays → Type 0) (held : List ℕ) (offset : ℕ) (head : BoxHead) → P (codestream_box offset head)
     → P (refuse Ended)
-    → (4 ≤ box_room head → P (bytes (place + head.length) 4
-    (λ index. bind (piece_at (place + (head.length + 4)) (min (box_room head - 4) (16 - length held)))
-    (λ piece. done (partial_said held place head index piece)))))
-    → P (done (said_behind held place head [])) → P (box_content held place head)
-by_content P held place head whole none partial other =
-    on_test P (begins (codes "jxlc") head.tag) (codestream_box place head) _ (λ _. whole)
-    (λ _. on_test P (begins (codes "jxlp") head.tag) (partial_box held place head)
-    (done (said_behind held place head []))
+    → (4 ≤ box_room head → P (bytes (offset + head.length) 4
+    (λ index. bind (piece_at (offset + (head.length + 4)) (min (box_room head - 4) (16 - length held)))
+    (λ piece. done (partial_said held offset head index piece)))))
+    → P (done (said_behind held offset head [])) → P (box_content held offset head)
+by_content P held offset head whole none partial other =
+    on_test P (begins (codes "jxlc") head.tag) (codestream_box offset head) _ (λ _. whole)
+    (λ _. on_test P (begins (codes "jxlp") head.tag) (partial_box held offset head)
+    (done (said_behind held offset head []))
     (λ _. on_test P (ltb (box_room head) 4) (refuse Ended) _ (λ _. none) (λ is. partial (grind (arith, nat_tests))))
     (λ _. other))
 
-content_tells : (held : List ℕ) (place : ℕ) (head : BoxHead) → Tells (λ p. place < p) (box_content held place head)
-content_tells held place head =
-    let End : Said (List ℕ) (List ℕ) → Type 0 = λ s. Tells (λ p. place < p) (done s) in
-    by_content (Tells (λ p. place < p)) held place head
-    (by_piece (Tells (λ p. place < p)) (place + head.length) (min 16 (box_room head)) (λ front. done (Decided front))
+content_tells : (held : List ℕ) (offset : ℕ) (head : BoxHead) → Tells (λ p. offset < p) (box_content held offset head)
+content_tells held offset head =
+    let End : Said (List ℕ) (List ℕ) → Type 0 = λ s. Tells (λ p. offset < p) (done s) in
+    by_content (Tells (λ p. offset < p)) held offset head
+    (by_piece (Tells (λ p. offset < p)) (offset + head.length) (min 16 (box_room head)) (λ front. done (Decided front))
     (λ _. tt)
     (λ _ front. tt))
     tt
-    (λ _ index. by_piece (Tells (λ p. place < p)) (place + (head.length + 4))
+    (λ _ index. by_piece (Tells (λ p. offset < p)) (offset + (head.length + 4))
     (min (box_room head - 4) (16 - length held))
-    (λ piece. done (partial_said held place head index piece))
-    (λ _. by_partial End held place head index [] tt (λ some. omega arith))
-    (λ _ piece. by_partial End held place head index piece tt (λ some. omega arith)))
-    (by_end End held place head [] tt (λ some. omega arith))
+    (λ piece. done (partial_said held offset head index piece))
+    (λ _. by_partial End held offset head index [] tt (λ some. omega arith))
+    (λ _ piece. by_partial End held offset head index piece tt (λ some. omega arith)))
+    (by_end End held offset head [] tt (λ some. omega arith))
 
--- a box tells a place behind its own
-pub box_tells : (held : List ℕ) (place : ℕ) → Tells (λ p. place < p) (jxl_box held place)
+-- a box tells an offset behind its own
+pub box_tells : (held : List ℕ) (offset : ℕ) → Tells (λ p. offset < p) (jxl_box held offset)
 unfolding box_head
-box_tells held place front = by_head (Tells (λ p. place < p)) place front (box_content held place)
-    (λ size. by_checked (Tells (λ p. place < p)) place (record { tag = drop 4 front; size = size; length = 16 })
-    (box_content held place) (λ e. tt)
-    (λ _ _. content_tells held place (record { tag = drop 4 front; size = size; length = 16 })))
-    (by_checked (Tells (λ p. place < p)) place
+box_tells held offset front = by_head (Tells (λ p. offset < p)) offset front (box_content held offset)
+    (λ size. by_checked (Tells (λ p. offset < p)) offset (record { tag = drop 4 front; size = size; length = 16 })
+    (box_content held offset) (λ e. tt)
+    (λ _ _. content_tells held offset (record { tag = drop 4 front; size = size; length = 16 })))
+    (by_checked (Tells (λ p. offset < p)) offset
     (record { tag = drop 4 front; size = number Big (take 4 front); length = 8 })
-    (box_content held place) (λ e. tt) (λ _ _. content_tells held place
+    (box_content held offset) (λ e. tt) (λ _ _. content_tells held offset
     (record { tag = drop 4 front; size = number Big (take 4 front); length = 8 })))
 
-pub box_begins : (held : List ℕ) (place : ℕ) → Begins place (jxl_box held place)
+pub box_begins : (held : List ℕ) (offset : ℕ) → Begins offset (jxl_box held offset)
 unfolding box_head
-box_begins held place = (omega arith, omega arith)
+box_begins held offset = (omega arith, omega arith)
 
 pub jxl_advances : (d : List ℕ) → Advances jxl_chain d
-jxl_advances = advances jxl_chain (λ pieces place. box_tells (concat pieces) place)
-    (λ pieces place. box_begins (concat pieces) place)
+jxl_advances = advances jxl_chain (λ pieces offset. box_tells (concat pieces) offset)
+    (λ pieces offset. box_begins (concat pieces) offset)
 
 -- from the end of the input on no box begins
-pub boxes_end : (front : List ℕ) (d : List ℕ) (place : ℕ) → length d ≤ place
-    → uncounted (layout_reads d (jxl_box front place)) ≡ refuses Ended
+pub boxes_end : (front : List ℕ) (d : List ℕ) (offset : ℕ) → length d ≤ offset
+    → uncounted (layout_reads d (jxl_box front offset)) ≡ refuses Ended
 unfolding box_head
-boxes_end front d place far = ap uncounted (bytes_beyond d place 8
+boxes_end front d offset far = ap uncounted (bytes_beyond d offset 8
     (λ head. bind (cond (eqb (number Big (take 4 head)) 1)
-    (field Big (place + 8) 8
-    (λ size. accept (box_checked place (record { tag = drop 4 head; size = size; length = 16 })) done))
-    (accept (box_checked place (record { tag = drop 4 head; size = number Big (take 4 head); length = 8 })) done))
-    (λ head. box_content front place head)) far (omega arith))
+    (field Big (offset + 8) 8
+    (λ size. accept (box_checked offset (record { tag = drop 4 head; size = size; length = 16 })) done))
+    (accept (box_checked offset (record { tag = drop 4 head; size = number Big (take 4 head); length = 8 })) done))
+    (λ head. box_content front offset head)) far (omega arith))
 
 -- the bytes of the boxes so far, and of one more
 pub joined : (pieces : List (List ℕ)) (front piece : List ℕ) → concat pieces ≡ front

@@ -41,60 +41,60 @@ grows_onward R spans more (Ok y) r' f g same each s is =
     (rest.0, ap (λ q. (go_on more q g).answer) (same y refl) ∙ rest.1, rest.2)
 grows_onward R spans more (Err e) r' f g same each s is = absurd cc
 
-grows_bytes : {X : Type 0} (R : X → X → Type 0) (d x : List ℕ) (place k : ℕ) (f : List ℕ → Layout X)
+grows_bytes : {X : Type 0} (R : X → X → Type 0) (d x : List ℕ) (offset k : ℕ) (f : List ℕ → Layout X)
     → ((bs : List ℕ) → Grows R (layout_reads d (f bs)) (layout_reads (d ++ x) (f bs)))
-    → Grows R (layout_reads d (bytes place k f))
-    (layout_reads (d ++ x) (bytes place k f))
-grows_bytes R d x place k f each =
-    grows_onward R (span_of d place k) (span_of (d ++ x) place k) (bytes_at d place k) (bytes_at (d ++ x) place k)
+    → Grows R (layout_reads d (bytes offset k f))
+    (layout_reads (d ++ x) (bytes offset k f))
+grows_bytes R d x offset k f each =
+    grows_onward R (span_of d offset k) (span_of (d ++ x) offset k) (bytes_at d offset k) (bytes_at (d ++ x) offset k)
     (λ bs. layout_reads d (f bs))
     (λ bs. layout_reads (d ++ x) (f bs))
-    (λ bs got. bytes_more d x place k (bytes_ok d bs place k got) ∙ got) each
+    (λ bs got. bytes_more d x offset k (bytes_ok d bs offset k got) ∙ got) each
 
-grows_field : {X : Type 0} (R : X → X → Type 0) (d x : List ℕ) (order : Endian) (place k : ℕ) (f : ℕ → Layout X)
+grows_field : {X : Type 0} (R : X → X → Type 0) (d x : List ℕ) (order : Endian) (offset k : ℕ) (f : ℕ → Layout X)
     → ((v : ℕ) → Grows R (layout_reads d (f v)) (layout_reads (d ++ x) (f v)))
-    → Grows R (layout_reads d (field order place k f))
-    (layout_reads (d ++ x) (field order place k f))
-grows_field R d x order place k f each =
-    grows_onward R (span_of d place k) (span_of (d ++ x) place k) (number_at d order place k)
-    (number_at (d ++ x) order place k)
+    → Grows R (layout_reads d (field order offset k f))
+    (layout_reads (d ++ x) (field order offset k f))
+grows_field R d x order offset k f each =
+    grows_onward R (span_of d offset k) (span_of (d ++ x) offset k) (number_at d order offset k)
+    (number_at (d ++ x) order offset k)
     (λ v. layout_reads d (f v)) (λ v. layout_reads (d ++ x) (f v))
-    (λ v got. number_more d x order place k (number_ok d order place k v got) ∙ got) each
+    (λ v got. number_more d x order offset k (number_ok d order offset k v got) ∙ got) each
 
 -- The codestream of a box may go on; a next box within the input stays.
 abbrev GoesOn : ℕ → Said (List ℕ) (List ℕ) → Said (List ℕ) (List ℕ) → Type 0
 GoesOn n (Decided front) t = (more : List ℕ) × (t ≡ Decided (front ++ more))
-GoesOn n (Next piece place) t = place ≤ n → t ≡ Next piece place
+GoesOn n (Next piece offset) t = offset ≤ n → t ≡ Next piece offset
 
 same_said : (n : ℕ) (s : Said (List ℕ) (List ℕ)) → GoesOn n s s
 same_said n (Decided front) = ([], ap Decided (sym (append-nil front)))
-same_said n (Next piece place) = λ _. refl
+same_said n (Next piece offset) = λ _. refl
 
 -- what a piece that goes on says
-by_tests : (n place : ℕ) (held piece more : List ℕ) (ends ends_more opened : Bool) → (ends ≡ true → ends_more ≡ true)
-    → (more ≡ [] → ends_more ≡ ends) → (opened ≡ false → place ≤ n → more ≡ [])
-    → GoesOn n (cond ends (Decided (held ++ piece)) (cond opened (Decided (held ++ piece)) (Next piece place)))
+by_tests : (n offset : ℕ) (held piece more : List ℕ) (ends ends_more opened : Bool) → (ends ≡ true → ends_more ≡ true)
+    → (more ≡ [] → ends_more ≡ ends) → (opened ≡ false → offset ≤ n → more ≡ [])
+    → GoesOn n (cond ends (Decided (held ++ piece)) (cond opened (Decided (held ++ piece)) (Next piece offset)))
     (cond ends_more (Decided (held ++ (piece ++ more)))
-    (cond opened (Decided (held ++ (piece ++ more))) (Next (piece ++ more) place)))
-by_tests n place held piece more true true opened stays same whole =
+    (cond opened (Decided (held ++ (piece ++ more))) (Next (piece ++ more) offset)))
+by_tests n offset held piece more true true opened stays same whole =
     (more, ap Decided (sym (append_assoc held piece more)))
-by_tests n place held piece more true false opened stays same whole = absurd (let no : false ≡ true = stays refl in cc)
-by_tests n place held piece more false true true stays same whole =
+by_tests n offset held piece more true false opened stays same whole = absurd (let no : false ≡ true = stays refl in cc)
+by_tests n offset held piece more false true true stays same whole =
     (more, ap Decided (sym (append_assoc held piece more)))
-by_tests n place held piece more false false true stays same whole =
+by_tests n offset held piece more false false true stays same whole =
     (more, ap Decided (sym (append_assoc held piece more)))
-by_tests n place held piece more false true false stays same whole = λ within. absurd (let no : true ≡ false =
+by_tests n offset held piece more false true false stays same whole = λ within. absurd (let no : true ≡ false =
     same (whole refl within) in cc)
-by_tests n place held piece more false false false stays same whole = λ within. ap (λ p. Next p place)
+by_tests n offset held piece more false false false stays same whole = λ within. ap (λ p. Next p offset)
     (ap (λ m. piece ++ m) (whole refl within) ∙ append-nil piece)
 
-partial_grows : (n place : ℕ) (held : List ℕ) (head : BoxHead) (index piece more : List ℕ)
+partial_grows : (n offset : ℕ) (held : List ℕ) (head : BoxHead) (index piece more : List ℕ)
     → length held + length (piece ++ more) ≤ 16
-    → (0 < head.size → place + head.size ≤ n → more ≡ []) → GoesOn n (partial_said held place head index piece)
-    (partial_said held place head index (piece ++ more))
-partial_grows n place held head index piece more fits whole =
+    → (0 < head.size → offset + head.size ≤ n → more ≡ []) → GoesOn n (partial_said held offset head index piece)
+    (partial_said held offset head index (piece ++ more))
+partial_grows n offset held head index piece more fits whole =
     let long = length-append piece more in
-    by_tests n (place + head.size) held piece more
+    by_tests n (offset + head.size) held piece more
     (eqb (length held + length piece) 16 || leb 0x80 (slice_index index 0))
     (eqb (length held + length (piece ++ more)) 16 || leb 0x80
     (slice_index index 0)) (eqb head.size 0)
@@ -104,14 +104,14 @@ partial_grows n place held head index piece more fits whole =
     (λ is within. whole (grind (arith, nat_tests)) within)
 
 -- bytes that are all there do not go on
-none_more : (d x : List ℕ) (place k : ℕ) (more : List ℕ) → part (d ++ x) place k ≡ part d place k ++ more
-    → k ≤ length d - place
+none_more : (d x : List ℕ) (offset k : ℕ) (more : List ℕ) → part (d ++ x) offset k ≡ part d offset k ++ more
+    → k ≤ length d - offset
     → more ≡ []
-none_more d x place k [] is all = refl
-none_more d x place k (b ∷ more) is all =
+none_more d x offset k [] is all = refl
+none_more d x offset k (b ∷ more) is all =
     let longer = ap length is in
-    let one = part_length (d ++ x) place k in let two = part_length d place k in
-    let sum = length-append (part d place k) (b ∷ more) in
+    let one = part_length (d ++ x) offset k in let two = part_length d offset k in
+    let sum = length-append (part d offset k) (b ∷ more) in
     absurd (omega arith)
 
 pub box_sized : (head : BoxHead) → 0 < head.size → box_room head ≡ head.size - head.length
@@ -121,77 +121,77 @@ module _ (d x : List ℕ) where
   Both : BoxSays → Type 0
   Both t = Grows (GoesOn (length d)) (layout_reads d t) (layout_reads (d ++ x) t)
 
-  content_grows : (held : List ℕ) (place : ℕ) (head : BoxHead) → (0 < head.size → head.length ≤ head.size)
-      → Both (box_content held place head)
+  content_grows : (held : List ℕ) (offset : ℕ) (head : BoxHead) → (0 < head.size → head.length ≤ head.size)
+      → Both (box_content held offset head)
   unfolding Both
-  content_grows held place head sized =
-      by_content Both held place head
-      (by_piece Both (place + head.length) (min 16 (box_room head)) (λ front. done (Decided front))
+  content_grows held offset head sized =
+      by_content Both held offset head
+      (by_piece Both (offset + head.length) (min 16 (box_room head)) (λ front. done (Decided front))
       (λ _. grows_given (GoesOn (length d)) (Decided []) (Decided []) (same_said (length d) (Decided [])))
-      (λ _. let grown = part_grows d x (place + head.length) (min 16 (box_room head)) in
-      grows_given (GoesOn (length d)) (Decided (part d (place + head.length) (min 16 (box_room head))))
-      (Decided (part (d ++ x) (place + head.length) (min 16 (box_room head)))) (grown.0, ap Decided grown.1)))
+      (λ _. let grown = part_grows d x (offset + head.length) (min 16 (box_room head)) in
+      grows_given (GoesOn (length d)) (Decided (part d (offset + head.length) (min 16 (box_room head))))
+      (Decided (part (d ++ x) (offset + head.length) (min 16 (box_room head)))) (grown.0, ap Decided grown.1)))
       (λ s is. absurd cc)
-      (λ enough. grows_bytes (GoesOn (length d)) d x (place + head.length) 4
-      (λ index. bind (piece_at (place + (head.length + 4)) (min (box_room head - 4) (16 - length held)))
-      (λ piece. done (partial_said held place head index piece)))
-      (λ index. by_piece Both (place + (head.length + 4)) (min (box_room head - 4) (16 - length held))
-      (λ piece. done (partial_said held place head index piece))
-      (λ _. grows_given (GoesOn (length d)) (partial_said held place head index [])
-      (partial_said held place head index [])
-      (same_said (length d) (partial_said held place head index [])))
-      (λ some. let q : ℕ = place + (head.length + 4) in let k : ℕ = min (box_room head - 4) (16 - length held) in
+      (λ enough. grows_bytes (GoesOn (length d)) d x (offset + head.length) 4
+      (λ index. bind (piece_at (offset + (head.length + 4)) (min (box_room head - 4) (16 - length held)))
+      (λ piece. done (partial_said held offset head index piece)))
+      (λ index. by_piece Both (offset + (head.length + 4)) (min (box_room head - 4) (16 - length held))
+      (λ piece. done (partial_said held offset head index piece))
+      (λ _. grows_given (GoesOn (length d)) (partial_said held offset head index [])
+      (partial_said held offset head index [])
+      (same_said (length d) (partial_said held offset head index [])))
+      (λ some. let q : ℕ = offset + (head.length + 4) in let k : ℕ = min (box_room head - 4) (16 - length held) in
       let grown = part_grows d x q k in
       let long = part_length (d ++ x) q k in
       let same : length (part (d ++ x) q k) ≡ length (part d q k ++ grown.0) = ap length grown.1 in
       let ends : 0 < head.size → box_room head ≡ head.size - head.length = λ closed. box_sized head closed in
-      grows_given (GoesOn (length d)) (partial_said held place head index (part d q k))
-      (partial_said held place head index (part (d ++ x) q k))
-      (subst (λ p. GoesOn (length d) (partial_said held place head index (part d q k))
-      (partial_said held place head index p))
+      grows_given (GoesOn (length d)) (partial_said held offset head index (part d q k))
+      (partial_said held offset head index (part (d ++ x) q k))
+      (subst (λ p. GoesOn (length d) (partial_said held offset head index (part d q k))
+      (partial_said held offset head index p))
       (sym grown.1)
-      (partial_grows (length d) place held head index (part d q k) grown.0 (omega arith)
+      (partial_grows (length d) offset held head index (part d q k) grown.0 (omega arith)
       (λ closed within. none_more d x q k grown.0 grown.1
       (let is = ends closed in let fits = sized closed in omega arith)))))))
-      (grows_given (GoesOn (length d)) (said_behind held place head []) (said_behind held place head [])
-      (same_said (length d) (said_behind held place head [])))
+      (grows_given (GoesOn (length d)) (said_behind held offset head []) (said_behind held offset head [])
+      (same_said (length d) (said_behind held offset head [])))
 
   -- what a box says of more bytes
-  box_grows : (held : List ℕ) (place : ℕ) → Both (jxl_box held place)
+  box_grows : (held : List ℕ) (offset : ℕ) → Both (jxl_box held offset)
   unfolding Both box_head
-  box_grows held place =
-      grows_bytes (GoesOn (length d)) d x place 8
+  box_grows held offset =
+      grows_bytes (GoesOn (length d)) d x offset 8
       (λ front. bind (cond (eqb (number Big (take 4 front)) 1)
-      (field Big (place + 8) 8
-      (λ size. accept (box_checked place (record { tag = drop 4 front; size = size; length = 16 })) done))
-      (accept (box_checked place (record { tag = drop 4 front; size = number Big (take 4 front); length = 8 })) done))
-      (box_content held place))
-      (λ front. by_head Both place front (box_content held place)
-      (grows_field (GoesOn (length d)) d x Big (place + 8) 8
-      (λ size. bind (accept (box_checked place (record { tag = drop 4 front; size = size; length = 16 })) done)
-      (box_content held place))
+      (field Big (offset + 8) 8
+      (λ size. accept (box_checked offset (record { tag = drop 4 front; size = size; length = 16 })) done))
+      (accept (box_checked offset (record { tag = drop 4 front; size = number Big (take 4 front); length = 8 })) done))
+      (box_content held offset))
+      (λ front. by_head Both offset front (box_content held offset)
+      (grows_field (GoesOn (length d)) d x Big (offset + 8) 8
+      (λ size. bind (accept (box_checked offset (record { tag = drop 4 front; size = size; length = 16 })) done)
+      (box_content held offset))
       (λ size.
-      by_checked Both place (record { tag = drop 4 front; size = size; length = 16 }) (box_content held place)
+      by_checked Both offset (record { tag = drop 4 front; size = size; length = 16 }) (box_content held offset)
       (λ e s is. absurd cc)
-      (λ _ sized. content_grows held place (record { tag = drop 4 front; size = size; length = 16 }) sized)))
-      (by_checked Both place (record { tag = drop 4 front; size = number Big (take 4 front); length = 8 })
-      (box_content held place)
-      (λ e s is. absurd cc) (λ _ sized. content_grows held place (record {
+      (λ _ sized. content_grows held offset (record { tag = drop 4 front; size = size; length = 16 }) sized)))
+      (by_checked Both offset (record { tag = drop 4 front; size = number Big (take 4 front); length = 8 })
+      (box_content held offset)
+      (λ e s is. absurd cc) (λ _ sized. content_grows held offset (record {
         tag = drop 4 front;
         size = number Big (take 4 front);
         length = 8;
       }) sized)))
 
 -- A next box that stands behind the end is not there.
-box_gone : (d : List ℕ) (t : Along (List ℕ)) → length d ≤ t.place
+box_gone : (d : List ℕ) (t : Along (List ℕ)) → length d ≤ t.offset
     → uncounted (chain_from jxl_chain d t) ≡ refuses Ended
 box_gone d t gone =
-    let out : uncounted (next_record jxl_chain d t) ≡ refuses Ended = boxes_end (concat t.held) d t.place gone in
+    let out : uncounted (next_record jxl_chain d t) ≡ refuses Ended = boxes_end (concat t.held) d t.offset gone in
     ap uncounted (chain_stop jxl_chain d t (Err Ended) (ap (λ r. verdict r.answer) out)) ∙ ap (with_answer (Err Ended)) out
 
 box_there : (d : List ℕ) (t : Along (List ℕ)) (front : List ℕ) → (chain_from jxl_chain d t).answer ≡ Ok front
     → (within : Bool)
-    → leb t.place (length d) ≡ within → t.place ≤ length d
+    → leb t.offset (length d) ≡ within → t.offset ≤ length d
 box_there d t front is true test = grind (arith, nat_tests)
 box_there d t front is false test =
     let gone = box_gone d t (grind (arith, nat_tests)) in
@@ -200,7 +200,7 @@ box_there d t front is false test =
 decided : (r : Result (Said (List ℕ) (List ℕ)) Halt) (front : List ℕ) → verdict r ≡ Some (Ok front)
     → r ≡ Ok (Decided front)
 decided (Ok (Decided x)) front is = cc
-decided (Ok (Next v place)) front is = absurd cc
+decided (Ok (Next v offset)) front is = absurd cc
 decided (Err e) front is = absurd cc
 
 -- the codestream of the boxes may go on
@@ -209,18 +209,18 @@ boxes_grow : (d x : List ℕ) (t : Along (List ℕ)) (front : List ℕ) → (cha
 unfolding Both
 boxes_grow d x = chain_induction jxl_chain d (λ t. (front : List ℕ) → (chain_from jxl_chain d t).answer ≡ Ok front
     → (more : List ℕ) × ((chain_from jxl_chain (d ++ x) t).answer ≡ Ok (front ++ more))) (jxl_advances d)
-    (λ t v place is later front ok.
-    let u : Along (List ℕ) = record { held = t.held ++ v ∷ []; place = place } in
+    (λ t v offset is later front ok.
+    let u : Along (List ℕ) = record { held = t.held ++ v ∷ []; offset = offset } in
     let next : (chain_from jxl_chain d u).answer ≡ Ok front =
-    sym (ap (λ w. w.answer) (chain_next jxl_chain d t v place (jxl_advances d) is)) ∙ ok in
-    let within = box_there d u front next (leb place (length d)) refl in
-    let here = box_grows d x (concat t.held) t.place (Next v place) is in
-    let same : (next_record jxl_chain (d ++ x) t).answer ≡ Ok (Next v place) = here.1 ∙ ap Ok (here.2 within) in
+    sym (ap (λ w. w.answer) (chain_next jxl_chain d t v offset (jxl_advances d) is)) ∙ ok in
+    let within = box_there d u front next (leb offset (length d)) refl in
+    let here = box_grows d x (concat t.held) t.offset (Next v offset) is in
+    let same : (next_record jxl_chain (d ++ x) t).answer ≡ Ok (Next v offset) = here.1 ∙ ap Ok (here.2 within) in
     let rest = later front next in
-    (rest.0, ap (λ w. w.answer) (chain_next jxl_chain (d ++ x) t v place (jxl_advances (d ++ x)) same) ∙ rest.1))
+    (rest.0, ap (λ w. w.answer) (chain_next jxl_chain (d ++ x) t v offset (jxl_advances (d ++ x)) same) ∙ rest.1))
     (λ t r is front ok.
     let ends : r ≡ Ok front = sym (ap (λ w. w.answer) (chain_stop jxl_chain d t r is)) ∙ ok in
-    let here = box_grows d x (concat t.held) t.place (Decided front) (decided (next_record jxl_chain d t).answer front
+    let here = box_grows d x (concat t.held) t.offset (Decided front) (decided (next_record jxl_chain d t).answer front
     (is ∙ ap Some ends)) in
     let more = here.2 in
     let same : verdict (next_record jxl_chain (d ++ x) t).answer ≡ Some (Ok (front ++ more.0)) =

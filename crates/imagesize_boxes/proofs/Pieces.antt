@@ -12,19 +12,19 @@ use Rattle.imagesize_source.proofs.Reached.{reads_nothing}
 use Rattle.imagesize_boxes.specs.Jxl.{piece_at}
 
 -- no byte is no reading
-pub piece_none : {a : State} (place : ℕ) → IsSound a → Runs a a (Ok []) (layout_reads a.held.input (piece_at place 0))
+pub piece_none : {a : State} (offset : ℕ) → IsSound a → Runs a a (Ok []) (layout_reads a.held.input (piece_at offset 0))
 unfolding piece_at
-piece_none {a} place sound = reads_nothing a (Ok []) sound refl tt
+piece_none {a} offset sound = reads_nothing a (Ok []) sound refl tt
 
 -- bytes that were read
-pub piece_some : {a b : State} {r : Result (List ℕ) Halt} (place k n : ℕ) → k ≢ 0 → n ≡ k
-    → Runs a b r (part_read a.held.input place n) → Runs a b r (layout_reads a.held.input (piece_at place k))
+pub piece_some : {a b : State} {r : Result (List ℕ) Halt} (offset k n : ℕ) → k ≢ 0 → n ≡ k
+    → Runs a b r (part_read a.held.input offset n) → Runs a b r (layout_reads a.held.input (piece_at offset k))
 unfolding piece_at
-piece_some {a} {b} {r} place k n some long h =
+piece_some {a} {b} {r} offset k n some long h =
     let test : eqb k 0 ≡ false = grind (arith, nat_tests) in
-    let reads : layout_reads a.held.input (cond (eqb k 0) (done []) (bytes_there place k (λ piece. done piece)))
-    ≡ part_read a.held.input place k =
-    rw test (ap (just (Ok (part a.held.input place k)))
-    (append-nil (span_of a.held.input place k)))
+    let reads : layout_reads a.held.input (cond (eqb k 0) (done []) (bytes_there offset k (λ piece. done piece)))
+    ≡ part_read a.held.input offset k =
+    rw test (ap (just (Ok (part a.held.input offset k)))
+    (append-nil (span_of a.held.input offset k)))
     in
-    subst (λ w. Runs a b r w) (sym reads) (subst (λ m. Runs a b r (part_read a.held.input place m)) long h)
+    subst (λ w. Runs a b r w) (sym reads) (subst (λ m. Runs a b r (part_read a.held.input offset m)) long h)

@@ -52,8 +52,8 @@ compatible_compression (Some more) =
 
 -- The major brand decides. If it is general, the compatible brands after these twelve bytes do.
 unfoldable pub heif_compression : ℕ → List ℕ → Layout Compression
-heif_compression place head =
-    if is_general (four_at 8 head) then if_there (place + 12) 12 (λ more. done (compatible_compression more))
+heif_compression offset head =
+    if is_general (four_at 8 head) then if_there (offset + 12) 12 (λ more. done (compatible_compression more))
     else done (brand_compression (four_at 8 head))
 
 -- a box begins with its size, which includes these bytes, and its name (ISO/IEC 14496-12, 4.2)
@@ -65,17 +65,17 @@ is_named tag head = bytes_eq (four_at 4 head) tag
 
 -- what a box says in a search for a name: the box is found, or the next one begins after it
 abbrev pub box_searched : List ℕ → ℕ → List ℕ → Layout (Said (Unit {0}) FoundBox)
-box_searched tag place head =
-    if is_named tag head then done (Decided (record { place = place; size = box_size head }))
+box_searched tag offset head =
+    if is_named tag head then done (Decided (record { offset = offset; size = box_size head }))
     else if nat_lt (box_size head) 8 then refuse (InvalidHeifBoxSize (box_size head))
-    else done (Next tt (place + box_size head))
+    else done (Next tt (offset + box_size head))
 
 abbrev pub searched_box : List ℕ → ℕ → Layout (Said (Unit {0}) FoundBox)
-searched_box tag place = begin_record (bytes place 8 (λ head. box_searched tag place head))
+searched_box tag offset = begin_record (bytes offset 8 (λ head. box_searched tag offset head))
 
 -- a search from an offset on, for the first box with this name
 abbrev pub search_for : List ℕ → ℕ → Chain (Unit {0}) FoundBox
-search_for tag place = record { first = place; said = λ passed q. searched_box tag q }
+search_for tag offset = record { first = offset; said = λ passed q. searched_box tag q }
 
 -- the width and the height of an image, after four bytes of version and flags (ISO/IEC 23008-12, 6.5.3)
 unfoldable pub extents_size : List ℕ → ImageSize
@@ -84,20 +84,20 @@ extents_size content = record { width = number Big (four_at 4 content); height =
 -- The property at an offset of the list, or the end of the list. `ispe` and `irot` (ISO/IEC 23008-12, 6.5.10) are
 -- read whatever their size, if it is at least 8. Any other box is skipped if it is smaller than the bytes left.
 abbrev pub property_named : ℕ → ℕ → List ℕ → Layout (Option Property)
-property_named left place head =
+property_named left offset head =
     if nat_lt (box_size head) 8 then (if is_named (codes "mdat") head then done None else refuse Corrupted)
-    else if is_named (codes "ispe") head then bytes (place + 8) 12 (λ content. done (Some (Extents (extents_size content))))
-    else if is_named (codes "irot") head then bytes (place + 8) 1 (λ content. done (Some (Rotation (slice_index content 0))))
+    else if is_named (codes "ispe") head then bytes (offset + 8) 12 (λ content. done (Some (Extents (extents_size content))))
+    else if is_named (codes "irot") head then bytes (offset + 8) 1 (λ content. done (Some (Rotation (slice_index content 0))))
     else if nat_le left (box_size head) then done None
     else done (Some (Skipped (box_size head)))
 
 -- the list ends if the input ends before the eight bytes
 abbrev pub property_found : ℕ → ℕ → Option (List ℕ) → Layout (Option Property)
-property_found left place None = done None
-property_found left place (Some head) = property_named left place head
+property_found left offset None = done None
+property_found left offset (Some head) = property_named left offset head
 
 abbrev pub property_at : ℕ → ℕ → Layout (Option Property)
-property_at left place = begin_record (if_there place 8 (property_found left place))
+property_at left offset = begin_record (if_there offset 8 (property_found left offset))
 
 -- how many bytes after a property the next one begins
 abbrev pub property_bytes : Property → ℕ
@@ -144,24 +144,24 @@ heif_answer (Some size) turn = done (Decided (turn_by turn size))
 
 -- a property, or at the end of the list the result of the properties before
 abbrev pub property_or_answer : List Property → ℕ → Option Property → Layout (Said Property ImageSize)
-property_or_answer held place None = heif_answer (largest_extents (flat_map extents_of held)) (last_or None (flat_map rotations_of held))
-property_or_answer held place (Some property) = done (Next property (place + property_bytes property))
+property_or_answer held offset None = heif_answer (largest_extents (flat_map extents_of held)) (last_or None (flat_map rotations_of held))
+property_or_answer held offset (Some property) = done (Next property (offset + property_bytes property))
 
 -- the properties from an offset on, in a box of `all` bytes (ISO/IEC 23008-12, 9.3)
 abbrev pub properties : ℕ → ℕ → Chain Property ImageSize
-properties all place = record { first = place; said = λ held q. bind (property_at (all - sum_by skipped_bytes held) q) (property_or_answer held q) }
+properties all offset = record { first = offset; said = λ held q. bind (property_at (all - sum_by skipped_bytes held) q) (property_or_answer held q) }
 
 -- `iprp` contains `ipco`, which holds the properties (ISO/IEC 23008-12, 9.3)
 abbrev pub heif_in_iprp : FoundBox → List ℕ → Reads ImageSize
 heif_in_iprp iprp d =
-    and_then (chain_at (search_for (codes "ipco") (iprp.place + 8)) d) (λ ipco.
-    chain_at (properties ipco.size (ipco.place + 8)) d)
+    and_then (chain_at (search_for (codes "ipco") (iprp.offset + 8)) d) (λ ipco.
+    chain_at (properties ipco.size (ipco.offset + 8)) d)
 
 -- `meta` contains `iprp`, after a version and flags (ISO/IEC 14496-12, 8.11.1)
 abbrev pub heif_in_meta : FoundBox → List ℕ → Reads ImageSize
 heif_in_meta meta d =
-    and_then (bytes_read d (meta.place + 8) 4) (λ version.
-    and_then (chain_at (search_for (codes "iprp") (meta.place + 12)) d) (λ iprp.
+    and_then (bytes_read d (meta.offset + 8) 4) (λ version.
+    and_then (chain_at (search_for (codes "iprp") (meta.offset + 12)) d) (λ iprp.
     heif_in_iprp iprp d))
 
 -- `meta` follows the first box

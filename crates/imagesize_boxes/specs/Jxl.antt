@@ -83,21 +83,21 @@ jxl_size front =
 
 -- at most `count` bytes, as many as the input has; no read if `count` is 0
 unfoldable pub piece_at : ℕ → ℕ → Layout (List ℕ)
-piece_at place count = if count == 0 then done [] else bytes_there place count (λ piece. done piece)
+piece_at offset count = if count == 0 then done [] else bytes_there offset count (λ piece. done piece)
 
 -- A box ends at 2^64 - 1 or before, and not within its own head. The size 0 means that the box is open.
 abbrev pub box_checked : ℕ → BoxHead → Result BoxHead Halt
-box_checked place head =
-    if nat_lt (2 ^ 64 - 1) (place + head.size) then Err Corrupted
+box_checked offset head =
+    if nat_lt (2 ^ 64 - 1) (offset + head.size) then Err Corrupted
     else if not (head.size == 0) && nat_lt head.size head.length then Err (InvalidJxlBoxSize head.size (number Big head.tag))
     else Ok head
 
 -- the size and the tag; after a size of 1, eight more bytes hold the size (ISO/IEC 14496-12, section 4.2)
 unfoldable pub box_head : ℕ → Layout BoxHead
-box_head place = bytes place 8 (λ head.
-    if number Big (take 4 head) == 1 then field Big (place + 8) 8
-    (λ size. accept (box_checked place (record { tag = drop 4 head; size = size; length = 16 })) done)
-    else accept (box_checked place (record { tag = drop 4 head; size = number Big (take 4 head); length = 8 })) done)
+box_head offset = bytes offset 8 (λ head.
+    if number Big (take 4 head) == 1 then field Big (offset + 8) 8
+    (λ size. accept (box_checked offset (record { tag = drop 4 head; size = size; length = 16 })) done)
+    else accept (box_checked offset (record { tag = drop 4 head; size = number Big (take 4 head); length = 8 })) done)
 
 -- how many bytes of content a box has; 16 are enough for an open box
 abbrev pub box_room : BoxHead → ℕ
@@ -105,38 +105,38 @@ box_room head = if head.size == 0 then 16 else head.size - head.length
 
 -- what a box with this piece says, after these bytes; an open box is the last
 abbrev pub said_behind : List ℕ → ℕ → BoxHead → List ℕ → Said (List ℕ) (List ℕ)
-said_behind held place head piece = if head.size == 0 then Decided (held ++ piece) else Next piece (place + head.size)
+said_behind held offset head piece = if head.size == 0 then Decided (held ++ piece) else Next piece (offset + head.size)
 
 -- the codestream (box `jxlc`)
 abbrev pub codestream_box : ℕ → BoxHead → Layout (Said (List ℕ) (List ℕ))
-codestream_box place head = bind (piece_at (place + head.length) (min 16 (box_room head))) (λ front. done (Decided front))
+codestream_box offset head = bind (piece_at (offset + head.length) (min 16 (box_room head))) (λ front. done (Decided front))
 
 -- What a piece says. The walk ends if this piece completes sixteen bytes, or if the high bit of its index is set.
 abbrev pub partial_said : List ℕ → ℕ → BoxHead → List ℕ → List ℕ → Said (List ℕ) (List ℕ)
-partial_said held place head index piece = if length held + length piece == 16 || nat_le 0x80 (slice_index index 0) then Decided
-    (held ++ piece) else said_behind held place head piece
+partial_said held offset head index piece = if length held + length piece == 16 || nat_le 0x80 (slice_index index 0) then Decided
+    (held ++ piece) else said_behind held offset head piece
 
 -- a part of the codestream, after its index (box `jxlp`)
 abbrev pub partial_box : List ℕ → ℕ → BoxHead → Layout (Said (List ℕ) (List ℕ))
-partial_box held place head =
+partial_box held offset head =
     if nat_lt (box_room head) 4 then refuse Ended
-    else bytes (place + head.length) 4 (λ index.
-    bind (piece_at (place + (head.length + 4)) (min (box_room head - 4) (16 - length held)))
-    (λ piece. done (partial_said held place head index piece)))
+    else bytes (offset + head.length) 4 (λ index.
+    bind (piece_at (offset + (head.length + 4)) (min (box_room head - 4) (16 - length held)))
+    (λ piece. done (partial_said held offset head index piece)))
 
 abbrev pub box_content : List ℕ → ℕ → BoxHead → Layout (Said (List ℕ) (List ℕ))
-box_content held place head =
-    if begins (codes "jxlc") head.tag then codestream_box place head
-    else if begins (codes "jxlp") head.tag then partial_box held place head
-    else done (said_behind held place head [])
+box_content held offset head =
+    if begins (codes "jxlc") head.tag then codestream_box offset head
+    else if begins (codes "jxlp") head.tag then partial_box held offset head
+    else done (said_behind held offset head [])
 
 -- a box, after boxes that hold these bytes
 abbrev pub jxl_box : List ℕ → ℕ → Layout (Said (List ℕ) (List ℕ))
-jxl_box held place = begin_record (bind (box_head place) (λ head. box_content held place head))
+jxl_box held offset = begin_record (bind (box_head offset) (λ head. box_content held offset head))
 
 -- the boxes after the signature box, each with a piece of the codestream
 abbrev pub jxl_chain : Chain (List ℕ) (List ℕ)
-jxl_chain = record { first = 12; said = λ pieces place. jxl_box (concat pieces) place }
+jxl_chain = record { first = 12; said = λ pieces offset. jxl_box (concat pieces) offset }
 
 -- the first bytes of a codestream without boxes, or `None` if there are boxes
 abbrev pub jxl_start : Layout (Option (List ℕ))

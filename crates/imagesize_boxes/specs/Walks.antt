@@ -16,8 +16,8 @@ use Rattle.imagesize_types.specs.declared.size.ImageSize.{ImageSize}
 
 -- what a property of a HEIF says to the walk along the list
 abbrev pub property_said : ℕ → Option Property → Said Property (Unit {0})
-property_said place None = Decided tt
-property_said place (Some property) = Next property (place + property_bytes property)
+property_said offset None = Decided tt
+property_said offset (Some property) = Next property (offset + property_bytes property)
 
 -- a box that is skipped is smaller than the bytes left
 abbrev pub IsLeftFor : ℕ → Option Property → Type 0
@@ -53,8 +53,8 @@ pub record Amounts (all : ℕ) (g : Gathered) (held : List Property) : Type 0 wh
 
 -- the next box of a JPEG XL is after this offset
 abbrev pub IsFurther : ℕ → Said (List ℕ) (List ℕ) → Type 0
-IsFurther place (Decided front) = Unit {0}
-IsFurther place (Next piece next) = place < next
+IsFurther offset (Decided front) = Unit {0}
+IsFurther offset (Next piece next) = offset < next
 
 -- the piece fits after these bytes
 abbrev pub FitsBehind : List ℕ → Said (List ℕ) (List ℕ) → Type 0
@@ -62,8 +62,8 @@ FitsBehind held (Decided front) = Unit {0}
 FitsBehind held (Next piece next) = length held + length piece ≤ 16
 
 -- The head of a box at this offset passed its checks.
-pub record IsHead (place : ℕ) (head : BoxHead) : Type 0 where
-  pub within : place + head.size < 2 ^ 64
+pub record IsHead (offset : ℕ) (head : BoxHead) : Type 0 where
+  pub within : offset + head.size < 2 ^ 64
   pub whole : 0 < head.size → head.length ≤ head.size
   pub short : head.length ≤ 16
 

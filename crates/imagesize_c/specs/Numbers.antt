@@ -19,7 +19,7 @@ type_number image = 1 + type_rank image
 
 -- the number of the compression at a position: 1 for the unknown one, else a base plus the position
 abbrev pub numbered_from : ℕ → ℕ → ℕ → ℕ
-numbered_from base unknown place = if place == unknown then 1 else base + place
+numbered_from base unknown offset = if offset == unknown then 1 else base + offset
 
 -- the number of a type's compression, or 0 if the type has none
 abbrev pub compression_number : ImageType → ℕ

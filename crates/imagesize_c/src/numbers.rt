@@ -11,7 +11,7 @@ use imagesize::{
 pub fn type_number(image: ImageType) -> u32
     ensures { result ≡ type_number image }
 {
-    1 + image.place()
+    1 + image.position()
 }
 
 /// The number of a type's compression, or 0 if it has none.

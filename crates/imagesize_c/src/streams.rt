@@ -89,7 +89,7 @@ pub unsafe extern "C" fn imagesize_stream_finish(
     // More bytes are never requested. A size that is not found does not change.
     ensures ends { is_wanted result ≡ false }
     ensures sides { is_answered result ≡ false → (width.new ≡ width.old) × (height.new ≡ height.old) }
-    ensures* room { sem 𝓛 (room_at the_row stream) }
+    ensures* buffer { sem 𝓛 (room_at the_row stream) }
 {
     finish(std::ptr::read(stream), number, compression, width, height)
 }

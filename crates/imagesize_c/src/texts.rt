@@ -67,13 +67,13 @@ pub extern "C" fn imagesize_status_text(status: u32, text: &mut [u8], length: &m
 }
 
 // Writes a text to the front of a buffer if it fits, and its length in either case.
-fn lend(text: &str, room: &mut [u8], length: &mut usize) -> u32
-    ensures { Lends text.now room.old room.new length.new result }
+fn lend(text: &str, buffer: &mut [u8], length: &mut usize) -> u32
+    ensures { Lends text.now buffer.old buffer.new length.new result }
 {
     *length = text.len();
-    if text.len() > room.len() {
+    if text.len() > buffer.len() {
         return BUFFER_TOO_SMALL;
     }
-    room[..text.len()].copy_from_slice(text.as_bytes());
+    buffer[..text.len()].copy_from_slice(text.as_bytes());
     ANSWERED
 }

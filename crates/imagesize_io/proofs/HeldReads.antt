@@ -28,19 +28,19 @@ use Rattle.imagesize_io.proofs.Layers.{reads_past}
 use Rattle.imagesize_source.proofs.Parts.{part_length}
 
 -- so many bytes of a text were copied, and none of them ends it
-pub record Copied (t : Text) (begun : Bool) (index : ℕ) (bytes room : List ℕ) : Type 0 where
-  pub same : take index room ≡ take index bytes
+pub record Copied (t : Text) (begun : Bool) (index : ℕ) (bytes buffer : List ℕ) : Type 0 where
+  pub same : take index buffer ≡ take index bytes
   pub front : (more : List ℕ) → text_front t (take index bytes ++ more) ≡ take index bytes ++ text_rest t begun more
 
-pub copied_none : (t : Text) (bytes room : List ℕ) → Copied t false 0 bytes room
-copied_none t bytes room = record { same = refl; front = λ more. rest_start t more }
+pub copied_none : (t : Text) (bytes buffer : List ℕ) → Copied t false 0 bytes buffer
+copied_none t bytes buffer = record { same = refl; front = λ more. rest_start t more }
 
-module _ {t : Text} {begun : Bool} {index : ℕ} {bytes room : List ℕ} (h : Copied t begun index bytes room)
+module _ {t : Text} {begun : Bool} {index : ℕ} {bytes buffer : List ℕ} (h : Copied t begun index bytes buffer)
     (here : index < length bytes)
-    (fits : index < length room) where
+    (fits : index < length buffer) where
   -- one byte more
-  pub copied_same : take (index + 1) (slice_set room index (slice_index bytes index)) ≡ take (index + 1) bytes
-  copied_same = take_more_set room index (slice_index bytes index) fits
+  pub copied_same : take (index + 1) (slice_set buffer index (slice_index bytes index)) ≡ take (index + 1) bytes
+  copied_same = take_more_set buffer index (slice_index bytes index) fits
       ∙ ap (λ bs. bs ++ slice_index bytes index ∷ []) h.same ∙ sym (take_more bytes index 0 here)
 
   front_next : (more : List ℕ) → text_front t (take (index + 1) bytes ++ more) ≡ take index bytes ++ text_rest t begun
@@ -52,7 +52,7 @@ module _ {t : Text} {begun : Bool} {index : ℕ} {bytes room : List ℕ} (h : Co
   -- that does not end it
   pub copied_more : (is_end white : Bool) → is_end ≡ ends t begun (slice_index bytes index) → is_end ≡ false
       → white ≡ is_ascii_whitespace (slice_index bytes index)
-      → Copied t (begun || not white) (index + 1) bytes (slice_set room index (slice_index bytes index))
+      → Copied t (begun || not white) (index + 1) bytes (slice_set buffer index (slice_index bytes index))
   copied_more is_end white end_is goes_on white_is = record {
     same = copied_same;
     front = λ more. front_next more
@@ -64,7 +64,7 @@ module _ {t : Text} {begun : Bool} {index : ℕ} {bytes room : List ℕ} (h : Co
 
   -- that ends it
   pub copied_whole : (is_end : Bool) → is_end ≡ ends t begun (slice_index bytes index) → is_end ≡ true
-      → IsWhole t (take (index + 1) (slice_set room index (slice_index bytes index)))
+      → IsWhole t (take (index + 1) (slice_set buffer index (slice_index bytes index)))
   copied_whole is_end end_is ends_here = subst (IsWhole t) (sym copied_same)
       (λ more. front_next more
       ∙ ap (λ bs. take index bytes ++ bs) (rest_ends t begun (slice_index bytes index) more (sym end_is ∙ ends_here))
@@ -80,58 +80,58 @@ whole_some t bs whole = by_length bs refl where
   by_length (c ∷ cs) is = omega (arith, ap length is)
 
 -- what a reader gave as a read, with its interruptions hidden
-steady_if : (b : Bool) (s : Standing) (room : List ℕ) (n : ℕ) → take n room ≡ part s.bytes s.place n
-    → n ≤ length s.bytes - s.place
-    → (0 < length room → s.place < length s.bytes → 0 < n)
-    → GivesSome (cond b (Some s) None) (cond b (Some (advance_standing s n)) None) room (Ok n)
-steady_if true s room n gave few some = (refl, gave, few, some)
-steady_if false s room n gave few some = tt
+steady_if : (b : Bool) (s : Standing) (buffer : List ℕ) (n : ℕ) → take n buffer ≡ part s.bytes s.offset n
+    → n ≤ length s.bytes - s.offset
+    → (0 < length buffer → s.offset < length s.bytes → 0 < n)
+    → GivesSome (cond b (Some s) None) (cond b (Some (advance_standing s n)) None) buffer (Ok n)
+steady_if true s buffer n gave few some = (refl, gave, few, some)
+steady_if false s buffer n gave few some = tt
 
-steady_gives : (telling telling' : Option Telling) (retries : ℕ) (room : List ℕ) (n : ℕ)
-    → ReadTells telling telling' room (Ok n)
-    → GivesSome (steady telling retries) (steady telling' retries) room (Ok n)
-steady_gives None telling' retries room n gave = tt
-steady_gives (Some t) telling' retries room n gave =
-    subst (λ u. GivesSome (steady (Some t) retries) (steady u retries) room (Ok n)) (sym gave.0)
+steady_gives : (telling telling' : Option Telling) (retries : ℕ) (buffer : List ℕ) (n : ℕ)
+    → ReadTells telling telling' buffer (Ok n)
+    → GivesSome (steady telling retries) (steady telling' retries) buffer (Ok n)
+steady_gives None telling' retries buffer n gave = tt
+steady_gives (Some t) telling' retries buffer n gave =
+    subst (λ u. GivesSome (steady (Some t) retries) (steady u retries) buffer (Ok n)) (sym gave.0)
     (steady_if (t.can_fail || leb (t.interruptions + retries) 64)
-    (record { bytes = t.bytes; place = t.place; can_fail = t.can_fail })
-    room n gave.1 gave.2 gave.3)
+    (record { bytes = t.bytes; offset = t.offset; can_fail = t.can_fail })
+    buffer n gave.1 gave.2 gave.3)
 
-stands_if : (told place place' n : ℕ) (fault : Option Error) (s : Standing) (room : List ℕ) (b : Bool)
-    → in_step told place fault s ≡ b → 0 < n
-    → take n room ≡ part s.bytes s.place n → n ≤ length s.bytes - s.place → n ≤ length room
-    → place' ≡ min (place + n) (2 ^ 64 - 1)
-    → GivesFrom (cond b (Some s) None) (stand_of told place' fault (Some (advance_standing s n))) place place'
-    (take n room) (Ok n)
-stands_if told place place' n fault s room false step some gave few fits now = tt
-stands_if told place place' n fault s room true step some gave few fits now =
-    let at : place ≡ s.place = grind (arith, nat_tests) in
+stands_if : (told offset offset' n : ℕ) (fault : Option Error) (s : Standing) (buffer : List ℕ) (b : Bool)
+    → in_step told offset fault s ≡ b → 0 < n
+    → take n buffer ≡ part s.bytes s.offset n → n ≤ length s.bytes - s.offset → n ≤ length buffer
+    → offset' ≡ min (offset + n) (2 ^ 64 - 1)
+    → GivesFrom (cond b (Some s) None) (stand_of told offset' fault (Some (advance_standing s n))) offset offset'
+    (take n buffer) (Ok n)
+stands_if told offset offset' n fault s buffer false step some gave few fits now = tt
+stands_if told offset offset' n fault s buffer true step some gave few fits now =
+    let at : offset ≡ s.offset = grind (arith, nat_tests) in
     let long : told ≡ length s.bytes = grind (arith, nat_tests) in
     let short : length s.bytes < 2 ^ 63 = grind (arith, nat_tests) in
-    let there : place' ≡ s.place + n = omega (arith, now, at, few, short, some) in
+    let there : offset' ≡ s.offset + n = omega (arith, now, at, few, short, some) in
     let calm : is_none fault ≡ true = grind (arith, nat_tests) in
-    let step' : in_step told place' fault (advance_standing s n) ≡ true =
+    let step' : in_step told offset' fault (advance_standing s n) ≡ true =
     grind (arith, nat_tests, there, long, short, calm) in (
-      ap (λ b. cond b (Some (advance_standing s n)) None) step' ∙ ap (λ p. Some (record s { place = p })) (sym there),
-      take-take n n room (omega arith) ∙ gave ∙ ap (λ p. part s.bytes p n) (sym at),
-      omega (arith, length-take n room, fits, few, at),
+      ap (λ b. cond b (Some (advance_standing s n)) None) step' ∙ ap (λ p. Some (record s { offset = p })) (sym there),
+      take-take n n buffer (omega arith) ∙ gave ∙ ap (λ p. part s.bytes p n) (sym at),
+      omega (arith, length-take n buffer, fits, few, at),
     )
 
-stands_gives : (told place place' n : ℕ) (fault : Option Error) (st st' : Option Standing) (room : List ℕ)
-    → GivesSome st st' room (Ok n) → 0 < n → n ≤ length room
-    → place' ≡ min (place + n) (2 ^ 64 - 1)
-    → GivesFrom (stand_of told place fault st) (stand_of told place' fault st') place place' (take n room) (Ok n)
-stands_gives told place place' n fault None st' room gave some fits now = tt
-stands_gives told place place' n fault (Some s) st' room gave some fits now =
-    subst (λ u. GivesFrom (stand_of told place fault (Some s)) (stand_of told place' fault u) place place' (take n room)
+stands_gives : (told offset offset' n : ℕ) (fault : Option Error) (st st' : Option Standing) (buffer : List ℕ)
+    → GivesSome st st' buffer (Ok n) → 0 < n → n ≤ length buffer
+    → offset' ≡ min (offset + n) (2 ^ 64 - 1)
+    → GivesFrom (stand_of told offset fault st) (stand_of told offset' fault st') offset offset' (take n buffer) (Ok n)
+stands_gives told offset offset' n fault None st' buffer gave some fits now = tt
+stands_gives told offset offset' n fault (Some s) st' buffer gave some fits now =
+    subst (λ u. GivesFrom (stand_of told offset fault (Some s)) (stand_of told offset' fault u) offset offset' (take n buffer)
     (Ok n)) (sym gave.0)
-    (stands_if told place place' n fault s room (in_step told place fault s) refl some gave.1 gave.2 fits now)
+    (stands_if told offset offset' n fault s buffer (in_step told offset fault s) refl some gave.1 gave.2 fits now)
 
-within_given : (st st' : Option Standing) (place now n taken taken' : ℕ) (room : List ℕ)
-    → GivesFrom st st' place now room (Ok n)
-    → taken' ≡ taken + n → IfSome st (λ s. taken' ≤ taken + min (length room) (length s.bytes - place))
-within_given None st' place now n taken taken' room gave took = tt
-within_given (Some s) st' place now n taken taken' room gave took = omega (arith, gave.2, took)
+within_given : (st st' : Option Standing) (offset now n taken taken' : ℕ) (buffer : List ℕ)
+    → GivesFrom st st' offset now buffer (Ok n)
+    → taken' ≡ taken + n → IfSome st (λ s. taken' ≤ taken + min (length buffer) (length s.bytes - offset))
+within_given None st' offset now n taken taken' buffer gave took = tt
+within_given (Some s) st' offset now n taken taken' buffer gave took = omega (arith, gave.2, took)
 
 since_given : (count count' : Option ℕ) (taken taken' n : ℕ) → count' ≡ count_after {E = Stop} count (Ok n)
     → taken' ≡ taken + n
@@ -142,28 +142,28 @@ since_given (Some c) count' taken taken' n is took =
     let below : taken' - (c + n) ≡ taken - c = omega (arith, took) in
     rw (is, above, below) refl
 
-not_kept : (w bytes : List ℕ) (place : ℕ) → length w < place → w ≡ kept_window w place bytes
-not_kept w bytes place far =
-    let off : eqb place (length w) ≡ false = grind (arith, nat_tests) in
+not_kept : (w bytes : List ℕ) (offset : ℕ) → length w < offset → w ≡ kept_window w offset bytes
+not_kept w bytes offset far =
+    let off : eqb offset (length w) ≡ false = grind (arith, nat_tests) in
     rw off refl
 
 -- A text that the reader held is a reading of as many bytes from where it stands.
-pub held_reads : {old new : Ledger} {a b : Account} {place n : ℕ} (room : List ℕ) (t : Text)
-    → ReadTells a.telling b.telling room (Ok n) → b.count ≡ count_after {E = Stop} a.count (Ok n) → n ≤ length room
-    → IsWhole t (take n room)
-    → old.progress.place ≡ place → place ≤ old.progress.told → length old.window.items < place
+pub held_reads : {old new : Ledger} {a b : Account} {offset n : ℕ} (buffer : List ℕ) (t : Text)
+    → ReadTells a.telling b.telling buffer (Ok n) → b.count ≡ count_after {E = Stop} a.count (Ok n) → n ≤ length buffer
+    → IsWhole t (take n buffer)
+    → old.progress.offset ≡ offset → offset ≤ old.progress.told → length old.window.items < offset
     → length old.window.items ≤ 32
     → new.window ≡ old.window → new.progress.told ≡ old.progress.told → new.progress.budget ≡ old.progress.budget
     → new.progress.retries ≡ old.progress.retries → new.progress.fault ≡ old.progress.fault
     → new.progress.taken ≡ old.progress.taken + n
-    → new.progress.place ≡ min (place + n) (2 ^ 64 - 1) → new.progress.taken ≤ old.progress.budget
-    → ReadsAt old new a b place (take n room) (Ok n)
-held_reads {old} {new} {a} {b} {place} {n} room t gave counts fits whole at near far small same told budget retries calm
+    → new.progress.offset ≡ min (offset + n) (2 ^ 64 - 1) → new.progress.taken ≤ old.progress.budget
+    → ReadsAt old new a b offset (take n buffer) (Ok n)
+held_reads {old} {new} {a} {b} {offset} {n} buffer t gave counts fits whole at near far small same told budget retries calm
     taken now limit =
     let p : Progress = old.progress in
     let q : Progress = new.progress in
-    let long : length (take n room) ≡ n = omega (arith, length-take n room, fits) in
-    let some = whole_some t (take n room) whole in
+    let long : length (take n buffer) ≡ n = omega (arith, length-take n buffer, fits) in
+    let some = whole_some t (take n buffer) whole in
     let many : 0 < n = omega (arith, some, long) in
     let since = since_given a.count b.count p.taken q.taken n counts taken in
     let keeps : KeepsCounts p q = record {
@@ -173,64 +173,64 @@ held_reads {old} {new} {a} {b} {place} {n} room t gave counts fits whole at near
       retries = omega (arith, retries);
       limit = λ few. omega (arith, few, retries);
     } in
-    let first = stands_gives p.told p.place q.place n p.fault (steady a.telling p.retries)
-    (steady b.telling p.retries) room
-    (steady_gives a.telling b.telling p.retries room n gave) many fits
+    let first = stands_gives p.told p.offset q.offset n p.fault (steady a.telling p.retries)
+    (steady b.telling p.retries) buffer
+    (steady_gives a.telling b.telling p.retries buffer n gave) many fits
     (now ∙ ap (λ k. min (k + n) (2 ^ 64 - 1)) (sym at)) in
-    let gives : GivesFrom (stand a.telling p) (stand b.telling q) place q.place (take n room) (Ok n) =
+    let gives : GivesFrom (stand a.telling p) (stand b.telling q) offset q.offset (take n buffer) (Ok n) =
     rw (retries, told, calm)
-    (subst (λ k. GivesFrom (stand a.telling p) (stand_of p.told q.place p.fault (steady b.telling p.retries)) k
-    q.place (take n room) (Ok n)) at first) in
-    let read : ReadsFrom p q (stand a.telling p) (stand b.telling q) a b place (take n room) (Ok n) = record {
+    (subst (λ k. GivesFrom (stand a.telling p) (stand_of p.told q.offset p.fault (steady b.telling p.retries)) k
+    q.offset (take n buffer) (Ok n)) at first) in
+    let read : ReadsFrom p q (stand a.telling p) (stand b.telling q) a b offset (take n buffer) (Ok n) = record {
       bound = omega (arith, long);
       stand = gives;
       stands = λ told. now;
       taken = taken;
-      within = within_given (stand a.telling p) (stand b.telling q) place q.place n p.taken q.taken
-          (take n room) gives taken;
+      within = within_given (stand a.telling p) (stand b.telling q) offset q.offset n p.taken q.taken
+          (take n buffer) gives taken;
       pays = λ beyond some. absurd (omega (arith, near, beyond));
       since = since;
-      behind = rw (retries, told, calm) (behind_given p.told p.retries p.fault a.telling b.telling room n gave);
+      behind = rw (retries, told, calm) (behind_given p.told p.retries p.fault a.telling b.telling buffer n gave);
       calm = calm;
       keeps = keeps;
       stops = tt;
     } in
     reads_past small (omega (arith, far)) (omega (arith, long, many)) read
-    (ap (λ w. w.items) same ∙ not_kept old.window.items (take n (take n room)) place far) limit
+    (ap (λ w. w.items) same ∙ not_kept old.window.items (take n (take n buffer)) offset far) limit
 
 -- and what byte by byte would be read
-pub held_text : {a c : State} (t : Text) (place n : ℕ) (room : List ℕ) → IsWhole t (take n room) → n ≤ length room
-    → Runs a c (Ok (take n (take n room))) (part_read a.held.input place (length (take n room)))
-    → Runs a c (Ok (take n room)) (text_read a.held.input t place (length room))
+pub held_text : {a c : State} (t : Text) (offset n : ℕ) (buffer : List ℕ) → IsWhole t (take n buffer) → n ≤ length buffer
+    → Runs a c (Ok (take n (take n buffer))) (part_read a.held.input offset (length (take n buffer)))
+    → Runs a c (Ok (take n buffer)) (text_read a.held.input t offset (length buffer))
 unfolding text_part
-held_text {a} {c} t place n room whole fits runs =
-    let once : take n (take n room) ≡ take n room = take-take n n room (omega arith) in
-    let long : length (take n room) ≡ n = omega (arith, length-take n room, fits) in
-    let run : Runs a c (Ok (take n room)) (part_read a.held.input place n) =
-    subst (λ k. Runs a c (Ok (take n room)) (part_read a.held.input place k)) long
-    (subst (λ bs. Runs a c (Ok bs) (part_read a.held.input place (length (take n room)))) once runs) in
-    took_text t (length room) (record {
+held_text {a} {c} t offset n buffer whole fits runs =
+    let once : take n (take n buffer) ≡ take n buffer = take-take n n buffer (omega arith) in
+    let long : length (take n buffer) ≡ n = omega (arith, length-take n buffer, fits) in
+    let run : Runs a c (Ok (take n buffer)) (part_read a.held.input offset n) =
+    subst (λ k. Runs a c (Ok (take n buffer)) (part_read a.held.input offset k)) long
+    (subst (λ bs. Runs a c (Ok bs) (part_read a.held.input offset (length (take n buffer)))) once runs) in
+    took_text t (length buffer) (record {
       long = long;
       sound = run.sound_after;
       frame = run.frame;
       taken = run.taken;
-      within = λ honest. omega (arith, run.within honest, total-span_of a.held.input place n);
-      state = λ honest. run.state honest refl ∙ ap (state_after a) (whole_span a.held.input place n (there run honest));
+      within = λ honest. omega (arith, run.within honest, total-span_of a.held.input offset n);
+      state = λ honest. run.state honest refl ∙ ap (state_after a) (whole_span a.held.input offset n (there run honest));
     }) run.sound (is_text run) where
-      read : Runs a c (Ok (take n room)) (part_read a.held.input place n) → a.held.honest ≡ true
-          → part a.held.input place n ≡ take n room
+      read : Runs a c (Ok (take n buffer)) (part_read a.held.input offset n) → a.held.honest ≡ true
+          → part a.held.input offset n ≡ take n buffer
       read run honest = part_is (run.answer honest refl)
 
-      there : Runs a c (Ok (take n room)) (part_read a.held.input place n) → a.held.honest ≡ true
-          → n ≤ length a.held.input - place
+      there : Runs a c (Ok (take n buffer)) (part_read a.held.input offset n) → a.held.honest ≡ true
+          → n ≤ length a.held.input - offset
       there run honest = omega
-          (arith, part_length a.held.input place n, ap length (read run honest), length-take n room, fits)
+          (arith, part_length a.held.input offset n, ap length (read run honest), length-take n buffer, fits)
 
-      is_text : Runs a c (Ok (take n room)) (part_read a.held.input place n) → a.held.honest ≡ true
-          → text_part a.held.input t place (length room) ≡ take n room
+      is_text : Runs a c (Ok (take n buffer)) (part_read a.held.input offset n) → a.held.honest ≡ true
+          → text_part a.held.input t offset (length buffer) ≡ take n buffer
       is_text run honest =
-          let split : n + (length room - n) ≡ length room = omega (arith, fits) in
-          ap (λ k. text_front t (part a.held.input place k)) (sym split)
-          ∙ ap (text_front t) (sym (part-add a.held.input place n (length room - n)))
-          ∙ ap (λ bs. text_front t (bs ++ part a.held.input (place + n) (length room - n))) (read run honest)
-          ∙ whole (part a.held.input (place + n) (length room - n))
+          let split : n + (length buffer - n) ≡ length buffer = omega (arith, fits) in
+          ap (λ k. text_front t (part a.held.input offset k)) (sym split)
+          ∙ ap (text_front t) (sym (part-add a.held.input offset n (length buffer - n)))
+          ∙ ap (λ bs. text_front t (bs ++ part a.held.input (offset + n) (length buffer - n))) (read run honest)
+          ∙ whole (part a.held.input (offset + n) (length buffer - n))

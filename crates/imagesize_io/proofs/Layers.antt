@@ -12,19 +12,19 @@ use Rattle.imagesize_io.proofs.Windows.{behind_window, behind_stopped, ended_by,
 use borrow.Rule.Slice.PartMut.{put_mid}
 
 -- what a reading copied out of the window, and how much the reader is asked for behind it
-pub record Copies (window room old more : List ℕ) (place copied : ℕ) : Type 0 where
+pub record Copies (window buffer old more : List ℕ) (offset copied : ℕ) : Type 0 where
   pub small : length window ≤ 32
-  pub count : copied ≡ min (length old) (length window - place)
-  pub front : room ≡ part window place (length old) ++ drop copied old
-  pub kept : length room ≡ length old
-  pub short : copied < length room
-  pub long : length more ≡ length room - copied
+  pub count : copied ≡ min (length old) (length window - offset)
+  pub front : buffer ≡ part window offset (length old) ++ drop copied old
+  pub kept : length buffer ≡ length old
+  pub short : copied < length buffer
+  pub long : length more ≡ length buffer - copied
 
 -- a reading of which not all was copied
-pub some_copied : {window room old more : List ℕ} {place copied : ℕ} → length window ≤ 32
-    → copied ≡ min (length old) (length window - place)
-    → room ≡ part window place (length old) ++ drop copied old → length room ≡ length old → copied ≢ length room
-    → length more ≡ length room - copied → Copies window room old more place copied
+pub some_copied : {window buffer old more : List ℕ} {offset copied : ℕ} → length window ≤ 32
+    → copied ≡ min (length old) (length window - offset)
+    → buffer ≡ part window offset (length old) ++ drop copied old → length buffer ≡ length old → copied ≢ length buffer
+    → length more ≡ length buffer - copied → Copies window buffer old more offset copied
 some_copied small count front kept other long = record {
   small = small;
   count = count;
@@ -35,12 +35,12 @@ some_copied small count front kept other long = record {
 }
 
 -- of a reading behind the window nothing is copied
-none_copied : {window more : List ℕ} {place : ℕ} → length window ≤ 32 → length window ≤ place → 0 < length more
-    → Copies window more more more place 0
-none_copied {window} {more} {place} small behind some = record {
+none_copied : {window more : List ℕ} {offset : ℕ} → length window ≤ 32 → length window ≤ offset → 0 < length more
+    → Copies window more more more offset 0
+none_copied {window} {more} {offset} small behind some = record {
   small = small;
   count = omega (arith, behind);
-  front = none_in window more place (length more) behind;
+  front = none_in window more offset (length more) behind;
   kept = refl;
   short = some;
   long = omega arith;
@@ -48,17 +48,17 @@ none_copied {window} {more} {place} small behind some = record {
 
 module _ {old new : Ledger} {a b : Account} where
   -- What follows the window came from the reader.
-  pub reads_behind : {place copied n : ℕ} {room before more : List ℕ}
-      → Copies old.window.items room before more place copied
+  pub reads_behind : {offset copied n : ℕ} {buffer before more : List ℕ}
+      → Copies old.window.items buffer before more offset copied
       → ReadsFrom old.progress new.progress (stand a.telling old.progress) (stand b.telling new.progress) a b
-      (place + copied) more
-      (Ok n) → new.window.items ≡ kept_window old.window.items (place + copied) (take n more)
+      (offset + copied) more
+      (Ok n) → new.window.items ≡ kept_window old.window.items (offset + copied) (take n more)
       → new.progress.taken ≤ old.progress.budget
-      → ReadsAt old new a b place (put_mid copied (length room - copied) room more) (Ok (copied + n))
-  reads_behind {place} {copied} {n} {room} {before} {more} copy read window limit = record {
+      → ReadsAt old new a b offset (put_mid copied (length buffer - copied) buffer more) (Ok (copied + n))
+  reads_behind {offset} {copied} {n} {buffer} {before} {more} copy read window limit = record {
     bound = omega (
       arith,
-      length-put room more copied
+      length-put buffer more copied
           (omega (arith, copy.short)) copy.long,
       read.bound,
       copy.long,
@@ -90,20 +90,20 @@ module _ {old new : Ledger} {a b : Account} where
   }
 
   -- The reader was stopped.
-  pub stops_behind : {place copied : ℕ} {room before more : List ℕ} {halt : Halt} {r : Result ℕ Halt}
-      → Copies old.window.items room before more place copied
+  pub stops_behind : {offset copied : ℕ} {buffer before more : List ℕ} {halt : Halt} {r : Result ℕ Halt}
+      → Copies old.window.items buffer before more offset copied
       → ReadsFrom old.progress new.progress (stand a.telling old.progress) (stand b.telling new.progress) a b
-      (place + copied) more
+      (offset + copied) more
       (Err halt) → new.window.items ≡ old.window.items → r ≡ Err halt
-      → ReadsAt old new a b place (put_mid copied (length room - copied) room more)
+      → ReadsAt old new a b offset (put_mid copied (length buffer - copied) buffer more)
       r
-  stops_behind {place} {copied} {room} {before} {more} {halt} {r} copy read same is =
-      subst (λ q. ReadsAt old new a b place (put_mid copied (length room - copied) room more)
+  stops_behind {offset} {copied} {buffer} {before} {more} {halt} {r} copy read same is =
+      subst (λ q. ReadsAt old new a b offset (put_mid copied (length buffer - copied) buffer more)
       q) (sym is) (record {
         bound = tt;
         pays = tt;
         keeps = read.keeps;
-        runs = λ home. behind_stopped (λ n. take n (put_mid copied (length room - copied) room more)) (Err halt)
+        runs = λ home. behind_stopped (λ n. take n (put_mid copied (length buffer - copied) buffer more)) (Err halt)
             (record {
               told = told_by a home old.progress;
               told_after = told_by b home new.progress;
@@ -121,26 +121,26 @@ module _ {old new : Ledger} {a b : Account} where
       })
 
   -- a reading behind the window
-  pub reads_past : {place n : ℕ} {more : List ℕ} → length old.window.items ≤ 32 → length old.window.items ≤ place
+  pub reads_past : {offset n : ℕ} {more : List ℕ} → length old.window.items ≤ 32 → length old.window.items ≤ offset
       → 0 < length more
-      → ReadsFrom old.progress new.progress (stand a.telling old.progress) (stand b.telling new.progress) a b place more
+      → ReadsFrom old.progress new.progress (stand a.telling old.progress) (stand b.telling new.progress) a b offset more
       (Ok n)
-      → new.window.items ≡ kept_window old.window.items place (take n more) → new.progress.taken ≤ old.progress.budget
-      → ReadsAt old new a b place more (Ok n)
-  reads_past {place} {n} {more} small behind some read window limit =
-      let here : place + 0 ≡ place = omega arith in
+      → new.window.items ≡ kept_window old.window.items offset (take n more) → new.progress.taken ≤ old.progress.budget
+      → ReadsAt old new a b offset more (Ok n)
+  reads_past {offset} {n} {more} small behind some read window limit =
+      let here : offset + 0 ≡ offset = omega arith in
       let sum : 0 + n ≡ n = omega arith in
-      subst (λ m. ReadsAt old new a b place more (Ok m)) sum
-      (subst (λ l. ReadsAt old new a b place l (Ok (0 + n))) (put_whole more)
+      subst (λ m. ReadsAt old new a b offset more (Ok m)) sum
+      (subst (λ l. ReadsAt old new a b offset l (Ok (0 + n))) (put_whole more)
       (reads_behind (none_copied small behind some) (rw here read) (rw here window) limit))
 
   -- and one that was stopped
-  pub stops_past : {place : ℕ} {more : List ℕ} {halt : Halt} {r : Result ℕ Halt} → length old.window.items ≤ 32
-      → length old.window.items ≤ place → 0 < length more
-      → ReadsFrom old.progress new.progress (stand a.telling old.progress) (stand b.telling new.progress) a b place more
+  pub stops_past : {offset : ℕ} {more : List ℕ} {halt : Halt} {r : Result ℕ Halt} → length old.window.items ≤ 32
+      → length old.window.items ≤ offset → 0 < length more
+      → ReadsFrom old.progress new.progress (stand a.telling old.progress) (stand b.telling new.progress) a b offset more
       (Err halt) → new.window.items ≡ old.window.items → r ≡ Err halt
-      → ReadsAt old new a b place more r
-  stops_past {place} {more} {halt} {r} small behind some read same is =
-      let here : place + 0 ≡ place = omega arith in
-      subst (λ l. ReadsAt old new a b place l r) (put_whole more)
+      → ReadsAt old new a b offset more r
+  stops_past {offset} {more} {halt} {r} small behind some read same is =
+      let here : offset + 0 ≡ offset = omega arith in
+      subst (λ l. ReadsAt old new a b offset l r) (put_whole more)
       (stops_behind (none_copied small behind some) (rw here read) same is)

@@ -16,8 +16,8 @@ use Rattle.imagesize_io.specs.StopOf.{fault_of, last_failed}
 use Rattle.imagesize_source.specs.Reading.{Reads, is_failure, is_stop, is_stopped, is_spent}
 use Rattle.imagesize_io.specs.ReaderState.{start_state, Opens}
 use Rattle.imagesize_source.specs.State.{Behind, EndedBy, State, Held, Runs, state_after, total}
-use Rattle.imagesize_io.specs.Telling.{Telling, IsHonest, at_place}
-use Rattle.imagesize_source.proofs.Counts.{places_past}
+use Rattle.imagesize_io.specs.Telling.{Telling, IsHonest, at_offset}
+use Rattle.imagesize_source.proofs.Counts.{offsets_past}
 
 few_leb : (n : ℕ) → n ≤ 64 → leb (n + 0) 64 ≡ true
 few_leb n h = grind (arith, nat_tests)
@@ -46,7 +46,7 @@ abbrev pub claim : Telling → Held
 claim t = record { honest = true; input = t.bytes; can_fail = t.can_fail }
 
 pub start_holds : (t : Telling) (count : Option ℕ) (home : ℕ) → IsHonest t
-    → (start_state (Some (at_place t (length t.bytes))) count home (length t.bytes)).held ≡ claim t
+    → (start_state (Some (at_offset t (length t.bytes))) count home (length t.bytes)).held ≡ claim t
 start_holds t count home honest =
     let n = length t.bytes in
     let waits : (t.can_fail || leb (t.interruptions + 0) 64) ≡ true = patient t t.can_fail refl honest.patient in
@@ -149,11 +149,11 @@ takes_of {X} t a b r reads starts h told =
       least = λ goes_on.
           let runs_on = error_goes_on b r told (h.ended) goes_on in
           let after : b.taken ≡ (state_after a reads.marks).taken = ap (λ s. s.taken) (h.state honest runs_on) in
-          omega (arith, after, places_past (length t.bytes) a reads.marks starts.counts starts.front, starts.taken);
+          omega (arith, after, offsets_past (length t.bytes) a reads.marks starts.counts starts.front, starts.taken);
     }
 
 starts_at : (t : Telling) (count : Option ℕ) (home : ℕ) → IsHonest t
-    → Starts t (start_state (Some (at_place t (length t.bytes))) count home (length t.bytes))
+    → Starts t (start_state (Some (at_offset t (length t.bytes))) count home (length t.bytes))
 starts_at t count home honest = record {
   held = start_holds t count home honest;
   budget = least_of (length t.bytes) honest.short;
@@ -164,33 +164,33 @@ starts_at t count home honest = record {
 
 -- a call reads fewer bytes than an honest budget has
 abbrev pub IsBounded : {X : Type 0} → (List ℕ → ℕ → Reads X) → Type 0
-IsBounded reads_of = (d : List ℕ) (place : ℕ) → total (reads_of d place).marks < length d + 64
+IsBounded reads_of = (d : List ℕ) (offset : ℕ) → total (reads_of d offset).marks < length d + 64
 
 -- what readings say of the input that a source claims
 abbrev pub over_state : {X : Type 0} → State → (List ℕ → ℕ → Reads X) → ℕ → Reads X
-over_state a reads_of place = reads_of a.held.input place
+over_state a reads_of offset = reads_of a.held.input offset
 
 -- the states before and after a call that ran behind an opening
-pub record Began (t : Telling) (mid : Option Telling) (told place : ℕ) : Type 0 where
-  pub at_end : mid ≡ Some (at_place t (length t.bytes))
+pub record Began (t : Telling) (mid : Option Telling) (told offset : ℕ) : Type 0 where
+  pub at_end : mid ≡ Some (at_offset t (length t.bytes))
   pub length_told : told ≡ length t.bytes
-  pub at : place ≡ t.place
+  pub at : offset ≡ t.offset
 
-pub start_of : (t : Telling) (mid : Option Telling) (count : Option ℕ) (home told place : ℕ) → Began t mid told place
-    → start_state mid count home told ≡ start_state (Some (at_place t (length t.bytes))) count home (length t.bytes)
-start_of t mid count home told place h = ap (λ m. start_state m count home told) h.at_end
-    ∙ ap (λ n. start_state (Some (at_place t (length t.bytes))) count home n) h.length_told
+pub start_of : (t : Telling) (mid : Option Telling) (count : Option ℕ) (home told offset : ℕ) → Began t mid told offset
+    → start_state mid count home told ≡ start_state (Some (at_offset t (length t.bytes))) count home (length t.bytes)
+start_of t mid count home told offset h = ap (λ m. start_state m count home told) h.at_end
+    ∙ ap (λ n. start_state (Some (at_offset t (length t.bytes))) count home n) h.length_told
 
-runs_of : {X : Type 0} (t : Telling) (mid : Option Telling) (count : Option ℕ) (home told place : ℕ) (b : State)
-    (r : Result X Halt) (reads_of : List ℕ → ℕ → Reads X) → IsHonest t → Began t mid told place
-    → Runs (start_state mid count home told) b r (over_state (start_state mid count home told) reads_of place)
-    → Runs (start_state (Some (at_place t (length t.bytes))) count home (length t.bytes)) b r (reads_of t.bytes t.place)
-runs_of t mid count home told place b r reads_of honest began h =
-    let a = start_state (Some (at_place t (length t.bytes))) count home (length t.bytes) in
-    let begun : Runs a b r (over_state a reads_of place) = subst (λ s. Runs s b r (over_state s reads_of place))
-    (start_of t mid count home told place began) h in
-    let there : Runs a b r (reads_of t.bytes place) =
-    subst (λ k. Runs a b r (reads_of k.input place)) (start_holds t count home honest)
+runs_of : {X : Type 0} (t : Telling) (mid : Option Telling) (count : Option ℕ) (home told offset : ℕ) (b : State)
+    (r : Result X Halt) (reads_of : List ℕ → ℕ → Reads X) → IsHonest t → Began t mid told offset
+    → Runs (start_state mid count home told) b r (over_state (start_state mid count home told) reads_of offset)
+    → Runs (start_state (Some (at_offset t (length t.bytes))) count home (length t.bytes)) b r (reads_of t.bytes t.offset)
+runs_of t mid count home told offset b r reads_of honest began h =
+    let a = start_state (Some (at_offset t (length t.bytes))) count home (length t.bytes) in
+    let begun : Runs a b r (over_state a reads_of offset) = subst (λ s. Runs s b r (over_state s reads_of offset))
+    (start_of t mid count home told offset began) h in
+    let there : Runs a b r (reads_of t.bytes offset) =
+    subst (λ k. Runs a b r (reads_of k.input offset)) (start_holds t count home honest)
     begun in
     subst (λ p. Runs a b r (reads_of t.bytes p)) began.at there
 
@@ -200,29 +200,29 @@ pub opened_answers : {X : Type 0} (telling mid : Option Telling) (count : Option
     (r : Result X Halt) (reads_of : List ℕ → ℕ → Reads X) → IsBounded reads_of → is_some b.failed ≡ true
     → Opens telling mid (Ok opened)
     → Runs (start_state mid count home opened.told) b r
-    (over_state (start_state mid count home opened.told) reads_of opened.place)
-    → Answers telling (λ d place. outcome_of (reads_of d place)) (with_error b.failure b.frame.budget r)
+    (over_state (start_state mid count home opened.told) reads_of opened.offset)
+    → Answers telling (λ d offset. outcome_of (reads_of d offset)) (with_error b.failure b.frame.budget r)
 opened_answers None mid count home opened b r reads_of bounded told opens h = tt
 opened_answers (Some t) mid count home opened b r reads_of bounded told opens h = λ honest.
-    let began : Began t mid opened.told opened.place =
+    let began : Began t mid opened.told opened.offset =
     record { at_end = opens.0; length_told = opens.2; at = opens.1 } in
-    answers_of t _ b r (reads_of t.bytes t.place) (starts_at t count home honest)
-    (runs_of t mid count home opened.told opened.place b r
-    reads_of honest began h) told (bounded t.bytes t.place)
+    answers_of t _ b r (reads_of t.bytes t.offset) (starts_at t count home honest)
+    (runs_of t mid count home opened.told opened.offset b r
+    reads_of honest began h) told (bounded t.bytes t.offset)
 
 -- and what it took
 pub opened_takes : {X : Type 0} (telling mid : Option Telling) (count : Option ℕ) (home : ℕ) (opened : Opened)
     (b : State)
     (r : Result X Halt) (reads_of : List ℕ → ℕ → Reads X) → is_some b.failed ≡ true → Opens telling mid (Ok opened)
     → Runs (start_state mid count home opened.told) b r
-    (over_state (start_state mid count home opened.told) reads_of opened.place)
-    → Takes telling (λ d place. outcome_of (reads_of d place)) (with_error b.failure b.frame.budget r) b.taken
+    (over_state (start_state mid count home opened.told) reads_of opened.offset)
+    → Takes telling (λ d offset. outcome_of (reads_of d offset)) (with_error b.failure b.frame.budget r) b.taken
 opened_takes None mid count home opened b r reads_of told opens h = tt
 opened_takes (Some t) mid count home opened b r reads_of told opens h = λ honest.
-    let began : Began t mid opened.told opened.place =
+    let began : Began t mid opened.told opened.offset =
     record { at_end = opens.0; length_told = opens.2; at = opens.1 } in
-    takes_of t _ b r (reads_of t.bytes t.place) (starts_at t count home honest)
-    (runs_of t mid count home opened.told opened.place b r
+    takes_of t _ b r (reads_of t.bytes t.offset) (starts_at t count home honest)
+    (runs_of t mid count home opened.told opened.offset b r
     reads_of honest began h) told
 
 -- no more interruptions are left than come in all
@@ -231,7 +231,7 @@ fewer_left true n k is = let same : n ≡ k = cc in omega (arith, same)
 fewer_left false n k is = absurd cc
 
 known_in_all : (t : Telling) → IsHonest t → t.can_fail ≡ false
-    → in_all (length t.bytes) 0 None (at_place t (length t.bytes)) ≡ Some (t.interruptions + 0)
+    → in_all (length t.bytes) 0 None (at_offset t (length t.bytes)) ≡ Some (t.interruptions + 0)
 known_in_all t honest never =
     let few : leb (t.interruptions + 0) 64 ≡ true = few_leb t.interruptions (honest.patient never) in
     let same : eqb (length t.bytes) (length t.bytes) ≡ true = is_same (length t.bytes) in
@@ -249,9 +249,9 @@ opened_leaves None mid (Some u) opened told retries fault opens same = absurd (l
 opened_leaves (Some t) mid None opened told retries fault opens same = absurd (let e = opens.0 in cc)
 opened_leaves (Some t) mid (Some u) opened told retries fault opens same =
     let start : behind_of opened.told 0 None mid
-    ≡ behind_of (length t.bytes) 0 None (Some (at_place t (length t.bytes))) =
+    ≡ behind_of (length t.bytes) 0 None (Some (at_offset t (length t.bytes))) =
     ap (λ m. behind_of opened.told 0 None m) opens.0
-    ∙ ap (λ n. behind_of n 0 None (Some (at_place t (length t.bytes)))) opens.2 in
+    ∙ ap (λ n. behind_of n 0 None (Some (at_offset t (length t.bytes)))) opens.2 in
     let stays = some_is (same ∙ start) in record {
       bytes = ap (λ b. b.bytes) stays;
       can_fail = ap (λ b. b.can_fail) stays;

@@ -13,78 +13,78 @@ kept_if : (b : Bool) (s t : Standing) → cond b (Some s) None ≡ Some t → (b
 kept_if true s t e = (refl, cc)
 kept_if false s t e = absurd cc
 
-in_step_of : (told place : ℕ) (fault : Option Error) (st : Option Standing) (s : Standing)
-    → stand_of told place fault st ≡ Some s
-    → in_step told place fault s ≡ true
-in_step_of told place fault None s e = absurd cc
-in_step_of told place fault (Some t) s e =
-    let k = kept_if (in_step told place fault t) t s e in ap (in_step told place fault) (sym k.1) ∙ k.0
+in_step_of : (told offset : ℕ) (fault : Option Error) (st : Option Standing) (s : Standing)
+    → stand_of told offset fault st ≡ Some s
+    → in_step told offset fault s ≡ true
+in_step_of told offset fault None s e = absurd cc
+in_step_of told offset fault (Some t) s e =
+    let k = kept_if (in_step told offset fault t) t s e in ap (in_step told offset fault) (sym k.1) ∙ k.0
 
 -- the numbers agree with a reader that stands somewhere
 pub in_step_at : (telling : Option Telling) (p : Progress) (s : Standing) → stand telling p ≡ Some s
-    → in_step p.told p.place p.fault s
+    → in_step p.told p.offset p.fault s
     ≡ true
-in_step_at telling p s e = in_step_of p.told p.place p.fault (steady telling p.retries) s e
+in_step_at telling p s e = in_step_of p.told p.offset p.fault (steady telling p.retries) s e
 
-pub place_at : (telling : Option Telling) (p : Progress) (s : Standing) → stand telling p ≡ Some s → p.place ≡ s.place
-place_at telling p s e = let k = in_step_at telling p s e in grind (arith, nat_tests)
+pub offset_at : (telling : Option Telling) (p : Progress) (s : Standing) → stand telling p ≡ Some s → p.offset ≡ s.offset
+offset_at telling p s e = let k = in_step_at telling p s e in grind (arith, nat_tests)
 
 pub told_at : (telling : Option Telling) (p : Progress) (s : Standing) → stand telling p ≡ Some s
     → (p.told ≡ length s.bytes)
     × (length s.bytes < 2 ^ 63)
 told_at telling p s e = let k = in_step_at telling p s e in (grind (arith, nat_tests), grind (arith, nat_tests))
 
--- a place that was not reached has no bytes
-pub not_reached : (first new : Option Standing) (place now : ℕ) (b : Bool) (room : List ℕ)
-    → GoesTo first new place now (Ok b)
-    → b ≡ false → GivesFrom first new place now room (Ok 0)
+-- an offset that was not reached has no bytes
+pub not_reached : (first new : Option Standing) (offset now : ℕ) (b : Bool) (buffer : List ℕ)
+    → GoesTo first new offset now (Ok b)
+    → b ≡ false → GivesFrom first new offset now buffer (Ok 0)
 unfolding part
-not_reached None new place now b room h off = tt
-not_reached (Some s) new place now true room h off = absurd cc
-not_reached (Some s) new place now false room h off =
-    (h.0 ∙ ap (λ k. Some (record s { place = k })) (sym h.2), refl, omega (arith, h.1))
+not_reached None new offset now b buffer h off = tt
+not_reached (Some s) new offset now true buffer h off = absurd cc
+not_reached (Some s) new offset now false buffer h off =
+    (h.0 ∙ ap (λ k. Some (record s { offset = k })) (sym h.2), refl, omega (arith, h.1))
 
-goes_there : (s : Standing) (mid : Option Standing) (place at : ℕ) (b : Bool) → GoesTo (Some s) mid place at (Ok b)
+goes_there : (s : Standing) (mid : Option Standing) (offset at : ℕ) (b : Bool) → GoesTo (Some s) mid offset at (Ok b)
     → b ≡ true
-    → mid ≡ Some (record s { place = place })
-goes_there s mid place at true h on = h.0
-goes_there s mid place at false h on = absurd cc
+    → mid ≡ Some (record s { offset = offset })
+goes_there s mid offset at true h on = h.0
+goes_there s mid offset at false h on = absurd cc
 
--- the bytes from a place that was reached
-pub from_there : (first mid : Option Standing) (telling : Option Telling) (p : Progress) (place at n : ℕ) (b : Bool)
-    (room : List ℕ)
-    → GoesTo first mid place at (Ok b) → b ≡ true → GivesAll mid (stand telling p) room (Ok n)
-    → GivesFrom first (stand telling p) place
-    p.place room (Ok n)
-from_there None mid telling p place at n b room goes on gives = tt
-from_there (Some s) mid telling p place at n b room goes on gives =
-    let all : GivesAll (Some (record s { place = place })) (stand telling p) room (Ok n) =
-    subst (λ w. GivesAll w (stand telling p) room (Ok n)) (goes_there s mid place at b goes on) gives in
-    (all.0 ∙ ap (λ k. Some (record s { place = k })) (sym (place_at telling p _ all.0)), all.1, all.2)
+-- the bytes from an offset that was reached
+pub from_there : (first mid : Option Standing) (telling : Option Telling) (p : Progress) (offset at n : ℕ) (b : Bool)
+    (buffer : List ℕ)
+    → GoesTo first mid offset at (Ok b) → b ≡ true → GivesAll mid (stand telling p) buffer (Ok n)
+    → GivesFrom first (stand telling p) offset
+    p.offset buffer (Ok n)
+from_there None mid telling p offset at n b buffer goes on gives = tt
+from_there (Some s) mid telling p offset at n b buffer goes on gives =
+    let all : GivesAll (Some (record s { offset = offset })) (stand telling p) buffer (Ok n) =
+    subst (λ w. GivesAll w (stand telling p) buffer (Ok n)) (goes_there s mid offset at b goes on) gives in
+    (all.0 ∙ ap (λ k. Some (record s { offset = k })) (sym (offset_at telling p _ all.0)), all.1, all.2)
 
--- a failure behind a place that was reached
-pub fails_there : (first mid new last : Option Standing) (place at now : ℕ) (b : Bool) (room : List ℕ) (e : Halt)
-    → GoesTo first mid place at (Ok b) → b ≡ true → GivesAll mid new room (Err e)
-    → GivesFrom first last place now room (Err e)
-fails_there None mid new last place at now b room e goes on gives = tt
-fails_there (Some s) mid new last place at now b room e goes on gives =
-    subst (λ w. GivesAll w new room (Err e)) (goes_there s mid place at b goes on) gives
+-- a failure behind an offset that was reached
+pub fails_there : (first mid new last : Option Standing) (offset at now : ℕ) (b : Bool) (buffer : List ℕ) (e : Halt)
+    → GoesTo first mid offset at (Ok b) → b ≡ true → GivesAll mid new buffer (Err e)
+    → GivesFrom first last offset now buffer (Err e)
+fails_there None mid new last offset at now b buffer e goes on gives = tt
+fails_there (Some s) mid new last offset at now b buffer e goes on gives =
+    subst (λ w. GivesAll w new buffer (Err e)) (goes_there s mid offset at b goes on) gives
 
-pub within_reached : (first mid : Option Standing) (place at old between new k : ℕ) (b : Bool)
-    → GoesTo first mid place at (Ok b)
-    → b ≡ true → between ≡ old → IfSome mid (λ s. new ≤ between + min k (length s.bytes - s.place))
-    → IfSome first (λ s. new ≤ old + min k (length s.bytes - place))
-within_reached None mid place at old between new k b goes on same within = tt
-within_reached (Some s) mid place at old between new k b goes on same within =
-    subst (λ o. new ≤ o + min k (length s.bytes - place)) same
-    (subst (λ w. IfSome w (λ t. new ≤ between + min k (length t.bytes - t.place)))
-    (goes_there s mid place at b goes on) within)
+pub within_reached : (first mid : Option Standing) (offset at old between new k : ℕ) (b : Bool)
+    → GoesTo first mid offset at (Ok b)
+    → b ≡ true → between ≡ old → IfSome mid (λ s. new ≤ between + min k (length s.bytes - s.offset))
+    → IfSome first (λ s. new ≤ old + min k (length s.bytes - offset))
+within_reached None mid offset at old between new k b goes on same within = tt
+within_reached (Some s) mid offset at old between new k b goes on same within =
+    subst (λ o. new ≤ o + min k (length s.bytes - offset)) same
+    (subst (λ w. IfSome w (λ t. new ≤ between + min k (length t.bytes - t.offset)))
+    (goes_there s mid offset at b goes on) within)
 
 -- nothing was taken
-pub within_none : (first : Option Standing) (old new place k : ℕ) → new ≡ old
-    → IfSome first (λ s. new ≤ old + min k (length s.bytes - place))
-within_none None old new place k same = tt
-within_none (Some s) old new place k same = omega arith
+pub within_none : (first : Option Standing) (old new offset k : ℕ) → new ≡ old
+    → IfSome first (λ s. new ≤ old + min k (length s.bytes - offset))
+within_none None old new offset k same = tt
+within_none (Some s) old new offset k same = omega arith
 
 -- what one call keeps after another
 pub keeps_both : {old mid new : Progress} → KeepsCounts old mid → KeepsCounts mid new → KeepsCounts old new
@@ -97,10 +97,10 @@ keeps_both h k = record {
 }
 
 -- while a reader stands somewhere, no error is kept
-calm_in : (told place : ℕ) (fault : Option Error) (s : Standing) → in_step told place fault s ≡ true → fault ≡ None
-calm_in told place None s e = refl
-calm_in told place (Some error) s e =
-    absurd (let off : in_step told place (Some error) s ≡ false = grind (arith, nat_tests) in cc)
+calm_in : (told offset : ℕ) (fault : Option Error) (s : Standing) → in_step told offset fault s ≡ true → fault ≡ None
+calm_in told offset None s e = refl
+calm_in told offset (Some error) s e =
+    absurd (let off : in_step told offset (Some error) s ≡ false = grind (arith, nat_tests) in cc)
 
 none_kept : (fault fault' : Option Error) (failure failure' : Option (Option Error)) → fault ≡ None → fault' ≡ fault
     → failures_of fault' failure' ≡ failures_of fault failure
@@ -114,14 +114,14 @@ calm_at a b p q same = by_stand (stand a.telling p) refl where
       → IfSome st (λ _. failures_of q.fault b.failure ≡ failures_of p.fault a.failure)
   by_stand None is = tt
   by_stand (Some s) is = none_kept p.fault q.fault a.failure b.failure
-      (calm_in p.told p.place p.fault s (in_step_at a.telling p s is)) same
+      (calm_in p.told p.offset p.fault s (in_step_at a.telling p s is)) same
 
 -- what never changes, over a read that gave bytes
-pub behind_given : (told retries : ℕ) (fault : Option Error) (telling telling' : Option Telling) (room : List ℕ) (n : ℕ)
-    → ReadTells telling telling' room (Ok n)
+pub behind_given : (told retries : ℕ) (fault : Option Error) (telling telling' : Option Telling) (buffer : List ℕ) (n : ℕ)
+    → ReadTells telling telling' buffer (Ok n)
     → behind_of told retries fault telling' ≡ behind_of told retries fault telling
-behind_given told retries fault None telling' room n gave = rw gave refl
-behind_given told retries fault (Some t) telling' room n gave = rw gave.0 refl
+behind_given told retries fault None telling' buffer n gave = rw gave refl
+behind_given told retries fault (Some t) telling' buffer n gave = rw gave.0 refl
 
 -- the tries of a read so far
 pub record Retried (first now : Option Telling) (count count' : Option ℕ) (old new : ℕ)

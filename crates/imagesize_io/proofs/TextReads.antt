@@ -79,13 +79,13 @@ rest_some t begun b bs = by_end (ends t begun b) refl where
 abbrev pub CountsOnly : State → Type 0
 CountsOnly a = (a.frame.counts ≡ true) × (a.recorded ≡ None)
 
-front_joins : (front place n : ℕ)
-    → front_after (front_after front place n) (place + n) 1 ≡ front_after front place (n + 1)
-front_joins front place n = grind (arith, nat_tests)
+front_joins : (front offset n : ℕ)
+    → front_after (front_after front offset n) (offset + n) 1 ≡ front_after front offset (n + 1)
+front_joins front offset n = grind (arith, nat_tests)
 
-fresh_joins : (front place n : ℕ)
-    → new_bytes front place n + new_bytes (front_after front place n) (place + n) 1 ≡ new_bytes front place (n + 1)
-fresh_joins front place n = grind (arith, nat_tests)
+fresh_joins : (front offset n : ℕ)
+    → new_bytes front offset n + new_bytes (front_after front offset n) (offset + n) 1 ≡ new_bytes front offset (n + 1)
+fresh_joins front offset n = grind (arith, nat_tests)
 
 -- a state by what was taken
 abbrev having : State → ℕ → ℕ → State
@@ -95,61 +95,61 @@ step_counts : (a : State) (s : Span) → CountsOnly a → step a s ≡ having a 
     (a.taken + new_bytes a.front s.start s.len)
 step_counts a s only = let counts = only.0 in let none = only.1 in rw (counts, none) refl
 
-step_joins : (a : State) (place n : ℕ) → CountsOnly a → step (step a (record { start = place; len = n }))
-    (record { start = place + n; len = 1 }) ≡ step a (record { start = place; len = n + 1 })
-step_joins a place n only =
-    let first = step_counts a (record { start = place; len = n }) only in
-    let front : ℕ = front_after a.front place n in
-    let taken : ℕ = a.taken + new_bytes a.front place n in
-    let more : taken + new_bytes front (place + n) 1 ≡ a.taken + new_bytes a.front place (n + 1) =
-    omega (arith, fresh_joins a.front place n) in
-    ap (λ s. step s (record { start = place + n; len = 1 })) first
-    ∙ step_counts (having a front taken) (record { start = place + n; len = 1 }) (only.0, refl)
-    ∙ ap (λ w. having a w (taken + new_bytes front (place + n) 1)) (front_joins a.front place n)
-    ∙ ap (λ m. having a (front_after a.front place (n + 1)) m) more
-    ∙ sym (step_counts a (record { start = place; len = n + 1 }) only)
+step_joins : (a : State) (offset n : ℕ) → CountsOnly a → step (step a (record { start = offset; len = n }))
+    (record { start = offset + n; len = 1 }) ≡ step a (record { start = offset; len = n + 1 })
+step_joins a offset n only =
+    let first = step_counts a (record { start = offset; len = n }) only in
+    let front : ℕ = front_after a.front offset n in
+    let taken : ℕ = a.taken + new_bytes a.front offset n in
+    let more : taken + new_bytes front (offset + n) 1 ≡ a.taken + new_bytes a.front offset (n + 1) =
+    omega (arith, fresh_joins a.front offset n) in
+    ap (λ s. step s (record { start = offset + n; len = 1 })) first
+    ∙ step_counts (having a front taken) (record { start = offset + n; len = 1 }) (only.0, refl)
+    ∙ ap (λ w. having a w (taken + new_bytes front (offset + n) 1)) (front_joins a.front offset n)
+    ∙ ap (λ m. having a (front_after a.front offset (n + 1)) m) more
+    ∙ sym (step_counts a (record { start = offset; len = n + 1 }) only)
 
-span_joins : (a : State) (place n : ℕ) → CountsOnly a
-    → state_after (state_after a (span_at place n)) (span_at (place + n) 1) ≡ state_after a
-    (span_at place (n + 1))
+span_joins : (a : State) (offset n : ℕ) → CountsOnly a
+    → state_after (state_after a (span_at offset n)) (span_at (offset + n) 1) ≡ state_after a
+    (span_at offset (n + 1))
 unfolding state_after span_at
-span_joins a place zero only = rw add-zero refl
-span_joins a place (suc n) only =
-    ap (λ s. state_after (state_after a s) (span_at (place + suc n) 1)) (span-some place (suc n) (omega arith))
-    ∙ step_joins a place (suc n) only
-    ∙ sym (ap (state_after a) (span-some place (suc n + 1) (omega arith)))
+span_joins a offset zero only = rw add-zero refl
+span_joins a offset (suc n) only =
+    ap (λ s. state_after (state_after a s) (span_at (offset + suc n) 1)) (span-some offset (suc n) (omega arith))
+    ∙ step_joins a offset (suc n) only
+    ∙ sym (ap (state_after a) (span-some offset (suc n + 1) (omega arith)))
 
--- what stands from a place on, where one byte there is known
-drop_byte : (d : List ℕ) (place b : ℕ) → take 1 (drop place d) ≡ b ∷ [] → drop place d ≡ b ∷ drop (suc place) d
+-- what stands from an offset on, where one byte there is known
+drop_byte : (d : List ℕ) (offset b : ℕ) → take 1 (drop offset d) ≡ b ∷ [] → drop offset d ≡ b ∷ drop (suc offset) d
 drop_byte [] zero b is = absurd cc
 drop_byte (x ∷ d) zero b is = let same : x ≡ b = cc in ap (λ y. y ∷ d) same
-drop_byte [] (suc place) b is = absurd cc
-drop_byte (x ∷ d) (suc place) b is = drop_byte d place b is
+drop_byte [] (suc offset) b is = absurd cc
+drop_byte (x ∷ d) (suc offset) b is = drop_byte d offset b is
 
-part_byte : (d : List ℕ) (place b k : ℕ) → part d place 1 ≡ b ∷ [] → 0 < k
-    → part d place k ≡ b ∷ part d (place + 1) (k - 1)
+part_byte : (d : List ℕ) (offset b k : ℕ) → part d offset 1 ≡ b ∷ [] → 0 < k
+    → part d offset k ≡ b ∷ part d (offset + 1) (k - 1)
 unfolding part
-part_byte d place b zero is some = absurd (omega arith)
-part_byte d place b (suc k) is some =
-    let next : suc place ≡ place + 1 = omega arith in
+part_byte d offset b zero is some = absurd (omega arith)
+part_byte d offset b (suc k) is some =
+    let next : suc offset ≡ offset + 1 = omega arith in
     let fewer : k ≡ suc k - 1 = omega arith in
-    ap (take (suc k)) (drop_byte d place b is) ∙ ap (λ p. b ∷ take k (drop p d)) next
-    ∙ ap (λ n. b ∷ take n (drop (place + 1) d)) fewer
+    ap (take (suc k)) (drop_byte d offset b is) ∙ ap (λ p. b ∷ take k (drop p d)) next
+    ∙ ap (λ n. b ∷ take n (drop (offset + 1) d)) fewer
 
 -- Readings gave so many bytes. Where the source is honest, it has taken no more than those, and the state is the one past them.
-pub record Took (a b : State) (place count : ℕ) (got : List ℕ) : Type 0 where
+pub record Took (a b : State) (offset count : ℕ) (got : List ℕ) : Type 0 where
   pub long : length got ≡ count
   pub sound : IsSound b
   pub frame : b.frame ≡ a.frame
   pub taken : a.taken ≤ b.taken
   pub within : a.held.honest ≡ true → b.taken ≤ a.taken + count
-  pub state : a.held.honest ≡ true → b ≡ state_after a (span_at place count)
+  pub state : a.held.honest ≡ true → b ≡ state_after a (span_at offset count)
 
 -- what they gave is the text
-pub took_text : {a b : State} {place count : ℕ} {got : List ℕ} (t : Text) (k : ℕ) → Took a b place count got → IsSound a
-    → (a.held.honest ≡ true → text_part a.held.input t place k ≡ got)
-    → Runs a b (Ok got) (text_read a.held.input t place k)
-took_text {a} {b} {place} {count} {got} t k took sound is = record {
+pub took_text : {a b : State} {offset count : ℕ} {got : List ℕ} (t : Text) (k : ℕ) → Took a b offset count got → IsSound a
+    → (a.held.honest ≡ true → text_part a.held.input t offset k ≡ got)
+    → Runs a b (Ok got) (text_read a.held.input t offset k)
+took_text {a} {b} {offset} {count} {got} t k took sound is = record {
   sound = sound;
   sound_after = took.sound;
   frame = took.frame;
@@ -157,30 +157,30 @@ took_text {a} {b} {place} {count} {got} t k took sound is = record {
   within = λ honest. omega (
     arith,
     took.within honest,
-    total-span_at place (length (text_part a.held.input t place k)),
+    total-span_at offset (length (text_part a.held.input t offset k)),
     long honest,
   );
   answer = λ honest goes_on. ap Ok (is honest);
-  state = λ honest goes_on. took.state honest ∙ ap (λ n. state_after a (span_at place n)) (sym (long honest));
+  state = λ honest goes_on. took.state honest ∙ ap (λ n. state_after a (span_at offset n)) (sym (long honest));
   fault = λ honest faults. absurd cc;
   misses = λ honest faults. absurd cc;
   ended = tt;
 } where
-  long : a.held.honest ≡ true → length (text_part a.held.input t place k) ≡ count
+  long : a.held.honest ≡ true → length (text_part a.held.input t offset k) ≡ count
   long honest = ap length (is honest) ∙ took.long
 
 -- Of a text so many bytes were read, and what is left of it is known where the source is honest.
-pub record Taking (a b : State) (t : Text) (place count : ℕ) (begun : Bool) (k : ℕ) (got : List ℕ) : Type 0 where
+pub record Taking (a b : State) (t : Text) (offset count : ℕ) (begun : Bool) (k : ℕ) (got : List ℕ) : Type 0 where
   pub fits : count ≤ k
-  pub took : Took a b place count got
-  pub pays : 0 < count → max a.frame.told 32 < place → a.taken < b.taken
-  pub left : a.held.honest ≡ true → text_part a.held.input t place k ≡ got ++ text_rest t begun
-      (part a.held.input (place + count) (k - count))
+  pub took : Took a b offset count got
+  pub pays : 0 < count → max a.frame.told 32 < offset → a.taken < b.taken
+  pub left : a.held.honest ≡ true → text_part a.held.input t offset k ≡ got ++ text_rest t begun
+      (part a.held.input (offset + count) (k - count))
 
 -- before the first
-pub taking_none : (a : State) (t : Text) (place k : ℕ) → IsSound a → Taking a a t place 0 false k []
+pub taking_none : (a : State) (t : Text) (offset k : ℕ) → IsSound a → Taking a a t offset 0 false k []
 unfolding state_after span_at text_part
-taking_none a t place k sound = record {
+taking_none a t offset k sound = record {
   fits = omega arith;
   took = record {
     long = refl;
@@ -192,17 +192,17 @@ taking_none a t place k sound = record {
   };
   pays = λ some far. absurd (omega (arith, some));
   left = λ honest.
-      let here : place ≡ place + 0 = omega arith in
+      let here : offset ≡ offset + 0 = omega arith in
       let all : k ≡ k - 0 = omega arith in
-      rest_start t (part a.held.input place k)
+      rest_start t (part a.held.input offset k)
       ∙ ap (λ p. text_rest t false (part a.held.input p k)) here
-      ∙ ap (λ j. text_rest t false (part a.held.input (place + 0) j)) all;
+      ∙ ap (λ j. text_rest t false (part a.held.input (offset + 0) j)) all;
 }
 
-module _ {a b : State} {t : Text} {place count k : ℕ} {begun : Bool} {got : List ℕ}
-    (h : Taking a b t place count begun k got) where
+module _ {a b : State} {t : Text} {offset count k : ℕ} {begun : Bool} {got : List ℕ}
+    (h : Taking a b t offset count begun k got) where
   same_held : a.held.honest ≡ true → b.held ≡ a.held
-  same_held honest = ap (λ s. s.held) (h.took.state honest) ∙ past-held a (span_at place count)
+  same_held honest = ap (λ s. s.held) (h.took.state honest) ∙ past-held a (span_at offset count)
 
   same_honest : a.held.honest ≡ true → b.held.honest ≡ true
   same_honest honest = ap (λ x. x.honest) (same_held honest) ∙ honest
@@ -211,24 +211,24 @@ module _ {a b : State} {t : Text} {place count k : ℕ} {begun : Bool} {got : Li
   same_input honest = ap (λ x. x.input) (same_held honest)
 
   -- the text has the bytes that were read, and what is left
-  text_long : a.held.honest ≡ true → length (text_part a.held.input t place k) ≡ count + length
-      (text_rest t begun (part a.held.input (place + count) (k - count)))
+  text_long : a.held.honest ≡ true → length (text_part a.held.input t offset k) ≡ count + length
+      (text_rest t begun (part a.held.input (offset + count) (k - count)))
   text_long honest = omega (
     arith,
     ap length (h.left honest),
     length-append got
-        (text_rest t begun (part a.held.input (place + count) (k - count))),
+        (text_rest t begun (part a.held.input (offset + count) (k - count))),
     h.took.long,
   )
 
   -- what is left of it is nothing
-  all_read : a.held.honest ≡ true → part a.held.input (place + count) (k - count) ≡ []
-      → text_part a.held.input t place k ≡ got
+  all_read : a.held.honest ≡ true → part a.held.input (offset + count) (k - count) ≡ []
+      → text_part a.held.input t offset k ≡ got
   all_read honest none = h.left honest ∙ ap (λ bs. got ++ text_rest t begun bs) none
       ∙ ap (λ bs. got ++ bs) (rest_none t begun)
       ∙ append-nil got
 
-  module _ {c : State} (next : ℕ) (next_is : next ≡ min (place + count) (2 ^ 64 - 1)) where
+  module _ {c : State} (next : ℕ) (next_is : next ≡ min (offset + count) (2 ^ 64 - 1)) where
     -- where no byte is read, none is there
     end_there : Runs b c (Ok []) (part_read b.held.input next 1) → a.held.honest ≡ true → length a.held.input ≤ next
     end_there run honest =
@@ -238,7 +238,7 @@ module _ {a b : State} {t : Text} {place count k : ℕ} {begun : Bool} {got : Li
 
     -- a text ends where the input does
     pub taking_ends : Runs b c (Ok []) (part_read b.held.input next 1) → IsSound a
-        → Runs a c (Ok got) (text_read a.held.input t place k)
+        → Runs a c (Ok got) (text_read a.held.input t offset k)
     unfolding state_after
     taking_ends run sound = took_text t k (record {
       long = h.took.long;
@@ -249,9 +249,9 @@ module _ {a b : State} {t : Text} {place count k : ℕ} {begun : Bool} {got : Li
           (arith, h.took.within honest, run.within (same_honest honest), ap total (no_mark honest));
       state = λ honest. run.state (same_honest honest) refl ∙ ap (state_after b) (no_mark honest) ∙ h.took.state honest;
     }) sound ends_now where
-      ends_now : a.held.honest ≡ true → text_part a.held.input t place k ≡ got
+      ends_now : a.held.honest ≡ true → text_part a.held.input t offset k ≡ got
       ends_now honest = all_read honest
-          (no_part a.held.input (place + count) (k - count) (omega (arith, end_there run honest, next_is)))
+          (no_part a.held.input (offset + count) (k - count) (omega (arith, end_there run honest, next_is)))
 
       no_mark : a.held.honest ≡ true → span_of b.held.input next 1 ≡ []
       no_mark honest = ap (λ d. span_of d next 1) (same_input honest)
@@ -260,7 +260,7 @@ module _ {a b : State} {t : Text} {place count k : ℕ} {begun : Bool} {got : Li
     -- a failure on the way
     pub taking_stopped : {e : Halt} → count < k → Runs b c (Err e) (part_read b.held.input next 1) → IsSound a
         → c.missed ≡ None
-        → Runs a c (Err e) (text_read a.held.input t place k)
+        → Runs a c (Err e) (text_read a.held.input t offset k)
     taking_stopped {e} more run sound untold = record {
       sound = sound;
       sound_after = run.sound_after;
@@ -271,8 +271,8 @@ module _ {a b : State} {t : Text} {place count k : ℕ} {begun : Bool} {got : Li
         h.took.within honest,
         run.within (same_honest honest),
         few honest,
-        total-span_at place
-            (length (text_part a.held.input t place k)),
+        total-span_at offset
+            (length (text_part a.held.input t offset k)),
       );
       answer = λ honest goes_on. absurd (let no = run.answer (same_honest honest) goes_on in cc);
       state = λ honest goes_on. absurd (let no = run.answer (same_honest honest) goes_on in cc);
@@ -285,13 +285,13 @@ module _ {a b : State} {t : Text} {place count k : ℕ} {begun : Bool} {got : Li
       one_more (x ∷ bs) some = rest_some t begun x bs
 
       few : a.held.honest ≡ true
-          → count + total (span_of b.held.input next 1) ≤ length (text_part a.held.input t place k)
+          → count + total (span_of b.held.input next 1) ≤ length (text_part a.held.input t offset k)
       few honest = elim (cases_lt next (length a.held.input)) [
         | inl there ↦ (
             let short : length a.held.input < 2 ^ 63 = subst (λ d. length d < 2 ^ 63) (same_input honest)
             (h.took.sound (same_honest honest)).1 in
-            let some = one_more (part a.held.input (place + count) (k - count))
-            (omega (arith, part_length a.held.input (place + count) (k - count), there, next_is, short, more)) in
+            let some = one_more (part a.held.input (offset + count) (k - count))
+            (omega (arith, part_length a.held.input (offset + count) (k - count), there, next_is, short, more)) in
             omega (arith, some, text_long honest, total-span_of b.held.input next 1))
         | inr beyond ↦ omega
             (arith, text_long honest, total_there b.held.input next 1, ap length (same_input honest), beyond)
@@ -302,27 +302,27 @@ module _ {a b : State} {t : Text} {place count k : ℕ} {begun : Bool} {got : Li
       byte_read honest = ap (λ d. part d next 1) (sym (same_input honest))
           ∙ part_is (run.answer (same_honest honest) refl)
 
-      -- a byte that is there stands at its own place
-      next_place : a.held.honest ≡ true → next ≡ place + count
-      next_place honest =
+      -- a byte that is there stands at its own offset
+      next_offset : a.held.honest ≡ true → next ≡ offset + count
+      next_offset honest =
           let short : length a.held.input < 2 ^ 63 =
           subst (λ d. length d < 2 ^ 63) (same_input honest) (h.took.sound (same_honest honest)).1 in
           omega (arith, part_length a.held.input next 1, ap length (byte_read honest), next_is, short)
 
       rest_read : a.held.honest ≡ true
-          → part a.held.input (place + count) (k - count) ≡ byte ∷ part a.held.input (place + (count + 1))
+          → part a.held.input (offset + count) (k - count) ≡ byte ∷ part a.held.input (offset + (count + 1))
           (k - (count + 1))
       rest_read honest =
-          let one : part a.held.input (place + count) 1 ≡ byte ∷ [] =
-          ap (λ p. part a.held.input p 1) (sym (next_place honest))
+          let one : part a.held.input (offset + count) 1 ≡ byte ∷ [] =
+          ap (λ p. part a.held.input p 1) (sym (next_offset honest))
           ∙ byte_read honest in
-          let there : place + count + 1 ≡ place + (count + 1) = omega arith in
+          let there : offset + count + 1 ≡ offset + (count + 1) = omega arith in
           let fewer : k - count - 1 ≡ k - (count + 1) = omega arith in
-          part_byte a.held.input (place + count) byte (k - count) one (omega (arith, more))
+          part_byte a.held.input (offset + count) byte (k - count) one (omega (arith, more))
           ∙ ap (λ p. byte ∷ part a.held.input p (k - count - 1)) there
-          ∙ ap (λ j. byte ∷ part a.held.input (place + (count + 1)) j) fewer
+          ∙ ap (λ j. byte ∷ part a.held.input (offset + (count + 1)) j) fewer
 
-      joined : CountsOnly a → a.held.honest ≡ true → c ≡ state_after a (span_at place (count + 1))
+      joined : CountsOnly a → a.held.honest ≡ true → c ≡ state_after a (span_at offset (count + 1))
       joined only honest =
           let there : 1 ≤ length b.held.input - next = omega (
             arith,
@@ -331,12 +331,12 @@ module _ {a b : State} {t : Text} {place count k : ℕ} {begun : Bool} {got : Li
           ) in
           run.state (same_honest honest) refl
           ∙ ap (state_after b) (whole_span b.held.input next 1 there)
-          ∙ ap (λ p. state_after b (span_at p 1)) (next_place honest)
-          ∙ ap (λ s. state_after s (span_at (place + count) 1)) (h.took.state honest)
-          ∙ span_joins a place count only
+          ∙ ap (λ p. state_after b (span_at p 1)) (next_offset honest)
+          ∙ ap (λ s. state_after s (span_at (offset + count) 1)) (h.took.state honest)
+          ∙ span_joins a offset count only
 
       -- with that byte
-      took_byte : CountsOnly a → Took a c place (count + 1) (got ++ byte ∷ [])
+      took_byte : CountsOnly a → Took a c offset (count + 1) (got ++ byte ∷ [])
       took_byte only = record {
         long = omega (arith, length-append got (byte ∷ []), h.took.long);
         sound = run.sound_after;
@@ -348,8 +348,8 @@ module _ {a b : State} {t : Text} {place count k : ℕ} {begun : Bool} {got : Li
       }
 
       -- a byte that does not end it
-      pub taking_more : CountsOnly a → place ≤ next → Paid b c next → ends t begun byte ≡ false
-          → Taking a c t place (count + 1)
+      pub taking_more : CountsOnly a → offset ≤ next → Paid b c next → ends t begun byte ≡ false
+          → Taking a c t offset (count + 1)
           (begun || not (is_ascii_whitespace byte)) k (got ++ byte ∷ [])
       taking_more only behind paid goes_on = record {
         fits = omega (arith, more);
@@ -359,7 +359,7 @@ module _ {a b : State} {t : Text} {place count k : ℕ} {begun : Bool} {got : Li
             let rises = (paid (omega (arith, far, behind, same))).0 in
             omega (arith, h.took.taken, rises);
         left = λ honest.
-            let rest : List ℕ = part a.held.input (place + (count + 1)) (k - (count + 1)) in
+            let rest : List ℕ = part a.held.input (offset + (count + 1)) (k - (count + 1)) in
             h.left honest
             ∙ ap (λ bs. got ++ text_rest t begun bs) (rest_read honest)
             ∙ ap (λ bs. got ++ bs) (rest_goes_on t begun byte rest goes_on)
@@ -368,35 +368,35 @@ module _ {a b : State} {t : Text} {place count k : ℕ} {begun : Bool} {got : Li
 
       -- the one that does
       pub taking_done : CountsOnly a → ends t begun byte ≡ true → IsSound a → Runs a c (Ok (got ++ byte ∷ []))
-          (text_read a.held.input t place k)
+          (text_read a.held.input t offset k)
       taking_done only is_end sound = took_text t k (took_byte only) sound (λ honest.
           h.left honest
           ∙ ap (λ bs. got ++ text_rest t begun bs) (rest_read honest)
           ∙ ap (λ bs. got ++ bs)
-          (rest_ends t begun byte (part a.held.input (place + (count + 1)) (k - (count + 1))) is_end))
+          (rest_ends t begun byte (part a.held.input (offset + (count + 1)) (k - (count + 1))) is_end))
 
-  -- there is no more room
-  pub taking_full : k ≤ count → IsSound a → Runs a b (Ok got) (text_read a.held.input t place k)
+  -- the buffer is full
+  pub taking_full : k ≤ count → IsSound a → Runs a b (Ok got) (text_read a.held.input t offset k)
   taking_full full sound = took_text t k h.took sound (λ honest.
       let none : k - count ≡ 0 = omega (arith, full) in
-      all_read honest (ap (part a.held.input (place + count)) none ∙ part_none a.held.input (place + count)))
+      all_read honest (ap (part a.held.input (offset + count)) none ∙ part_none a.held.input (offset + count)))
 
--- a room in which one byte more was put
-one_byte : (count : ℕ) (room more behind : List ℕ) → count ≤ length room → length more ≡ 1
-    → more ≡ slice_index (take count room ++ (more ++ behind)) count ∷ []
-one_byte zero room [] behind fits one = absurd (omega (arith, one))
-one_byte zero room (b ∷ []) behind fits one = refl
-one_byte zero room (b ∷ x ∷ more) behind fits one = absurd (omega (arith, one))
+-- a buffer in which one byte more was put
+one_byte : (count : ℕ) (buffer more behind : List ℕ) → count ≤ length buffer → length more ≡ 1
+    → more ≡ slice_index (take count buffer ++ (more ++ behind)) count ∷ []
+one_byte zero buffer [] behind fits one = absurd (omega (arith, one))
+one_byte zero buffer (b ∷ []) behind fits one = refl
+one_byte zero buffer (b ∷ x ∷ more) behind fits one = absurd (omega (arith, one))
 one_byte (suc count) [] more behind fits one = absurd (omega (arith, fits))
-one_byte (suc count) (x ∷ room) more behind fits one = one_byte count room more behind (omega (arith, fits)) one
+one_byte (suc count) (x ∷ buffer) more behind fits one = one_byte count buffer more behind (omega (arith, fits)) one
 
-room_long : (count m : ℕ) (room more : List ℕ) → count < length room → m ≡ 1 → length more ≡ 1
-    → length (put_mid count m room more)
-    ≡ length room
-room_long count m room more fits is_one one =
+buffer_long : (count m : ℕ) (buffer more : List ℕ) → count < length buffer → m ≡ 1 → length more ≡ 1
+    → length (put_mid count m buffer more)
+    ≡ length buffer
+buffer_long count m buffer more fits is_one one =
     simp (length-append, length-take, length-drop) (omega (arith, fits, is_one, one))
 
--- a reading into a room of one byte
+-- a reading into a buffer of one byte
 one_read : {b c : State} (d more got : List ℕ) (next n : ℕ) → length more ≡ 1 → take n more ≡ got
     → Runs b c (Ok (take n more))
     (part_read d next (length more)) → Runs b c (Ok got) (part_read d next 1)
@@ -409,80 +409,80 @@ reader_sound a home p window =
     sound_at (reader_frame a home p) (stand a.telling p) (failures_of p.fault a.failure) window p.taken
     (told_by a home p)
 
--- a room of one byte
-pub one_long : (count : ℕ) (room more : List ℕ) → count < length room
-    → length more ≡ length (take (count + 1 - count) (drop count room))
+-- a buffer of one byte
+pub one_long : (count : ℕ) (buffer more : List ℕ) → count < length buffer
+    → length more ≡ length (take (count + 1 - count) (drop count buffer))
     → length more ≡ 1
-one_long count room more fits long =
-    omega (arith, long, length-take (count + 1 - count) (drop count room), length-drop count room, fits)
+one_long count buffer more fits long =
+    omega (arith, long, length-take (count + 1 - count) (drop count buffer), length-drop count buffer, fits)
 
-module _ {a b : State} {t : Text} {place count : ℕ} {begun : Bool} (room : List ℕ)
-    (h : Taking a b t place count begun (length room)
-    (take count room)) where
-  module _ {c : State} (next n m : ℕ) (more : List ℕ) (next_is : next ≡ min (place + count) (2 ^ 64 - 1))
-      (fits : count < length room)
+module _ {a b : State} {t : Text} {offset count : ℕ} {begun : Bool} (buffer : List ℕ)
+    (h : Taking a b t offset count begun (length buffer)
+    (take count buffer)) where
+  module _ {c : State} (next n m : ℕ) (more : List ℕ) (next_is : next ≡ min (offset + count) (2 ^ 64 - 1))
+      (fits : count < length buffer)
       (is_one : m ≡ 1) (one : length more ≡ 1)
       (run : Runs b c (Ok (take n more)) (part_read b.held.input next (length more))) where
     module _ (some : 0 < n) (few : n ≤ length more) where
-      read_one : Runs b c (Ok (slice_index (put_mid count m room more) count ∷ [])) (part_read b.held.input next 1)
-      read_one = one_read b.held.input more (slice_index (put_mid count m room more) count ∷ []) next n one
+      read_one : Runs b c (Ok (slice_index (put_mid count m buffer more) count ∷ [])) (part_read b.held.input next 1)
+      read_one = one_read b.held.input more (slice_index (put_mid count m buffer more) count ∷ []) next n one
           (take_all n more (omega (arith, some, one))
-          ∙ one_byte count room more (drop m (drop count room)) (omega (arith, fits)) one) run
+          ∙ one_byte count buffer more (drop m (drop count buffer)) (omega (arith, fits)) one) run
 
-      room_more : take (count + 1) (put_mid count m room more)
-          ≡ take count room ++ slice_index (put_mid count m room more) count ∷ []
-      room_more = take-put_mid count m room more (count + 1) (omega (arith, one)) (omega (arith, fits))
-          ∙ ap (λ bs. take count room ++ bs)
-          (one_byte count room more (drop m (drop count room)) (omega (arith, fits)) one)
+      buffer_more : take (count + 1) (put_mid count m buffer more)
+          ≡ take count buffer ++ slice_index (put_mid count m buffer more) count ∷ []
+      buffer_more = take-put_mid count m buffer more (count + 1) (omega (arith, one)) (omega (arith, fits))
+          ∙ ap (λ bs. take count buffer ++ bs)
+          (one_byte count buffer more (drop m (drop count buffer)) (omega (arith, fits)) one)
 
       -- one byte more, and the text goes on
-      pub text_goes_on : (white is_end : Bool) → CountsOnly a → place < 2 ^ 64 → Paid b c next
+      pub text_goes_on : (white is_end : Bool) → CountsOnly a → offset < 2 ^ 64 → Paid b c next
           → white ≡ is_ascii_whitespace
-          (slice_index (put_mid count m room more) count)
-          → is_end ≡ ends t begun (slice_index (put_mid count m room more) count)
-          → is_end ≡ false → Taking a c t place (count + 1) (begun || not white) (length (put_mid count m room more))
-          (take (count + 1) (put_mid count m room more))
+          (slice_index (put_mid count m buffer more) count)
+          → is_end ≡ ends t begun (slice_index (put_mid count m buffer more) count)
+          → is_end ≡ false → Taking a c t offset (count + 1) (begun || not white) (length (put_mid count m buffer more))
+          (take (count + 1) (put_mid count m buffer more))
       text_goes_on white is_end only short paid white_is end_is goes_on =
-          let on = taking_more h next next_is (slice_index (put_mid count m room more) count) fits read_one only
+          let on = taking_more h next next_is (slice_index (put_mid count m buffer more) count) fits read_one only
           (omega (arith, next_is, short)) paid (sym end_is ∙ goes_on) in
-          subst (λ w. Taking a c t place (count + 1) (begun || not w) (length (put_mid count m room more))
-          (take (count + 1) (put_mid count m room more))) (sym white_is)
-          (subst (λ k. Taking a c t place (count + 1)
-          (begun || not (is_ascii_whitespace (slice_index (put_mid count m room more) count))) k
-          (take (count + 1) (put_mid count m room more))) (sym (room_long count m room more fits is_one one))
-          (subst (λ bs. Taking a c t place (count + 1)
-          (begun || not (is_ascii_whitespace (slice_index (put_mid count m room more) count))) (length room) bs)
-          (sym room_more) on))
+          subst (λ w. Taking a c t offset (count + 1) (begun || not w) (length (put_mid count m buffer more))
+          (take (count + 1) (put_mid count m buffer more))) (sym white_is)
+          (subst (λ k. Taking a c t offset (count + 1)
+          (begun || not (is_ascii_whitespace (slice_index (put_mid count m buffer more) count))) k
+          (take (count + 1) (put_mid count m buffer more))) (sym (buffer_long count m buffer more fits is_one one))
+          (subst (λ bs. Taking a c t offset (count + 1)
+          (begun || not (is_ascii_whitespace (slice_index (put_mid count m buffer more) count))) (length buffer) bs)
+          (sym buffer_more) on))
 
       -- one byte more, which ends the text
       pub text_ends : (is_end : Bool) → CountsOnly a → IsSound a
-          → is_end ≡ ends t begun (slice_index (put_mid count m room more) count)
-          → is_end ≡ true → Runs a c (Ok (take (count + 1) (put_mid count m room more)))
-          (text_read a.held.input t place (length (put_mid count m room more)))
+          → is_end ≡ ends t begun (slice_index (put_mid count m buffer more) count)
+          → is_end ≡ true → Runs a c (Ok (take (count + 1) (put_mid count m buffer more)))
+          (text_read a.held.input t offset (length (put_mid count m buffer more)))
       text_ends is_end only sound end_is ends_here =
-          subst (λ k. Runs a c (Ok (take (count + 1) (put_mid count m room more))) (text_read a.held.input t place k))
-          (sym (room_long count m room more fits is_one one))
-          (subst (λ bs. Runs a c (Ok bs) (text_read a.held.input t place (length room))) (sym room_more)
-          (taking_done h next next_is (slice_index (put_mid count m room more) count) fits read_one only
+          subst (λ k. Runs a c (Ok (take (count + 1) (put_mid count m buffer more))) (text_read a.held.input t offset k))
+          (sym (buffer_long count m buffer more fits is_one one))
+          (subst (λ bs. Runs a c (Ok bs) (text_read a.held.input t offset (length buffer))) (sym buffer_more)
+          (taking_done h next next_is (slice_index (put_mid count m buffer more) count) fits read_one only
           (sym end_is ∙ ends_here) sound))
 
     -- no byte more
-    pub input_ends : IsSound a → n ≡ 0 → Runs a c (Ok (take count (put_mid count m room more)))
-        (text_read a.held.input t place (length (put_mid count m room more)))
+    pub input_ends : IsSound a → n ≡ 0 → Runs a c (Ok (take count (put_mid count m buffer more)))
+        (text_read a.held.input t offset (length (put_mid count m buffer more)))
     input_ends sound none =
-        subst (λ k. Runs a c (Ok (take count (put_mid count m room more))) (text_read a.held.input t place k))
-        (sym (room_long count m room more fits is_one one))
-        (subst (λ bs. Runs a c (Ok bs) (text_read a.held.input t place (length room)))
-        (sym (take-put_mid_below count m room more count (omega arith) (omega (arith, fits))))
+        subst (λ k. Runs a c (Ok (take count (put_mid count m buffer more))) (text_read a.held.input t offset k))
+        (sym (buffer_long count m buffer more fits is_one one))
+        (subst (λ bs. Runs a c (Ok bs) (text_read a.held.input t offset (length buffer)))
+        (sym (take-put_mid_below count m buffer more count (omega arith) (omega (arith, fits))))
         (taking_ends h next next_is (one_read b.held.input more [] next n one (ap (λ j. take j more) none) run) sound))
 
   -- a failure
-  pub text_stopped : {c : State} {e : Halt} (next m : ℕ) (more : List ℕ) → next ≡ min (place + count) (2 ^ 64 - 1)
-      → count < length room → m ≡ 1 → length more ≡ 1 → Runs b c (Err e) (part_read b.held.input next (length more))
+  pub text_stopped : {c : State} {e : Halt} (next m : ℕ) (more : List ℕ) → next ≡ min (offset + count) (2 ^ 64 - 1)
+      → count < length buffer → m ≡ 1 → length more ≡ 1 → Runs b c (Err e) (part_read b.held.input next (length more))
       → IsSound a → c.missed ≡ None
-      → Runs a c (Err e) (text_read a.held.input t place (length (put_mid count m room more)))
+      → Runs a c (Err e) (text_read a.held.input t offset (length (put_mid count m buffer more)))
   text_stopped {c} {e} next m more next_is fits is_one one run sound untold =
-      subst (λ k. Runs a c (Err e) (text_read a.held.input t place k))
-      (sym (room_long count m room more fits is_one one))
+      subst (λ k. Runs a c (Err e) (text_read a.held.input t offset k))
+      (sym (buffer_long count m buffer more fits is_one one))
       (taking_stopped h next next_is fits
       (subst (λ k. Runs b c (Err e) (part_read b.held.input next k)) one run) sound untold)

@@ -54,54 +54,54 @@ sound_at f (Some s) z w taken told honest =
 
 -- the state after a reading, whether or not it has a span
 abbrev pub read_on : State → ℕ → ℕ → State
-read_on a place n = record a { front = front_after a.front place n; taken = a.taken + new_bytes a.front place n }
+read_on a offset n = record a { front = front_after a.front offset n; taken = a.taken + new_bytes a.front offset n }
 
-no_span : (front place : ℕ) → front_after front place 0 ≡ front
-no_span front place = grind (arith, nat_tests)
+no_span : (front offset : ℕ) → front_after front offset 0 ≡ front
+no_span front offset = grind (arith, nat_tests)
 
 step_is : (a : State) (s : Span) → a.frame.counts ≡ true → a.recorded ≡ None → step a s ≡ read_on a s.start s.len
 step_is a s counts bare = rw (counts, bare) refl
 
-span-suc : (place n : ℕ) → span_at place (suc n) ≡ record { start = place; len = suc n } ∷ []
+span-suc : (offset n : ℕ) → span_at offset (suc n) ≡ record { start = offset; len = suc n } ∷ []
 unfolding span_at
-span-suc place n = let some : eqb (suc n) 0 ≡ false = grind (arith, nat_tests) in rw some refl
+span-suc offset n = let some : eqb (suc n) 0 ≡ false = grind (arith, nat_tests) in rw some refl
 
-pub past-span : (a : State) (place n : ℕ) → a.frame.counts ≡ true → a.recorded ≡ None
-    → state_after a (span_at place n) ≡ read_on a place n
+pub past-span : (a : State) (offset n : ℕ) → a.frame.counts ≡ true → a.recorded ≡ None
+    → state_after a (span_at offset n) ≡ read_on a offset n
 unfolding state_after span_at
-past-span a place zero counts bare =
-    let taken : a.taken + new_bytes a.front place 0 ≡ a.taken = omega arith in
-    rw (no_span a.front place, taken) refl
-past-span a place (suc n) counts bare = ap (state_after a) (span-suc place n) ∙ step_is a _ counts bare
+past-span a offset zero counts bare =
+    let taken : a.taken + new_bytes a.front offset 0 ≡ a.taken = omega arith in
+    rw (no_span a.front offset, taken) refl
+past-span a offset (suc n) counts bare = ap (state_after a) (span-suc offset n) ∙ step_is a _ counts bare
 
 -- a part of the window is one of the whole
-part-window : (w d : List ℕ) (place k : ℕ) → k ≤ length w - place → part (with_window w d) place k ≡ part w place k
+part-window : (w d : List ℕ) (offset k : ℕ) → k ≤ length w - offset → part (with_window w d) offset k ≡ part w offset k
 unfolding part
-part-window w d place zero fits = refl
-part-window w d place (suc k) fits =
-    ap (take (suc k)) (drop-append-le place w (drop (length w) d) (omega arith))
-    ∙ take-append-le (suc k) (drop place w) (drop (length w) d) (rw (length-drop place w) (omega arith))
+part-window w d offset zero fits = refl
+part-window w d offset (suc k) fits =
+    ap (take (suc k)) (drop-append-le offset w (drop (length w) d) (omega arith))
+    ∙ take-append-le (suc k) (drop offset w) (drop (length w) d) (rw (length-drop offset w) (omega arith))
 
 -- and a part behind the window one of the bytes behind the reader
-part-behind : (w d : List ℕ) (place k : ℕ) → length w ≤ place → part (with_window w d) place k ≡ part d place k
+part-behind : (w d : List ℕ) (offset k : ℕ) → length w ≤ offset → part (with_window w d) offset k ≡ part d offset k
 unfolding part
-part-behind w d place k far =
-    let split : length w + (place - length w) ≡ place = omega arith in
+part-behind w d offset k far =
+    let split : length w + (offset - length w) ≡ offset = omega arith in
     ap (λ p. take k (drop p (with_window w d))) (sym split)
-    ∙ ap (take k) (drop-append-add w (drop (length w) d) (place - length w) ∙ drop-drop (place - length w) (length w) d)
+    ∙ ap (take k) (drop-append-add w (drop (length w) d) (offset - length w) ∙ drop-drop (offset - length w) (length w) d)
     ∙ ap (λ p. take k (drop p d)) split
 
 -- a part that begins in the window and goes on behind it
-part-across : (w d : List ℕ) (place k copied : ℕ) → copied ≡ min k (length w - place) → copied < k
-    → part (with_window w d) place k
-    ≡ part w place k ++ part d (place + copied) (k - copied)
-part-across w d place k copied is short =
+part-across : (w d : List ℕ) (offset k copied : ℕ) → copied ≡ min k (length w - offset) → copied < k
+    → part (with_window w d) offset k
+    ≡ part w offset k ++ part d (offset + copied) (k - copied)
+part-across w d offset k copied is short =
     let whole : copied + (k - copied) ≡ k = omega arith in
-    ap (part (with_window w d) place) (sym whole)
-    ∙ sym (part-add (with_window w d) place copied (k - copied))
-    ∙ ap (λ l. l ++ part (with_window w d) (place + copied) (k - copied))
-    (part-window w d place copied (omega arith) ∙ sym (part_whole w place k copied is))
-    ∙ ap (λ l. part w place k ++ l) (part-behind w d (place + copied) (k - copied) (omega arith))
+    ap (part (with_window w d) offset) (sym whole)
+    ∙ sym (part-add (with_window w d) offset copied (k - copied))
+    ∙ ap (λ l. l ++ part (with_window w d) (offset + copied) (k - copied))
+    (part-window w d offset copied (omega arith) ∙ sym (part_whole w offset k copied is))
+    ∙ ap (λ l. part w offset k ++ l) (part-behind w d (offset + copied) (k - copied) (omega arith))
 
 -- a front of a front, and what follows it
 rejoined : (j n : ℕ) (l : List ℕ) → take j (take n l) ++ drop (length (take j (take n l))) l ≡ l
@@ -133,81 +133,81 @@ input_is : (s : Standing) (w : List ℕ) → (held_at (Some s) w).honest ≡ tru
 input_is s w honest = ap (λ h. h.input) (holds s w honest).1
 
 -- a reading that lies in the window changes nothing
-kept_front : (front place k : ℕ) → k ≤ front - place → front_after front place k ≡ front
-kept_front front place k fits = grind (arith, nat_tests)
+kept_front : (front offset k : ℕ) → k ≤ front - offset → front_after front offset k ≡ front
+kept_front front offset k fits = grind (arith, nat_tests)
 
-in_window_answer : (st : Option Standing) (w room old : List ℕ) (place n : ℕ) → n ≡ min (length old) (length w - place)
-    → room ≡ part w place (length old) ++ drop n old → n ≡ length room → length room ≡ length old
+in_window_answer : (st : Option Standing) (w buffer old : List ℕ) (offset n : ℕ) → n ≡ min (length old) (length w - offset)
+    → buffer ≡ part w offset (length old) ++ drop n old → n ≡ length buffer → length buffer ≡ length old
     → (held_at st w).honest ≡ true
-    → part (held_at st w).input place (length room) ≡ take n room
-in_window_answer None w room old place n count copied all kept honest = absurd cc
-in_window_answer (Some s) w room old place n count copied all kept honest =
-    ap (λ d. part d place (length room)) (input_is s w honest)
-    ∙ part-window w s.bytes place (length room) (omega arith)
-    ∙ ap (part w place) kept
-    ∙ sym (append-nil (part w place (length old)))
-    ∙ ap (λ l. part w place (length old) ++ l) (sym (drop_all n old (omega arith)))
+    → part (held_at st w).input offset (length buffer) ≡ take n buffer
+in_window_answer None w buffer old offset n count copied all kept honest = absurd cc
+in_window_answer (Some s) w buffer old offset n count copied all kept honest =
+    ap (λ d. part d offset (length buffer)) (input_is s w honest)
+    ∙ part-window w s.bytes offset (length buffer) (omega arith)
+    ∙ ap (part w offset) kept
+    ∙ sym (append-nil (part w offset (length old)))
+    ∙ ap (λ l. part w offset (length old) ++ l) (sym (drop_all n old (omega arith)))
     ∙ sym copied
-    ∙ sym (take_all n room (omega arith))
+    ∙ sym (take_all n buffer (omega arith))
 
-in_window_state : (f : Frame) (st : Option Standing) (z : Failures) (w : List ℕ) (taken place k : ℕ) → f.counts ≡ true
-    → k ≤ length w - place → (held_at st w).honest ≡ true
-    → state_at f st z w taken ≡ state_after (state_at f st z w taken) (span_of (held_at st w).input place k)
+in_window_state : (f : Frame) (st : Option Standing) (z : Failures) (w : List ℕ) (taken offset k : ℕ) → f.counts ≡ true
+    → k ≤ length w - offset → (held_at st w).honest ≡ true
+    → state_at f st z w taken ≡ state_after (state_at f st z w taken) (span_of (held_at st w).input offset k)
 unfolding span_of
-in_window_state f None z w taken place k counts fits honest = absurd cc
-in_window_state f (Some s) z w taken place k counts fits honest =
+in_window_state f None z w taken offset k counts fits honest = absurd cc
+in_window_state f (Some s) z w taken offset k counts fits honest =
     let a = state_at f (Some s) z w taken in
     let long : length (held_at (Some s) w).input ≡ length s.bytes = ap length (input_is s w honest)
     ∙ length-with_window w s.bytes
     (holds s w honest).0 in
     let within : length w ≤ length s.bytes = (holds s w honest).0 in
-    let all : min k (length (held_at (Some s) w).input - place) ≡ k = omega (arith, long, within) in
-    let same : taken + new_bytes (length w) place k ≡ taken = omega arith in
-    sym (ap (λ m. state_after a (span_at place m)) all ∙ past-span a place k counts refl
-    ∙ ap (λ n. record a { front = n; taken = taken + new_bytes (length w) place k })
-    (kept_front (length w) place k fits)
+    let all : min k (length (held_at (Some s) w).input - offset) ≡ k = omega (arith, long, within) in
+    let same : taken + new_bytes (length w) offset k ≡ taken = omega arith in
+    sym (ap (λ m. state_after a (span_at offset m)) all ∙ past-span a offset k counts refl
+    ∙ ap (λ n. record a { front = n; taken = taken + new_bytes (length w) offset k })
+    (kept_front (length w) offset k fits)
     ∙ ap (λ t. record a { taken = t }) same)
 
-pub in_window : (f : Frame) (st : Option Standing) (z : Failures) (w room old : List ℕ) (taken place n : ℕ)
+pub in_window : (f : Frame) (st : Option Standing) (z : Failures) (w buffer old : List ℕ) (taken offset n : ℕ)
     → ToldBy f st
-    → f.counts ≡ true → n ≡ min (length old) (length w - place) → room ≡ part w place (length old) ++ drop n old
-    → n ≡ length room
-    → length room ≡ length old → Runs (state_at f st z w taken) (state_at f st z w taken) (Ok (take (length room) room))
-    (part_read (held_at st w).input place (length room))
-in_window f st z w room old taken place n told counts count copied all kept = record {
+    → f.counts ≡ true → n ≡ min (length old) (length w - offset) → buffer ≡ part w offset (length old) ++ drop n old
+    → n ≡ length buffer
+    → length buffer ≡ length old → Runs (state_at f st z w taken) (state_at f st z w taken) (Ok (take (length buffer) buffer))
+    (part_read (held_at st w).input offset (length buffer))
+in_window f st z w buffer old taken offset n told counts count copied all kept = record {
   sound = sound_at f st z w taken told;
   sound_after = sound_at f st z w taken told;
   frame = refl;
   taken = omega arith;
   within = λ honest. omega arith;
   answer = λ honest goes_on. ap Ok
-      (in_window_answer st w room old place n count copied all kept honest ∙ ap (λ m. take m room) all);
-  state = λ honest goes_on. in_window_state f st z w taken place (length room) counts (omega arith) honest;
+      (in_window_answer st w buffer old offset n count copied all kept honest ∙ ap (λ m. take m buffer) all);
+  state = λ honest goes_on. in_window_state f st z w taken offset (length buffer) counts (omega arith) honest;
   fault = λ honest faults. absurd cc;
   misses = λ honest faults. absurd cc;
   ended = tt;
 }
 
 -- a reading that goes on behind the window: its bytes
-behind_answer : (s : Standing) (st' : Option Standing) (w room old more : List ℕ) (place now copied n : ℕ)
+behind_answer : (s : Standing) (st' : Option Standing) (w buffer old more : List ℕ) (offset now copied n : ℕ)
     → copied ≡ min (length old)
-    (length w - place) → room ≡ part w place (length old) ++ drop copied old → length room ≡ length old
-    → copied < length room
-    → GivesFrom (Some s) st' (place + copied) now more (Ok n) → n ≤ length more → length more ≡ length room - copied
-    → part (with_window w s.bytes) place (length room)
-    ≡ take (copied + n) (put_mid copied (length room - copied) room more)
-behind_answer s st' w room old more place now copied n count front kept short gives enough long =
-    part-across w s.bytes place (length room) copied (count ∙ ap (λ k. min k (length w - place)) (sym kept)) short
-    ∙ ap (λ l. l ++ part s.bytes (place + copied) (length room - copied))
-    (sym (front_is w room old place copied count front kept))
-    ∙ ap (λ l. take copied room ++ l) (part_whole s.bytes (place + copied) (length room - copied) n
-    (gives.2 ∙ ap (λ k. min k (length s.bytes - (place + copied))) long) ∙ sym gives.1)
-    ∙ sym (take_more room more copied n (omega arith) enough)
+    (length w - offset) → buffer ≡ part w offset (length old) ++ drop copied old → length buffer ≡ length old
+    → copied < length buffer
+    → GivesFrom (Some s) st' (offset + copied) now more (Ok n) → n ≤ length more → length more ≡ length buffer - copied
+    → part (with_window w s.bytes) offset (length buffer)
+    ≡ take (copied + n) (put_mid copied (length buffer - copied) buffer more)
+behind_answer s st' w buffer old more offset now copied n count front kept short gives enough long =
+    part-across w s.bytes offset (length buffer) copied (count ∙ ap (λ k. min k (length w - offset)) (sym kept)) short
+    ∙ ap (λ l. l ++ part s.bytes (offset + copied) (length buffer - copied))
+    (sym (front_is w buffer old offset copied count front kept))
+    ∙ ap (λ l. take copied buffer ++ l) (part_whole s.bytes (offset + copied) (length buffer - copied) n
+    (gives.2 ∙ ap (λ k. min k (length s.bytes - (offset + copied))) long) ∙ sym gives.1)
+    ∙ sym (take_more buffer more copied n (omega arith) enough)
 
 -- its window
 behind_held : (s : Standing) (w w' : List ℕ) (now : ℕ) → length w ≤ length s.bytes → length w' ≤ length s.bytes
     → with_window w' s.bytes
-    ≡ with_window w s.bytes → held_at (Some (record s { place = now })) w' ≡ held_at (Some s) w
+    ≡ with_window w s.bytes → held_at (Some (record s { offset = now })) w' ≡ held_at (Some s) w
 behind_held s w w' now fits fits' same =
     let yes : leb (length w) (length s.bytes) ≡ true = grind (arith, nat_tests) in
     let yes' : leb (length w') (length s.bytes) ≡ true = grind (arith, nat_tests) in
@@ -220,47 +220,47 @@ leb-false : (a b : ℕ) → b < a → leb a b ≡ false
 leb-false a b h = grind (arith, nat_tests)
 
 -- what is known of the window after bytes came
-record Grown (w w' : List ℕ) (d : List ℕ) (place m : ℕ) : Type 0 where
+record Grown (w w' : List ℕ) (d : List ℕ) (offset m : ℕ) : Type 0 where
   fits : length w' ≤ length d
   same : with_window w' d ≡ with_window w d
-  front : length w' ≡ front_after (length w) place m
+  front : length w' ≡ front_after (length w) offset m
 
-grows_to : (front place copied n : ℕ) → place + copied ≡ front → front ≤ 32
-    → front + min (32 - front) n ≡ front_after front place
+grows_to : (front offset copied n : ℕ) → offset + copied ≡ front → front ≤ 32
+    → front + min (32 - front) n ≡ front_after front offset
     (copied + n)
-grows_to front place copied n here small =
-    let before : leb place front ≡ true = grind (arith, nat_tests) in
+grows_to front offset copied n here small =
+    let before : leb offset front ≡ true = grind (arith, nat_tests) in
     rw before (omega arith)
 
-stays_at : (front place k copied n : ℕ) → eqb (place + copied) front ≡ false → copied ≡ min k (front - place)
+stays_at : (front offset k copied n : ℕ) → eqb (offset + copied) front ≡ false → copied ≡ min k (front - offset)
     → copied < k
-    → front ≡ front_after front place (copied + n)
-stays_at front place k copied n at count short =
-    let elsewhere : place + copied ≢ front = λ e. absurd (differs (place + copied) front at e) in
-    let behind : leb place front ≡ false = leb-false place front (omega (arith, count)) in
+    → front ≡ front_after front offset (copied + n)
+stays_at front offset k copied n at count short =
+    let elsewhere : offset + copied ≢ front = λ e. absurd (differs (offset + copied) front at e) in
+    let behind : leb offset front ≡ false = leb-false offset front (omega (arith, count)) in
     rw behind refl
 
-grown_if : (w d more : List ℕ) (place k copied n : ℕ) (b : Bool) → eqb (place + copied) (length w) ≡ b → length w ≤ 32
-    → length w ≤ length d → copied ≡ min k (length w - place) → copied < k → take n more ≡ part d (place + copied) n
-    → n ≤ length d - (place + copied)
-    → Grown w (cond b (w ++ take (32 - length w) (take n more)) w) d place (copied + n)
-grown_if w d more place k copied n true at small fits count short gave n_fits =
-    let here : place + copied ≡ length w = grind (arith, nat_tests) in
+grown_if : (w d more : List ℕ) (offset k copied n : ℕ) (b : Bool) → eqb (offset + copied) (length w) ≡ b → length w ≤ 32
+    → length w ≤ length d → copied ≡ min k (length w - offset) → copied < k → take n more ≡ part d (offset + copied) n
+    → n ≤ length d - (offset + copied)
+    → Grown w (cond b (w ++ take (32 - length w) (take n more)) w) d offset (copied + n)
+grown_if w d more offset k copied n true at small fits count short gave n_fits =
+    let here : offset + copied ≡ length w = grind (arith, nat_tests) in
     let bytes : w ++ take (32 - length w) (take n more) ≡ w ++ take (32 - length w) (part d (length w) n) =
     ap (λ l. w ++ take (32 - length w) l) (gave ∙ ap (λ p. part d p n) here) in
-    let room : n ≤ length d - length w = omega (arith, here, n_fits) in
+    let buffer : n ≤ length d - length w = omega (arith, here, n_fits) in
     let long : length (w ++ take (32 - length w) (take n more)) ≡ length w + min (32 - length w) n = ap length bytes
     ∙ length-kept w d
-    (32 - length w) n room in
+    (32 - length w) n buffer in
     record {
-      fits = omega (arith, long, room, fits);
-      same = ap (λ v. with_window v d) bytes ∙ with_window-kept w d (32 - length w) n room;
-      front = long ∙ grows_to (length w) place copied n here small;
+      fits = omega (arith, long, buffer, fits);
+      same = ap (λ v. with_window v d) bytes ∙ with_window-kept w d (32 - length w) n buffer;
+      front = long ∙ grows_to (length w) offset copied n here small;
     }
-grown_if w d more place k copied n false at small fits count short gave n_fits = record {
+grown_if w d more offset k copied n false at small fits count short gave n_fits = record {
   fits = fits;
   same = refl;
-  front = stays_at (length w) place k copied n at count short;
+  front = stays_at (length w) offset k copied n at count short;
 }
 
 -- states that agree in each part
@@ -290,187 +290,187 @@ together : (f f' : Frame) (h h' : Held) (m m' t t' : ℕ) (z z' : Failures) → 
 together f f' h h' m m' t t' z z' p q r s e = cc
 
 -- the source after a reading that went on behind the window
-behind_state : (f f' : Frame) (s : Standing) (z z' : Failures) (w w' : List ℕ) (taken taken' place now k copied n : ℕ)
-    → f.counts ≡ true → f' ≡ f → z' ≡ z → length w ≤ length s.bytes → Grown w w' s.bytes place (copied + n)
+behind_state : (f f' : Frame) (s : Standing) (z z' : Failures) (w w' : List ℕ) (taken taken' offset now k copied n : ℕ)
+    → f.counts ≡ true → f' ≡ f → z' ≡ z → length w ≤ length s.bytes → Grown w w' s.bytes offset (copied + n)
     → (held_at (Some s) w).honest ≡ true
-    → copied ≡ min k (length w - place) → n ≡ min (k - copied) (length s.bytes - (place + copied)) → copied < k
+    → copied ≡ min k (length w - offset) → n ≡ min (k - copied) (length s.bytes - (offset + copied)) → copied < k
     → taken' ≡ taken + n
-    → state_at f' (Some (record s { place = now })) z' w' taken' ≡ state_after (state_at f (Some s) z w taken)
-    (span_of (held_at (Some s) w).input place k)
+    → state_at f' (Some (record s { offset = now })) z' w' taken' ≡ state_after (state_at f (Some s) z w taken)
+    (span_of (held_at (Some s) w).input offset k)
 unfolding span_of
-behind_state f f' s z z' w w' taken taken' place now k copied n counts frame failed fits grown honest count rest short
+behind_state f f' s z z' w w' taken taken' offset now k copied n counts frame failed fits grown honest count rest short
     took =
     let a = state_at f (Some s) z w taken in
     let long : length (held_at (Some s) w).input ≡ length s.bytes = ap length (input_is s w honest)
     ∙ length-with_window w s.bytes fits in
-    let all : min k (length (held_at (Some s) w).input - place) ≡ copied + n = omega (arith, long, count, rest) in
-    let held : held_at (Some (record s { place = now })) w' ≡ held_at (Some s) w =
+    let all : min k (length (held_at (Some s) w).input - offset) ≡ copied + n = omega (arith, long, count, rest) in
+    let held : held_at (Some (record s { offset = now })) w' ≡ held_at (Some s) w =
     behind_held s w w' now fits grown.fits grown.same in
-    let paid : taken' ≡ taken + new_bytes (length w) place (copied + n) = omega (arith, took, count) in
+    let paid : taken' ≡ taken + new_bytes (length w) offset (copied + n) = omega (arith, took, count) in
     let front = grown.front in
-    together f' f (held_at (Some (record s { place = now })) w') (held_at (Some s) w) (length w')
-    (front_after (length w) place (copied + n)) taken'
-    (taken + new_bytes (length w) place (copied + n)) z' z frame held front paid failed
-    ∙ sym (ap (λ m. state_after a (span_at place m)) all ∙ past-span a place (copied + n) counts refl)
+    together f' f (held_at (Some (record s { offset = now })) w') (held_at (Some s) w) (length w')
+    (front_after (length w) offset (copied + n)) taken'
+    (taken + new_bytes (length w) offset (copied + n)) z' z frame held front paid failed
+    ∙ sym (ap (λ m. state_after a (span_at offset m)) all ∙ past-span a offset (copied + n) counts refl)
 
 -- A reading that the window does not hold: it copied what the window has, and got n bytes more.
-pub record Behind (f f' : Frame) (st st' : Option Standing) (z z' : Failures) (w w' room old more : List ℕ)
-    (taken taken' place now copied n : ℕ) : Type 0 where
+pub record Behind (f f' : Frame) (st st' : Option Standing) (z z' : Failures) (w w' buffer old more : List ℕ)
+    (taken taken' offset now copied n : ℕ) : Type 0 where
   pub told : ToldBy f st
   pub told_after : ToldBy f' st'
   pub counts : f.counts ≡ true
   pub frame : f' ≡ f
   pub failed : IfSome st (λ _. z' ≡ z)
   pub small : length w ≤ 32
-  pub count : copied ≡ min (length old) (length w - place)
-  pub front : room ≡ part w place (length old) ++ drop copied old
-  pub kept : length room ≡ length old
-  pub short : copied < length room
-  pub gives : GivesFrom st st' (place + copied) now more (Ok n)
+  pub count : copied ≡ min (length old) (length w - offset)
+  pub front : buffer ≡ part w offset (length old) ++ drop copied old
+  pub kept : length buffer ≡ length old
+  pub short : copied < length buffer
+  pub gives : GivesFrom st st' (offset + copied) now more (Ok n)
   pub enough : n ≤ length more
-  pub long : length more ≡ length room - copied
+  pub long : length more ≡ length buffer - copied
   pub took : taken' ≡ taken + n
-  pub window : w' ≡ kept_window w (place + copied) (take n more)
-  pub within : IfSome st (λ s. taken' ≤ taken + min (length more) (length s.bytes - (place + copied)))
+  pub window : w' ≡ kept_window w (offset + copied) (take n more)
+  pub within : IfSome st (λ s. taken' ≤ taken + min (length more) (length s.bytes - (offset + copied)))
 
-behind_grown : (s : Standing) (st' : Option Standing) (w w' more : List ℕ) (place now k copied n : ℕ) → length w ≤ 32
-    → length w ≤ length s.bytes → copied ≡ min k (length w - place) → copied < k
-    → GivesFrom (Some s) st' (place + copied) now more
-    (Ok n) → w' ≡ kept_window w (place + copied) (take n more) → Grown w w' s.bytes place (copied + n)
-behind_grown s st' w w' more place now k copied n small fits count short gives window =
-    subst (λ v. Grown w v s.bytes place (copied + n)) (sym window)
-    (grown_if w s.bytes more place k copied n (eqb (place + copied) (length w)) refl small fits count short gives.1
+behind_grown : (s : Standing) (st' : Option Standing) (w w' more : List ℕ) (offset now k copied n : ℕ) → length w ≤ 32
+    → length w ≤ length s.bytes → copied ≡ min k (length w - offset) → copied < k
+    → GivesFrom (Some s) st' (offset + copied) now more
+    (Ok n) → w' ≡ kept_window w (offset + copied) (take n more) → Grown w w' s.bytes offset (copied + n)
+behind_grown s st' w w' more offset now k copied n small fits count short gives window =
+    subst (λ v. Grown w v s.bytes offset (copied + n)) (sym window)
+    (grown_if w s.bytes more offset k copied n (eqb (offset + copied) (length w)) refl small fits count short gives.1
     (omega (arith, gives.2)))
 
-behind_runs_answer : (f f' : Frame) (st st' : Option Standing) (z z' : Failures) (w w' room old more : List ℕ)
-    (taken taken' place now copied n : ℕ) → Behind f f' st st' z z' w w' room old more taken taken' place now copied n
+behind_runs_answer : (f f' : Frame) (st st' : Option Standing) (z z' : Failures) (w w' buffer old more : List ℕ)
+    (taken taken' offset now copied n : ℕ) → Behind f f' st st' z z' w w' buffer old more taken taken' offset now copied n
     → (held_at st w).honest ≡ true
-    → part (held_at st w).input place (length room)
-    ≡ take (copied + n) (put_mid copied (length room - copied) room more)
-behind_runs_answer f f' None st' z z' w w' room old more taken taken' place now copied n h honest = absurd cc
-behind_runs_answer f f' (Some s) st' z z' w w' room old more taken taken' place now copied n h honest =
-    ap (λ d. part d place (length room)) (input_is s w honest)
-    ∙ behind_answer s st' w room old more place now copied n h.count h.front h.kept h.short h.gives h.enough h.long
+    → part (held_at st w).input offset (length buffer)
+    ≡ take (copied + n) (put_mid copied (length buffer - copied) buffer more)
+behind_runs_answer f f' None st' z z' w w' buffer old more taken taken' offset now copied n h honest = absurd cc
+behind_runs_answer f f' (Some s) st' z z' w w' buffer old more taken taken' offset now copied n h honest =
+    ap (λ d. part d offset (length buffer)) (input_is s w honest)
+    ∙ behind_answer s st' w buffer old more offset now copied n h.count h.front h.kept h.short h.gives h.enough h.long
 
-behind_runs_state : (f f' : Frame) (st st' : Option Standing) (z z' : Failures) (w w' room old more : List ℕ)
-    (taken taken' place now copied n : ℕ) → Behind f f' st st' z z' w w' room old more taken taken' place now copied n
+behind_runs_state : (f f' : Frame) (st st' : Option Standing) (z z' : Failures) (w w' buffer old more : List ℕ)
+    (taken taken' offset now copied n : ℕ) → Behind f f' st st' z z' w w' buffer old more taken taken' offset now copied n
     → (held_at st w).honest ≡ true → state_at f' st' z' w' taken'
-    ≡ state_after (state_at f st z w taken) (span_of (held_at st w).input place (length room))
-behind_runs_state f f' None st' z z' w w' room old more taken taken' place now copied n h honest = absurd cc
-behind_runs_state f f' (Some s) st' z z' w w' room old more taken taken' place now copied n h honest =
+    ≡ state_after (state_at f st z w taken) (span_of (held_at st w).input offset (length buffer))
+behind_runs_state f f' None st' z z' w w' buffer old more taken taken' offset now copied n h honest = absurd cc
+behind_runs_state f f' (Some s) st' z z' w w' buffer old more taken taken' offset now copied n h honest =
     let fits = (holds s w honest).0 in
-    let count : copied ≡ min (length room) (length w - place) = h.count
-    ∙ ap (λ k. min k (length w - place)) (sym h.kept) in
+    let count : copied ≡ min (length buffer) (length w - offset) = h.count
+    ∙ ap (λ k. min k (length w - offset)) (sym h.kept) in
     ap (λ v. state_at f' v z' w' taken') h.gives.0
-    ∙ behind_state f f' s z z' w w' taken taken' place now (length room) copied n h.counts h.frame h.failed fits
-    (behind_grown s st' w w' more place now (length room) copied n h.small fits count h.short h.gives h.window)
-    honest count (h.gives.2 ∙ ap (λ k. min k (length s.bytes - (place + copied))) h.long) h.short h.took
+    ∙ behind_state f f' s z z' w w' taken taken' offset now (length buffer) copied n h.counts h.frame h.failed fits
+    (behind_grown s st' w w' more offset now (length buffer) copied n h.small fits count h.short h.gives h.window)
+    honest count (h.gives.2 ∙ ap (λ k. min k (length s.bytes - (offset + copied))) h.long) h.short h.took
 
-within_claim : (st : Option Standing) (w : List ℕ) (taken taken' place copied k rest : ℕ)
-    → copied ≡ min k (length w - place)
-    → rest ≡ k - copied → IfSome st (λ s. taken' ≤ taken + min rest (length s.bytes - (place + copied)))
+within_claim : (st : Option Standing) (w : List ℕ) (taken taken' offset copied k rest : ℕ)
+    → copied ≡ min k (length w - offset)
+    → rest ≡ k - copied → IfSome st (λ s. taken' ≤ taken + min rest (length s.bytes - (offset + copied)))
     → (held_at st w).honest ≡ true
-    → taken' ≤ taken + total (span_of (held_at st w).input place k)
-within_claim None w taken taken' place copied k rest count left within honest = absurd cc
-within_claim (Some s) w taken taken' place copied k rest count left within honest =
+    → taken' ≤ taken + total (span_of (held_at st w).input offset k)
+within_claim None w taken taken' offset copied k rest count left within honest = absurd cc
+within_claim (Some s) w taken taken' offset copied k rest count left within honest =
     let fits = (holds s w honest).0 in
     let long : length (held_at (Some s) w).input ≡ length s.bytes = ap length (input_is s w honest)
     ∙ length-with_window w s.bytes fits in
-    let all : total (span_of (held_at (Some s) w).input place k) ≡ min k (length s.bytes - place) =
+    let all : total (span_of (held_at (Some s) w).input offset k) ≡ min k (length s.bytes - offset) =
     total_there (held_at (Some s) w).input
-    place k ∙ ap (λ n. min k (n - place)) long in
+    offset k ∙ ap (λ n. min k (n - offset)) long in
     omega (arith, all, within, count, left)
 
-pub behind_window : {f f' : Frame} {st st' : Option Standing} {z z' : Failures} {w w' room old more : List ℕ}
-    {taken taken' place now copied n : ℕ} → Behind f f' st st' z z' w w' room old more taken taken' place now copied n
+pub behind_window : {f f' : Frame} {st st' : Option Standing} {z z' : Failures} {w w' buffer old more : List ℕ}
+    {taken taken' offset now copied n : ℕ} → Behind f f' st st' z z' w w' buffer old more taken taken' offset now copied n
     → Runs (state_at f st z w taken) (state_at f' st' z' w' taken')
-    (Ok (take (copied + n) (put_mid copied (length room - copied) room more)))
-    (part_read (held_at st w).input place (length (put_mid copied (length room - copied) room more)))
-behind_window {f} {f'} {st} {st'} {z} {z'} {w} {w'} {room} {old} {more} {taken} {taken'} {place} {now} {copied} {n} h =
-    let whole : length (put_mid copied (length room - copied) room more) ≡ length room = length-put room more copied
+    (Ok (take (copied + n) (put_mid copied (length buffer - copied) buffer more)))
+    (part_read (held_at st w).input offset (length (put_mid copied (length buffer - copied) buffer more)))
+behind_window {f} {f'} {st} {st'} {z} {z'} {w} {w'} {buffer} {old} {more} {taken} {taken'} {offset} {now} {copied} {n} h =
+    let whole : length (put_mid copied (length buffer - copied) buffer more) ≡ length buffer = length-put buffer more copied
     (omega (arith, h.short)) h.long in
-    let count : copied ≡ min (length room) (length w - place) = h.count
-    ∙ ap (λ k. min k (length w - place)) (sym h.kept) in
+    let count : copied ≡ min (length buffer) (length w - offset) = h.count
+    ∙ ap (λ k. min k (length w - offset)) (sym h.kept) in
     subst (λ k. Runs (state_at f st z w taken) (state_at f' st' z' w' taken')
-    (Ok (take (copied + n) (put_mid copied (length room - copied) room more))) (part_read (held_at st w).input place k))
+    (Ok (take (copied + n) (put_mid copied (length buffer - copied) buffer more))) (part_read (held_at st w).input offset k))
     (sym whole)
     (record {
       sound = sound_at f st z w taken h.told;
       sound_after = sound_at f' st' z' w' taken' h.told_after;
       frame = h.frame;
       taken = omega (arith, h.took);
-      within = λ honest. within_claim st w taken taken' place copied (length room)
+      within = λ honest. within_claim st w taken taken' offset copied (length buffer)
           (length more) count h.long h.within honest;
       answer = λ honest goes_on. ap Ok
-          (behind_runs_answer f f' st st' z z' w w' room old more taken taken' place now copied n h honest);
-      state = λ honest goes_on. behind_runs_state f f' st st' z z' w w' room old more taken taken' place now copied n h
+          (behind_runs_answer f f' st st' z z' w w' buffer old more taken taken' offset now copied n h honest);
+      state = λ honest goes_on. behind_runs_state f f' st st' z z' w w' buffer old more taken taken' offset now copied n h
           honest;
       fault = λ honest faults. absurd cc;
       misses = λ honest faults. absurd cc;
       ended = tt;
     })
 
-fails_claim : (st st' : Option Standing) (w more : List ℕ) (place now : ℕ) (e : Halt)
-    → GivesFrom st st' place now more (Err e)
+fails_claim : (st st' : Option Standing) (w more : List ℕ) (offset now : ℕ) (e : Halt)
+    → GivesFrom st st' offset now more (Err e)
     → (held_at st w).honest ≡ true → is_failure e ≡ true → (held_at st w).can_fail ≡ true
-fails_claim None st' w more place now e gives honest faults = absurd cc
-fails_claim (Some s) st' w more place now e gives honest faults = ap (λ h. h.can_fail) (holds s w honest).1
+fails_claim None st' w more offset now e gives honest faults = absurd cc
+fails_claim (Some s) st' w more offset now e gives honest faults = ap (λ h. h.can_fail) (holds s w honest).1
     ∙ gives faults
 
 -- A reading behind the window that was stopped.
-pub record Halted (f f' : Frame) (st st' : Option Standing) (z z' : Failures) (w w' room old more : List ℕ)
-    (taken taken' place now copied : ℕ) (e : Halt) : Type 0 where
+pub record Halted (f f' : Frame) (st st' : Option Standing) (z z' : Failures) (w w' buffer old more : List ℕ)
+    (taken taken' offset now copied : ℕ) (e : Halt) : Type 0 where
   pub told : ToldBy f st
   pub told_after : ToldBy f' st'
   pub frame : f' ≡ f
   pub window : w' ≡ w
-  pub count : copied ≡ min (length old) (length w - place)
-  pub kept : length room ≡ length old
-  pub long : length more ≡ length room - copied
-  pub gives : GivesFrom st st' (place + copied) now more (Err e)
+  pub count : copied ≡ min (length old) (length w - offset)
+  pub kept : length buffer ≡ length old
+  pub long : length more ≡ length buffer - copied
+  pub gives : GivesFrom st st' (offset + copied) now more (Err e)
   pub paid : taken ≤ taken'
-  pub within : IfSome st (λ s. taken' ≤ taken + min (length more) (length s.bytes - (place + copied)))
+  pub within : IfSome st (λ s. taken' ≤ taken + min (length more) (length s.bytes - (offset + copied)))
   pub stops : is_stop e ≡ true
   pub ended : EndedBy (state_at f' st' z' w' taken') e
 
-halted : {f f' : Frame} {st st' : Option Standing} {z z' : Failures} {w w' room old more : List ℕ}
-    {taken taken' place now copied : ℕ} {e : Halt} (value : ℕ → List ℕ)
-    → Halted f f' st st' z z' w w' room old more taken taken' place now copied e → Runs (state_at f st z w taken)
-    (state_at f' st' z' w' taken') (map_answer value (Err e)) (part_read (held_at st w).input place (length room))
-halted {f} {f'} {st} {st'} {z} {z'} {w} {w'} {room} {old} {more} {taken} {taken'} {place} {now} {copied} {e} value h =
+halted : {f f' : Frame} {st st' : Option Standing} {z z' : Failures} {w w' buffer old more : List ℕ}
+    {taken taken' offset now copied : ℕ} {e : Halt} (value : ℕ → List ℕ)
+    → Halted f f' st st' z z' w w' buffer old more taken taken' offset now copied e → Runs (state_at f st z w taken)
+    (state_at f' st' z' w' taken') (map_answer value (Err e)) (part_read (held_at st w).input offset (length buffer))
+halted {f} {f'} {st} {st'} {z} {z'} {w} {w'} {buffer} {old} {more} {taken} {taken'} {offset} {now} {copied} {e} value h =
     record {
       sound = sound_at f st z w taken h.told;
       sound_after = sound_at f' st' z' w' taken' h.told_after;
       frame = h.frame;
       taken = h.paid;
-      within = λ honest. within_claim st w taken taken' place copied (length room) (length more)
-          (h.count ∙ ap (λ k. min k (length w - place)) (sym h.kept)) h.long h.within honest;
+      within = λ honest. within_claim st w taken taken' offset copied (length buffer) (length more)
+          (h.count ∙ ap (λ k. min k (length w - offset)) (sym h.kept)) h.long h.within honest;
       answer = λ honest goes_on. absurd cc;
       state = λ honest goes_on. absurd cc;
-      fault = λ honest faults. fails_claim st st' w more (place + copied) now e h.gives honest faults;
+      fault = λ honest faults. fails_claim st st' w more (offset + copied) now e h.gives honest faults;
       misses = λ honest faults. record { told = tt };
       ended = h.ended;
     }
 
-pub behind_stopped : {f f' : Frame} {st st' : Option Standing} {z z' : Failures} {w w' room old more : List ℕ}
-    {taken taken' place now copied : ℕ} {e : Halt} (value : ℕ → List ℕ) (r : Result ℕ Halt)
-    → Halted f f' st st' z z' w w' room old more taken taken' place now copied e → r ≡ Err e
+pub behind_stopped : {f f' : Frame} {st st' : Option Standing} {z z' : Failures} {w w' buffer old more : List ℕ}
+    {taken taken' offset now copied : ℕ} {e : Halt} (value : ℕ → List ℕ) (r : Result ℕ Halt)
+    → Halted f f' st st' z z' w w' buffer old more taken taken' offset now copied e → r ≡ Err e
     → Runs (state_at f st z w taken) (state_at f' st' z' w' taken') (map_answer value r)
-    (part_read (held_at st w).input place (length (put_mid copied (length room - copied) room more)))
-behind_stopped {f} {f'} {st} {st'} {z} {z'} {w} {w'} {room} {old} {more} {taken} {taken'} {place} {now} {copied} {e}
+    (part_read (held_at st w).input offset (length (put_mid copied (length buffer - copied) buffer more)))
+behind_stopped {f} {f'} {st} {st'} {z} {z'} {w} {w'} {buffer} {old} {more} {taken} {taken'} {offset} {now} {copied} {e}
     value r h is =
-    let whole : length (put_mid copied (length room - copied) room more) ≡ length room = length-put room more copied
+    let whole : length (put_mid copied (length buffer - copied) buffer more) ≡ length buffer = length-put buffer more copied
     (omega (arith, h.count, h.kept)) h.long in
     subst (λ k. Runs (state_at f st z w taken) (state_at f' st' z' w' taken') (map_answer value r)
-    (part_read (held_at st w).input place k))
+    (part_read (held_at st w).input offset k))
     (sym whole)
     (subst (λ q. Runs (state_at f st z w taken) (state_at f' st' z' w' taken') (map_answer value q)
-    (part_read (held_at st w).input place (length room))) (sym is) (halted value h))
+    (part_read (held_at st w).input offset (length buffer))) (sym is) (halted value h))
 
--- the window has nothing from a place on that lies behind it
-pub none_in : (w more : List ℕ) (place k : ℕ) → length w ≤ place → more ≡ part w place k ++ drop 0 more
+-- the window has nothing from an offset on that lies behind it
+pub none_in : (w more : List ℕ) (offset k : ℕ) → length w ≤ offset → more ≡ part w offset k ++ drop 0 more
 unfolding part
-none_in w more place k far = ap (λ l. l ++ more) (sym (ap (take k) (drop_all place w far) ∙ take-nil k))
+none_in w more offset k far = ap (λ l. l ++ more) (sym (ap (take k) (drop_all offset w far) ∙ take-nil k))
 
 pub put_whole : (more : List ℕ) → put_mid 0 (length more - 0) more more ≡ more
 put_whole more = ap (λ l. more ++ l) (drop_all (length more - 0) more (omega arith)) ∙ append-nil more
@@ -521,41 +521,41 @@ ended_by a home p st w e stops = record {
   fault = λ failed. (stops.fault failed, kept_fault p.fault a.failure (stops.fault failed));
 }
 
-end_answer : (f : Frame) (st : Option Standing) (w : List ℕ) (place k : ℕ) → ToldBy f st → f.told < place
+end_answer : (f : Frame) (st : Option Standing) (w : List ℕ) (offset k : ℕ) → ToldBy f st → f.told < offset
     → (held_at st w).honest ≡ true
-    → part (held_at st w).input place k ≡ []
-end_answer f None w place k told far honest = absurd cc
-end_answer f (Some s) w place k told far honest =
+    → part (held_at st w).input offset k ≡ []
+end_answer f None w offset k told far honest = absurd cc
+end_answer f (Some s) w offset k told far honest =
     let long : length (held_at (Some s) w).input ≡ length s.bytes = ap length (input_is s w honest)
     ∙ length-with_window w s.bytes
     (holds s w honest).0 in
-    no_part (held_at (Some s) w).input place k (omega (arith, long, told.0, far))
+    no_part (held_at (Some s) w).input offset k (omega (arith, long, told.0, far))
 
-end_state : (f : Frame) (st : Option Standing) (z : Failures) (w : List ℕ) (taken place k : ℕ) → ToldBy f st
-    → f.told < place
+end_state : (f : Frame) (st : Option Standing) (z : Failures) (w : List ℕ) (taken offset k : ℕ) → ToldBy f st
+    → f.told < offset
     → (held_at st w).honest ≡ true
-    → state_at f st z w taken ≡ state_after (state_at f st z w taken) (span_of (held_at st w).input place k)
+    → state_at f st z w taken ≡ state_after (state_at f st z w taken) (span_of (held_at st w).input offset k)
 unfolding span_of span_at state_after
-end_state f None z w taken place k told far honest = absurd cc
-end_state f (Some s) z w taken place k told far honest =
+end_state f None z w taken offset k told far honest = absurd cc
+end_state f (Some s) z w taken offset k told far honest =
     let long : length (held_at (Some s) w).input ≡ length s.bytes = ap length (input_is s w honest)
     ∙ length-with_window w s.bytes
     (holds s w honest).0 in
-    let none : min k (length (held_at (Some s) w).input - place) ≡ 0 = omega (arith, long, told.0, far) in
-    sym (ap (λ n. state_after (state_at f (Some s) z w taken) (span_at place n)) none)
+    let none : min k (length (held_at (Some s) w).input - offset) ≡ 0 = omega (arith, long, told.0, far) in
+    sym (ap (λ n. state_after (state_at f (Some s) z w taken) (span_at offset n)) none)
 
 -- a reading above the told length sees nothing, and changes nothing
-pub behind_end : {f : Frame} (st : Option Standing) (z : Failures) (w : List ℕ) (taken place k : ℕ) → ToldBy f st
-    → f.told < place
-    → Runs (state_at f st z w taken) (state_at f st z w taken) (Ok []) (part_read (held_at st w).input place k)
-behind_end {f} st z w taken place k told far = record {
+pub behind_end : {f : Frame} (st : Option Standing) (z : Failures) (w : List ℕ) (taken offset k : ℕ) → ToldBy f st
+    → f.told < offset
+    → Runs (state_at f st z w taken) (state_at f st z w taken) (Ok []) (part_read (held_at st w).input offset k)
+behind_end {f} st z w taken offset k told far = record {
   sound = sound_at f st z w taken told;
   sound_after = sound_at f st z w taken told;
   frame = refl;
   taken = omega arith;
   within = λ honest. omega arith;
-  answer = λ honest goes_on. ap Ok (end_answer f st w place k told far honest);
-  state = λ honest goes_on. end_state f st z w taken place k told far honest;
+  answer = λ honest goes_on. ap Ok (end_answer f st w offset k told far honest);
+  state = λ honest goes_on. end_state f st z w taken offset k told far honest;
   fault = λ honest faults. absurd cc;
   misses = λ honest faults. absurd cc;
   ended = tt;

@@ -1,7 +1,7 @@
 -- What a call over a reader returns, by the reads that it makes, and how many bytes it reads.
 use Rattle.std.specs.Prelude.{◌≡◌, ℕ, ◌+◌, ◌≤◌, true, false, List, length, Result, Option, None, Some, IsSomeAnd}
 use Rattle.imagesize_source.specs.declared.error.ImageError.{ImageError}
-use Rattle.imagesize_source.specs.Counts.{places}
+use Rattle.imagesize_source.specs.Counts.{offsets}
 use Rattle.imagesize_source.specs.Errors.{is_stopped, is_faulted}
 use Rattle.imagesize_source.specs.Outcome.{Outcome}
 use Rattle.imagesize_source.specs.State.{total}
@@ -18,11 +18,11 @@ pub record AnswersAs {X : Type 0} (t : Telling) (reads : Outcome X) (r : Result 
 -- offsets that the spans cover.
 pub record TakesAs {X : Type 0} (t : Telling) (reads : Outcome X) (r : Result X ImageError) (taken : ℕ) : Type 0 where
   pub most : taken ≤ total reads.marks
-  pub least : is_stopped r ≡ false → places (length t.bytes) reads.marks ≤ taken
+  pub least : is_stopped r ≡ false → offsets (length t.bytes) reads.marks ≤ taken
 
 -- what reads from an offset on say about the bytes of a reader, at its own offset
 abbrev pub over_reader : {X : Type 0} → Telling → (List ℕ → ℕ → Outcome X) → Outcome X
-over_reader t reads = reads t.bytes t.place
+over_reader t reads = reads t.bytes t.offset
 
 -- over an honest reader, the result is that of the reads, or a failure
 abbrev pub Answers : {X : Type 0} → Option Telling → (List ℕ → ℕ → Outcome X) → Result X ImageError → Type 0

@@ -9,7 +9,7 @@ use Rattle.imagesize_source.specs.Limits.{allowance, most_held}
 use Rattle.imagesize_io.specs.declared.reader.Ledger.{Ledger}
 use Rattle.imagesize_source.specs.Reading.{part_read, text_read, map_answer}
 use Rattle.imagesize_io.specs.StopOf.{Failures, failures_of}
-use Rattle.imagesize_io.specs.Telling.{Account, Fails, Telling, at_place}
+use Rattle.imagesize_io.specs.Telling.{Account, Fails, Telling, at_offset}
 use Rattle.imagesize_io.specs.Standing.{Standing, KeepsCounts, behind, behind_of, steady, stand_of, stand, drift}
 use Rattle.imagesize_source.specs.State.{State, Frame, Held, Runs, Reader}
 
@@ -56,13 +56,13 @@ reader_state a home p window =
 
 -- the window after a read: the next bytes after the window are added to it, up to its length
 abbrev pub kept_window : List ℕ → ℕ → List ℕ → List ℕ
-kept_window window place bytes = if place == length window then window ++ take (most_held - length window) bytes else window
+kept_window window offset bytes = if offset == length window then window ++ take (most_held - length window) bytes else window
 
 -- what opening a reader returns: its offset and its length; the reader is then at its end
 abbrev pub Opens : Option Telling → Option Telling → Result Opened ImageError → Type 0
 Opens None new r = new ≡ None
 Opens (Some t) new (Ok opened) =
-    (new ≡ Some (at_place t (length t.bytes))) × (opened.place ≡ t.place) × (opened.told ≡ length t.bytes)
+    (new ≡ Some (at_offset t (length t.bytes))) × (opened.offset ≡ t.offset) × (opened.told ≡ length t.bytes)
 Opens (Some t) new (Err e) = Fails t new
 
 -- A reader as a source before the first read, with its reported length. It is at its end, and the budget is the
@@ -79,30 +79,30 @@ start_state telling count home told = state_at
 
 -- What a read from an offset on did, over every reader. It saw the bytes that the window has, and those that follow
 -- from the reader.
-pub record ReadsAt (old new : Ledger) (a b : Account) (place : ℕ) (room : List ℕ) (r : Result ℕ Halt) : Type 0 where
-  pub bound : IfOk r (λ n. n ≤ length room)
-  pub pays : IfOk r (λ n. 0 < n → max old.progress.told most_held < place → (old.progress.taken < new.progress.taken)
+pub record ReadsAt (old new : Ledger) (a b : Account) (offset : ℕ) (buffer : List ℕ) (r : Result ℕ Halt) : Type 0 where
+  pub bound : IfOk r (λ n. n ≤ length buffer)
+  pub pays : IfOk r (λ n. 0 < n → max old.progress.told most_held < offset → (old.progress.taken < new.progress.taken)
       × (new.progress.taken ≤ old.progress.budget))
   pub keeps : KeepsCounts old.progress new.progress
   pub runs : (home : ℕ) → Runs (reader_state a home old.progress old.window.items)
-      (reader_state b home new.progress new.window.items) (map_answer (λ n. take n room) r)
-      (part_read (held_at (stand a.telling old.progress) old.window.items).input place (length room))
+      (reader_state b home new.progress new.window.items) (map_answer (λ n. take n buffer) r)
+      (part_read (held_at (stand a.telling old.progress) old.window.items).input offset (length buffer))
 
 -- What a read of a source did. Past the reported length, it goes on only from the end of the last read. At any other
 -- offset there it is at the end of the input, and does not call the reader.
-pub record ReadsOn {R : Type 0} (reader reader' : R) (old new : Ledger) (a b : Account) (place : ℕ) (room : List ℕ)
+pub record ReadsOn {R : Type 0} (reader reader' : R) (old new : Ledger) (a b : Account) (offset : ℕ) (buffer : List ℕ)
     (r : Result ℕ Halt) : Type 0 where
-  pub reads : ReadsAt old new a b place room r
-  pub present : place ≤ old.progress.told → IfOk r (λ n. new.present ≡ min (place + n) (2 ^ 64 - 1))
-  pub goes_on : place ≡ old.present → IfOk r (λ n. new.present ≡ min (place + n) (2 ^ 64 - 1))
-  pub ends : old.progress.told < place → place ≢ old.present → (r ≡ Ok 0) × (reader' ≡ reader) × (new.present ≡ old.present)
+  pub reads : ReadsAt old new a b offset buffer r
+  pub present : offset ≤ old.progress.told → IfOk r (λ n. new.present ≡ min (offset + n) (2 ^ 64 - 1))
+  pub goes_on : offset ≡ old.present → IfOk r (λ n. new.present ≡ min (offset + n) (2 ^ 64 - 1))
+  pub ends : old.progress.told < offset → offset ≢ old.present → (r ≡ Ok 0) × (reader' ≡ reader) × (new.present ≡ old.present)
 
 -- what a read of a text from an offset on did, over every reader
-pub record ReadsText (old new : Ledger) (a b : Account) (text : Text) (place : ℕ) (room : List ℕ) (r : Result ℕ Halt)
+pub record ReadsText (old new : Ledger) (a b : Account) (text : Text) (offset : ℕ) (buffer : List ℕ) (r : Result ℕ Halt)
     : Type 0 where
-  pub bound : IfOk r (λ n. n ≤ length room)
-  pub pays : IfOk r (λ n. 0 < n → max old.progress.told most_held < place → old.progress.taken < new.progress.taken)
+  pub bound : IfOk r (λ n. n ≤ length buffer)
+  pub pays : IfOk r (λ n. 0 < n → max old.progress.told most_held < offset → old.progress.taken < new.progress.taken)
   pub runs : (home : ℕ) → Runs (reader_state a home old.progress old.window.items)
       (reader_state b home new.progress new.window.items)
-      (map_answer (λ n. take n room) r)
-      (text_read (held_at (stand a.telling old.progress) old.window.items).input text place (length room))
+      (map_answer (λ n. take n buffer) r)
+      (text_read (held_at (stand a.telling old.progress) old.window.items).input text offset (length buffer))

@@ -13,12 +13,12 @@ use Rattle.imagesize_io.specs.Telling.{Account, Telling, bytes_given}
 -- the bytes of a reader, its offset, and whether a call may fail
 pub record Standing : Type 0 where
   pub bytes : List ℕ
-  pub place : ℕ
+  pub offset : ℕ
   pub can_fail : Bool
 
 -- n bytes further on
 abbrev pub advance_standing : Standing → ℕ → Standing
-advance_standing s n = record s { place = s.place + n }
+advance_standing s n = record s { offset = s.offset + n }
 
 -- The model without its interruptions, after this many retries. It exists if the reader can fail, or if no more
 -- interruptions come than are retried.
@@ -26,19 +26,19 @@ abbrev pub steady : Option Telling → ℕ → Option Standing
 steady None retries = None
 steady (Some t) retries =
     if t.can_fail || nat_le (t.interruptions + retries) most_retries
-    then Some (record { bytes = t.bytes; place = t.place; can_fail = t.can_fail }) else None
+    then Some (record { bytes = t.bytes; offset = t.offset; can_fail = t.can_fail }) else None
 
 -- whether the reported length and the kept offset agree with the model, and no error is kept
 abbrev pub in_step : ℕ → ℕ → Option Error → Standing → Bool
-in_step told place fault s = nat_lt (length s.bytes) (2 ^ 63) && (told == length s.bytes) && (place == s.place) && is_none fault
+in_step told offset fault s = nat_lt (length s.bytes) (2 ^ 63) && (told == length s.bytes) && (offset == s.offset) && is_none fault
 
 -- the state of a reader, if these numbers agree with its model and no call failed
 abbrev pub stand_of : ℕ → ℕ → Option Error → Option Standing → Option Standing
-stand_of told place fault None = None
-stand_of told place fault (Some s) = if in_step told place fault s then Some s else None
+stand_of told offset fault None = None
+stand_of told offset fault (Some s) = if in_step told offset fault s then Some s else None
 
 abbrev pub stand : Option Telling → Progress → Option Standing
-stand telling p = stand_of p.told p.place p.fault (steady telling p.retries)
+stand telling p = stand_of p.told p.offset p.fault (steady telling p.retries)
 
 -- How many interruptions come in all, with those already retried. The number is known for a reader that cannot fail
 -- and has the reported length. All interruptions must be retried, and no error kept.
@@ -58,32 +58,32 @@ behind telling p = behind_of p.told p.retries p.fault telling
 -- What a read at the reader's offset did. It returned the next bytes, at least one if there is one and the buffer is
 -- not empty. Only a reader that can fail has a failure.
 abbrev pub GivesSome : Option Standing → Option Standing → List ℕ → Result ℕ Halt → Type 0
-GivesSome None new room r = ⊤
-GivesSome (Some s) new room (Ok n) =
-    (new ≡ Some (advance_standing s n)) × (take n room ≡ part s.bytes s.place n) × (n ≤ length s.bytes - s.place)
-    × (0 < length room → s.place < length s.bytes → 0 < n)
-GivesSome (Some s) new room (Err halt) = is_failure halt ≡ true → s.can_fail ≡ true
+GivesSome None new buffer r = ⊤
+GivesSome (Some s) new buffer (Ok n) =
+    (new ≡ Some (advance_standing s n)) × (take n buffer ≡ part s.bytes s.offset n) × (n ≤ length s.bytes - s.offset)
+    × (0 < length buffer → s.offset < length s.bytes → 0 < n)
+GivesSome (Some s) new buffer (Err halt) = is_failure halt ≡ true → s.can_fail ≡ true
 
 -- what a read at the reader's offset did that goes on until the buffer is full or the bytes end
 abbrev pub GivesAll : Option Standing → Option Standing → List ℕ → Result ℕ Halt → Type 0
-GivesAll None new room r = ⊤
-GivesAll (Some s) new room (Ok n) =
-    (new ≡ Some (advance_standing s n)) × (take n room ≡ part s.bytes s.place n) × (n ≡ min (length room) (length s.bytes - s.place))
-GivesAll (Some s) new room (Err halt) = is_failure halt ≡ true → s.can_fail ≡ true
+GivesAll None new buffer r = ⊤
+GivesAll (Some s) new buffer (Ok n) =
+    (new ≡ Some (advance_standing s n)) × (take n buffer ≡ part s.bytes s.offset n) × (n ≡ min (length buffer) (length s.bytes - s.offset))
+GivesAll (Some s) new buffer (Err halt) = is_failure halt ≡ true → s.can_fail ≡ true
 
 -- what a seek did: the reader is at the offset now, or the offset is past its bytes
 abbrev pub GoesTo : Option Standing → Option Standing → ℕ → ℕ → Result Bool Halt → Type 0
-GoesTo None new place now r = ⊤
-GoesTo (Some s) new place now (Ok true) = (new ≡ Some (record s { place = place })) × (now ≡ place)
-GoesTo (Some s) new place now (Ok false) = (new ≡ Some s) × (length s.bytes < place) × (now ≡ s.place)
-GoesTo (Some s) new place now (Err halt) = is_failure halt ≡ true → s.can_fail ≡ true
+GoesTo None new offset now r = ⊤
+GoesTo (Some s) new offset now (Ok true) = (new ≡ Some (record s { offset = offset })) × (now ≡ offset)
+GoesTo (Some s) new offset now (Ok false) = (new ≡ Some s) × (length s.bytes < offset) × (now ≡ s.offset)
+GoesTo (Some s) new offset now (Err halt) = is_failure halt ≡ true → s.can_fail ≡ true
 
 -- what a read from an offset on did, until the buffer is full or the bytes end
 abbrev pub GivesFrom : Option Standing → Option Standing → ℕ → ℕ → List ℕ → Result ℕ Halt → Type 0
-GivesFrom None new place now room r = ⊤
-GivesFrom (Some s) new place now room (Ok n) =
-    (new ≡ Some (record s { place = now })) × (take n room ≡ part s.bytes place n) × (n ≡ min (length room) (length s.bytes - place))
-GivesFrom (Some s) new place now room (Err halt) = is_failure halt ≡ true → s.can_fail ≡ true
+GivesFrom None new offset now buffer r = ⊤
+GivesFrom (Some s) new offset now buffer (Ok n) =
+    (new ≡ Some (record s { offset = now })) × (take n buffer ≡ part s.bytes offset n) × (n ≡ min (length buffer) (length s.bytes - offset))
+GivesFrom (Some s) new offset now buffer (Err halt) = is_failure halt ≡ true → s.can_fail ≡ true
 
 -- a reader with a model still has one, and each of its interruptions was counted as a try
 abbrev pub Tries : Option Telling → ℕ → Option Telling → ℕ → Type 0
@@ -109,11 +109,11 @@ pub record KeepsCounts (old new : Progress) : Type 0 where
   pub limit : old.retries ≤ most_retries → new.retries ≤ most_retries
 
 -- what one read at the reader's offset did
-pub record ReadsOnce (old new : Progress) (a b : Account) (room : List ℕ) (r : Result ℕ Halt) : Type 0 where
-  pub bound : IfOk r (λ n. n ≤ length room)
-  pub stand : GivesSome (stand a.telling old) (stand b.telling new) room r
+pub record ReadsOnce (old new : Progress) (a b : Account) (buffer : List ℕ) (r : Result ℕ Halt) : Type 0 where
+  pub bound : IfOk r (λ n. n ≤ length buffer)
+  pub stand : GivesSome (stand a.telling old) (stand b.telling new) buffer r
   pub taken : new.taken ≡ old.taken + bytes_given r
-  pub place : IfOk r (λ n. new.place ≡ min (old.place + n) (2 ^ 64 - 1))
+  pub offset : IfOk r (λ n. new.offset ≡ min (old.offset + n) (2 ^ 64 - 1))
   pub since : drift b.count new.taken ≡ drift a.count old.taken
   pub behind : behind b.telling new ≡ behind a.telling old
   pub calm : OnOk r (new.fault ≡ old.fault)
@@ -122,13 +122,13 @@ pub record ReadsOnce (old new : Progress) (a b : Account) (room : List ℕ) (r :
   pub stops : IfErr r (StopsBy new b.failure)
 
 -- what reads at the reader's offset did, one after another until the buffer is full or the bytes end
-pub record Fills (old new : Progress) (before after : Option Standing) (a b : Account) (room : List ℕ) (r : Result ℕ Halt)
+pub record Fills (old new : Progress) (before after : Option Standing) (a b : Account) (buffer : List ℕ) (r : Result ℕ Halt)
     : Type 0 where
-  pub bound : IfOk r (λ n. n ≤ length room)
-  pub stand : GivesAll before after room r
+  pub bound : IfOk r (λ n. n ≤ length buffer)
+  pub stand : GivesAll before after buffer r
   pub taken : IfOk r (λ n. new.taken ≡ old.taken + n)
-  pub place : IfOk r (λ n. new.place ≡ min (old.place + n) (2 ^ 64 - 1))
-  pub within : IfSome before (λ s. new.taken ≤ old.taken + min (length room) (length s.bytes - s.place))
+  pub offset : IfOk r (λ n. new.offset ≡ min (old.offset + n) (2 ^ 64 - 1))
+  pub within : IfSome before (λ s. new.taken ≤ old.taken + min (length buffer) (length s.bytes - s.offset))
   pub since : drift b.count new.taken ≡ drift a.count old.taken
   pub behind : behind b.telling new ≡ behind a.telling old
   pub calm : OnOk r (new.fault ≡ old.fault)
@@ -136,14 +136,14 @@ pub record Fills (old new : Progress) (before after : Option Standing) (a b : Ac
   pub stops : IfErr r (StopsBy new b.failure)
 
 -- what a read from an offset on did, over every reader
-pub record ReadsFrom (old new : Progress) (before after : Option Standing) (a b : Account) (place : ℕ) (room : List ℕ)
+pub record ReadsFrom (old new : Progress) (before after : Option Standing) (a b : Account) (offset : ℕ) (buffer : List ℕ)
     (r : Result ℕ Halt) : Type 0 where
-  pub bound : IfOk r (λ n. n ≤ length room)
-  pub stand : GivesFrom before after place new.place room r
-  pub stands : IfOk r (λ n. place ≤ old.told → new.place ≡ min (place + n) (2 ^ 64 - 1))
+  pub bound : IfOk r (λ n. n ≤ length buffer)
+  pub stand : GivesFrom before after offset new.offset buffer r
+  pub stands : IfOk r (λ n. offset ≤ old.told → new.offset ≡ min (offset + n) (2 ^ 64 - 1))
   pub taken : IfOk r (λ n. new.taken ≡ old.taken + n)
-  pub within : IfSome before (λ s. new.taken ≤ old.taken + min (length room) (length s.bytes - place))
-  pub pays : IfOk r (λ n. old.told < place → 0 < n → old.taken < new.taken)
+  pub within : IfSome before (λ s. new.taken ≤ old.taken + min (length buffer) (length s.bytes - offset))
+  pub pays : IfOk r (λ n. old.told < offset → 0 < n → old.taken < new.taken)
   pub since : drift b.count new.taken ≡ drift a.count old.taken
   pub behind : behind b.telling new ≡ behind a.telling old
   pub calm : OnOk r (new.fault ≡ old.fault)

@@ -12,7 +12,7 @@ use Rattle.imagesize_source.specs.Limits.{most_retries}
 -- may fail, any number of reads may be interrupted.
 pub record Telling : Type 0 where
   pub bytes : List ℕ
-  pub place : ℕ
+  pub offset : ℕ
   pub can_fail : Bool
   pub interruptions : ℕ
 
@@ -22,11 +22,11 @@ may_fail told = option_map {T = Telling} (λ t. record t { can_fail = true }) to
 
 -- n bytes further on
 abbrev pub advance_telling : Telling → ℕ → Telling
-advance_telling t n = record t { place = t.place + n }
+advance_telling t n = record t { offset = t.offset + n }
 
 -- at another offset
-abbrev pub at_place : Telling → ℕ → Telling
-at_place t place = record t { place = place }
+abbrev pub at_offset : Telling → ℕ → Telling
+at_offset t offset = record t { offset = offset }
 
 -- after one more interruption
 abbrev pub interrupt_telling : Telling → Telling
@@ -36,27 +36,27 @@ interrupt_telling t = record t { interruptions = t.interruptions - 1 }
 abbrev pub Fails : Telling → Option Telling → Type 0
 Fails t new = (t.can_fail ≡ true) × IsSomeAnd new (λ u. (u.bytes ≡ t.bytes) × (u.can_fail ≡ true))
 
--- What a read into a buffer did; `room` is the buffer afterwards. It returned n bytes from the offset on, at least
+-- What a read into a buffer did; `buffer` is the buffer afterwards. It returned n bytes from the offset on, at least
 -- one if there is one and the buffer is not empty. Or it returned none; an interruption keeps the offset.
 abbrev pub ReadGives : Telling → Option Telling → List ℕ → Result ℕ Stop → Type 0
-ReadGives t new room (Ok n) =
-    (new ≡ Some (advance_telling t n)) × (take n room ≡ part t.bytes t.place n) × (n ≤ length t.bytes - t.place)
-    × (0 < length room → t.place < length t.bytes → 0 < n)
-ReadGives t new room (Err (Interrupted e)) = (new ≡ Some (interrupt_telling t)) × (t.can_fail ≡ false → 0 < t.interruptions)
-ReadGives t new room (Err (Fault e)) = Fails t new
+ReadGives t new buffer (Ok n) =
+    (new ≡ Some (advance_telling t n)) × (take n buffer ≡ part t.bytes t.offset n) × (n ≤ length t.bytes - t.offset)
+    × (0 < length buffer → t.offset < length t.bytes → 0 < n)
+ReadGives t new buffer (Err (Interrupted e)) = (new ≡ Some (interrupt_telling t)) × (t.can_fail ≡ false → 0 < t.interruptions)
+ReadGives t new buffer (Err (Fault e)) = Fails t new
 
 -- what a read did, if the reader has a model
 abbrev pub ReadTells : Option Telling → Option Telling → List ℕ → Result ℕ Stop → Type 0
-ReadTells None new room r = new ≡ None
-ReadTells (Some t) new room r = ReadGives t new room r
+ReadTells None new buffer r = new ≡ None
+ReadTells (Some t) new buffer r = ReadGives t new buffer r
 
 -- the offset that a seek is known to go to: one within the bytes or at their end, the end itself, or the present one
 abbrev pub seek_target : Telling → SeekFrom → Option ℕ
-seek_target t (Start place) = if nat_le place (length t.bytes) then Some place else None
+seek_target t (Start offset) = if nat_le offset (length t.bytes) then Some offset else None
 seek_target t (End (pos zero)) = Some (length t.bytes)
 seek_target t (End (pos (suc _))) = None
 seek_target t (End (negsuc _)) = None
-seek_target t (Current (pos zero)) = Some t.place
+seek_target t (Current (pos zero)) = Some t.offset
 seek_target t (Current (pos (suc _))) = None
 seek_target t (Current (negsuc _)) = None
 
@@ -67,8 +67,8 @@ Stays t u = (u.bytes ≡ t.bytes) × (u.can_fail ≡ t.can_fail)
 -- What a seek did that is known to go to an offset. Any other seek changes only the offset of the reader.
 abbrev pub SeekGives : {E : Type 0} → Telling → Option Telling → Option ℕ → Result ℕ E → Type 0
 SeekGives t new None r = IsSomeAnd new (Stays t)
-SeekGives t new (Some place) (Ok answer) = (answer ≡ place) × (new ≡ Some (at_place t place))
-SeekGives t new (Some place) (Err e) = Fails t new
+SeekGives t new (Some offset) (Ok answer) = (answer ≡ offset) × (new ≡ Some (at_offset t offset))
+SeekGives t new (Some offset) (Err e) = Fails t new
 
 -- what a seek did, if the reader has a model
 abbrev pub SeekTells : {E : Type 0} → Option Telling → Option Telling → SeekFrom → Result ℕ E → Type 0

@@ -8,17 +8,17 @@ use imagesize_source::text::is_end;
 /// Copies the text at the front of the bytes into the buffer, and returns how many bytes it has. Returns `None` if the bytes
 /// or the buffer end before the text does.
 #[inline(always)]
-pub(crate) fn copy_text(text: Text, bytes: &[u8], room: &mut [u8]) -> Option<usize>
-    ensures bound { IfSome result (λ n. n ≤ length room.new) }
-    ensures whole { IfSome result (λ n. IsWhole text (take n room.new)) }
+pub(crate) fn copy_text(text: Text, bytes: &[u8], buffer: &mut [u8]) -> Option<usize>
+    ensures bound { IfSome result (λ n. n ≤ length buffer.new) }
+    ensures whole { IfSome result (λ n. IsWhole text (take n buffer.new)) }
     ensures there { IfSome result (λ n. n ≤ length bytes.now) }
-    ensures copied { IfSome result (λ n. take n room.new ≡ take n bytes.now) }
+    ensures copied { IfSome result (λ n. take n buffer.new ≡ take n bytes.now) }
 {
-    let most = bytes.len().min(room.len());
+    let most = bytes.len().min(buffer.len());
     let mut begun = false;
     for index in 0..most {
         let byte = bytes[index];
-        room[index] = byte;
+        buffer[index] = byte;
         if is_end(text, begun, byte) {
             return Some(index + 1);
         }

@@ -5,7 +5,7 @@ ghost use Rattle.std.specs.Io.KnownBytes.{ReadConsumes};
 ghost use Rattle.std.specs.Io.Seek.{SeekMoves};
 ghost use Rattle.std.specs.declared.io.Error.{Error};
 ghost use Rattle.imagesize_io.specs.Held.{IsWhole};
-ghost use Rattle.imagesize_io.specs.Kept.{place_after, read_place, sought_place, HeldOf, IsAt, IsBack, LeavesBuffer};
+ghost use Rattle.imagesize_io.specs.Kept.{offset_after, read_offset, sought_offset, HeldOf, IsAt, IsBack, LeavesBuffer};
 ghost use Rattle.imagesize_io.specs.StopOf.{stop_of};
 
 use crate::held::copy_text;
@@ -22,29 +22,29 @@ use std::io::{self, BufRead, BufReader, Read, Seek, SeekFrom};
 pub struct KeptReader<R: Read + Seek + Drop> {
     reader: BufReader<R>,
     // The offset of the reader, if it is known.
-    place: Option<u64>,
+    offset: Option<u64>,
 }
 
 impl<R: Read + Seek + Drop> KeptReader<R> {
     /// Wraps a buffered reader, and asks for its offset when that is first needed.
     pub fn new(reader: BufReader<R>) -> Self
         ensures reader { result.reader ≡ reader }
-        ensures place { result.place ≡ None }
+        ensures offset { result.offset ≡ None }
     {
         KeptReader {
             reader,
-            place: None,
+            offset: None,
         }
     }
 
     /// Wraps a buffered reader at offset 0, such as a file that was just opened. Does not ask for its offset.
     pub fn at_start(reader: BufReader<R>) -> Self
         ensures reader { result.reader ≡ reader }
-        ensures place { result.place ≡ Some 0 }
+        ensures offset { result.offset ≡ Some 0 }
     {
         KeptReader {
             reader,
-            place: Some(0),
+            offset: Some(0),
         }
     }
 
@@ -56,10 +56,10 @@ impl<R: Read + Seek + Drop> KeptReader<R> {
     }
 
     // The offset, if it is known.
-    pub(crate) fn place(&self) -> Option<u64>
-        ensures { result ≡ self.now.place }
+    pub(crate) fn offset(&self) -> Option<u64>
+        ensures { result ≡ self.now.offset }
     {
-        self.place
+        self.offset
     }
 }
 
@@ -70,103 +70,103 @@ impl<R: Read + Seek + Drop> Told for KeptReader<R> {
 
     ghost failure = { λ _. None };
 
-    fn read_told(&mut self, room: &mut [u8]) -> Result<usize, Stop>
-        ensures bound { IfOk result (λ n. n ≤ length room.new) }
+    fn read_told(&mut self, buffer: &mut [u8]) -> Result<usize, Stop>
+        ensures bound { IfOk result (λ n. n ≤ length buffer.new) }
         ensures stops { IfErr result (λ stop. (e : Error) × (stop ≡ stop_of e)) }
         ensures reads { ReadConsumes (reader_remaining R.remaining self.old.reader)
-            (reader_remaining R.remaining self.new.reader) result room.new }
-        ensures place { self.new.place ≡ read_place self.old.place result }
+            (reader_remaining R.remaining self.new.reader) result buffer.new }
+        ensures offset { self.new.offset ≡ read_offset self.old.offset result }
     {
-        let place = self.place;
-        self.place = None;
-        let count = self.reader.read(room)?;
-        self.place = place_after(place, count);
+        let offset = self.offset;
+        self.offset = None;
+        let count = self.reader.read(buffer)?;
+        self.offset = offset_after(offset, count);
         Ok(count)
     }
 
     #[inline(always)]
-    fn read_held(&mut self, text: Text, room: &mut [u8]) -> Option<usize>
-        ensures bound { IfSome result (λ n. n ≤ length room.new) }
-        ensures whole { IfSome result (λ n. IsWhole text (take n room.new)) }
+    fn read_held(&mut self, text: Text, buffer: &mut [u8]) -> Option<usize>
+        ensures bound { IfSome result (λ n. n ≤ length buffer.new) }
+        ensures whole { IfSome result (λ n. IsWhole text (take n buffer.new)) }
         // The bytes given come from the buffer, and the inner reader is not called.
-        ensures stays { result ≡ None → (self.new.reader ≡ self.old.reader) × (self.new.place ≡ self.old.place) }
-        ensures held { IfSome result (HeldOf self.old.reader self.new.reader room.new) }
-        ensures place { IfSome result (λ n. self.new.place ≡ place_after self.old.place n) }
+        ensures stays { result ≡ None → (self.new.reader ≡ self.old.reader) × (self.new.offset ≡ self.old.offset) }
+        ensures held { IfSome result (HeldOf self.old.reader self.new.reader buffer.new) }
+        ensures offset { IfSome result (λ n. self.new.offset ≡ offset_after self.old.offset n) }
     {
-        let count = copy_text(text, self.reader.buffer(), room)?;
+        let count = copy_text(text, self.reader.buffer(), buffer)?;
         self.reader.consume(count);
-        self.place = place_after(self.place, count);
+        self.offset = offset_after(self.offset, count);
         Some(count)
     }
 
     fn seek_told(&mut self, to: SeekFrom) -> io::Result<u64>
-        ensures place { self.new.place ≡ sought_place result }
+        ensures offset { self.new.offset ≡ sought_offset result }
 
         // A seek to the current offset, or ahead within the buffer, does not call the inner reader.
-        ensures stands { (place : ℕ) → self.old.place ≡ Some place → to ≡ SeekFrom.Current (pos 0) → (result ≡ Ok place)
+        ensures stands { (offset : ℕ) → self.old.offset ≡ Some offset → to ≡ SeekFrom.Current (pos 0) → (result ≡ Ok offset)
             × (self.new.reader ≡ self.old.reader) }
-        ensures ahead { (place target : ℕ) → self.old.place ≡ Some place → to ≡ SeekFrom.Start target
-            → place ≤ target → target ≤ place + length (reader_buffer self.old.reader)
+        ensures ahead { (offset target : ℕ) → self.old.offset ≡ Some offset → to ≡ SeekFrom.Start target
+            → offset ≤ target → target ≤ offset + length (reader_buffer self.old.reader)
             → (result ≡ Ok target) × (reader_inner self.new.reader ≡ reader_inner self.old.reader)
-            × (reader_buffer self.new.reader ≡ drop (target - place) (reader_buffer self.old.reader)) }
-        ensures seeks { IsAt self.old.place (reader_position R.stream_position self.old.reader)
-            → LeavesBuffer self.old.place (length (reader_buffer self.old.reader)) to
+            × (reader_buffer self.new.reader ≡ drop (target - offset) (reader_buffer self.old.reader)) }
+        ensures seeks { IsAt self.old.offset (reader_position R.stream_position self.old.reader)
+            → LeavesBuffer self.old.offset (length (reader_buffer self.old.reader)) to
             → SeekMoves (reader_position R.stream_position self.old.reader) (reader_position R.stream_position self.new.reader)
             (R.stream_bytes (reader_inner self.old.reader)) to result }
     {
-        let place = self.place;
-        self.place = None;
-        let there = seek_from(&mut self.reader, place, to)?;
-        self.place = Some(there);
+        let offset = self.offset;
+        self.offset = None;
+        let there = seek_from(&mut self.reader, offset, to)?;
+        self.offset = Some(there);
         Ok(there)
     }
 }
 
 // The offset `count` bytes further on, or `None` if it is unknown or above 2^64 - 1.
-fn place_after(place: Option<u64>, count: usize) -> Option<u64>
-    ensures { result ≡ place_after place count }
+fn offset_after(offset: Option<u64>, count: usize) -> Option<u64>
+    ensures { result ≡ offset_after offset count }
 {
-    place?.checked_add(count as u64)
+    offset?.checked_add(count as u64)
 }
 
 // Seeks from an offset, if that is known.
 fn seek_from<R: Read + Seek>(
     reader: &mut BufReader<R>,
-    place: Option<u64>,
+    offset: Option<u64>,
     to: SeekFrom,
 ) -> io::Result<u64>
-    ensures stands { (at : ℕ) → place ≡ Some at → to ≡ SeekFrom.Current (pos 0) → (result ≡ Ok at) × (reader.new ≡ reader.old) }
-    ensures ahead { (at target : ℕ) → place ≡ Some at → to ≡ SeekFrom.Start target
+    ensures stands { (at : ℕ) → offset ≡ Some at → to ≡ SeekFrom.Current (pos 0) → (result ≡ Ok at) × (reader.new ≡ reader.old) }
+    ensures ahead { (at target : ℕ) → offset ≡ Some at → to ≡ SeekFrom.Start target
         → at ≤ target → target ≤ at + length (reader_buffer reader.old)
         → (result ≡ Ok target) × (reader_inner reader.new ≡ reader_inner reader.old)
         × (reader_buffer reader.new ≡ drop (target - at) (reader_buffer reader.old)) }
-    ensures seeks { IsAt place (reader_position R.stream_position reader.old)
-        → LeavesBuffer place (length (reader_buffer reader.old)) to
+    ensures seeks { IsAt offset (reader_position R.stream_position reader.old)
+        → LeavesBuffer offset (length (reader_buffer reader.old)) to
         → SeekMoves (reader_position R.stream_position reader.old) (reader_position R.stream_position reader.new)
         (R.stream_bytes (reader_inner reader.old)) to result }
 {
-    match (to, place) {
-        (SeekFrom::Start(target), Some(place)) => go(reader, place, target),
-        (SeekFrom::Current(0), Some(place)) => Ok(place),
+    match (to, offset) {
+        (SeekFrom::Start(target), Some(offset)) => go(reader, offset, target),
+        (SeekFrom::Current(0), Some(offset)) => Ok(offset),
         (SeekFrom::Current(0), None) => reader.stream_position(),
         _ => reader.seek(to),
     }
 }
 
 // Seeks from one offset to another.
-fn go<R: Read + Seek>(reader: &mut BufReader<R>, place: u64, target: u64) -> io::Result<u64>
-    ensures ahead { place ≤ target → target ≤ place + length (reader_buffer reader.old)
+fn go<R: Read + Seek>(reader: &mut BufReader<R>, offset: u64, target: u64) -> io::Result<u64>
+    ensures ahead { offset ≤ target → target ≤ offset + length (reader_buffer reader.old)
         → (result ≡ Ok target) × (reader_inner reader.new ≡ reader_inner reader.old)
-        × (reader_buffer reader.new ≡ drop (target - place) (reader_buffer reader.old)) }
-    ensures seeks { IsAt (Some place) (reader_position R.stream_position reader.old)
-        → LeavesBuffer (Some place) (length (reader_buffer reader.old)) (SeekFrom.Start target)
+        × (reader_buffer reader.new ≡ drop (target - offset) (reader_buffer reader.old)) }
+    ensures seeks { IsAt (Some offset) (reader_position R.stream_position reader.old)
+        → LeavesBuffer (Some offset) (length (reader_buffer reader.old)) (SeekFrom.Start target)
         → SeekMoves (reader_position R.stream_position reader.old) (reader_position R.stream_position reader.new)
         (R.stream_bytes (reader_inner reader.old)) (SeekFrom.Start target) result }
 {
-    if target < place {
-        return go_back(reader, place - target, target);
+    if target < offset {
+        return go_back(reader, offset - target, target);
     }
-    let distance = target - place;
+    let distance = target - offset;
     if distance > reader.buffer().len() as u64 {
         return reader.seek(SeekFrom::Start(target));
     }

@@ -13,7 +13,7 @@ pub struct Progress {
     /// How many bytes the call has read.
     pub taken: u64,
     /// The reader's offset.
-    pub place: u64,
+    pub offset: u64,
     /// How many interrupted reads were tried again.
     pub retries: u64,
     /// The error of the last failed call of the reader that ended a read; `None` if there was none.

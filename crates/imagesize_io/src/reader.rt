@@ -49,7 +49,7 @@ impl<'a, R: Told> ReaderSource<'a, R> {
             told,
             budget: told.saturating_add(ALLOWANCE),
             taken: 0,
-            place: told,
+            offset: told,
             retries: 0,
             fault: None,
         };
@@ -82,12 +82,12 @@ impl<R: Told> Source for ReaderSource<'_, R> {
     }
 
     #[inline(always)]
-    fn read_at(&mut self, place: u64, room: &mut [u8]) -> Result<usize, Halt> {
-        windowed::read_on(self.reader, &mut self.ledger, place, room)
+    fn read_at(&mut self, offset: u64, buffer: &mut [u8]) -> Result<usize, Halt> {
+        windowed::read_on(self.reader, &mut self.ledger, offset, buffer)
     }
 
-    fn read_text(&mut self, place: u64, text: Text, room: &mut [u8]) -> Result<usize, Halt> {
-        text::read_text(self.reader, &mut self.ledger, place, text, room)
+    fn read_text(&mut self, offset: u64, text: Text, buffer: &mut [u8]) -> Result<usize, Halt> {
+        text::read_text(self.reader, &mut self.ledger, offset, text, buffer)
     }
 }
 
@@ -100,14 +100,14 @@ pub enum Origin {
     /// At the first byte, wherever the reader is.
     Start,
     /// At the reader's offset.
-    Place,
+    Offset,
 }
 
 /// What a reader reported when the call began.
 #[derive(Clone, Copy, Debug)]
 pub struct Opened {
     /// Its offset.
-    pub place: u64,
+    pub offset: u64,
     /// The length of its input in bytes.
     pub told: u64,
 }
@@ -123,12 +123,12 @@ pub fn open<R: Told>(reader: &mut R, origin: Origin) -> ImageResult<Opened>
     ensures last { IfErr result (IsLast (R.failure reader.new)) }
     ensures memory { IfErr result (λ e. is_memory e ≡ false) }
 {
-    let place = seek(reader, SeekFrom::Current(0))?;
+    let offset = seek(reader, SeekFrom::Current(0))?;
     let told = seek(reader, SeekFrom::End(0))?;
-    if place == told && matches!(origin, Origin::Place) {
-        seek(reader, SeekFrom::Start(place))?;
+    if offset == told && matches!(origin, Origin::Offset) {
+        seek(reader, SeekFrom::Start(offset))?;
     }
-    Ok(Opened { place, told })
+    Ok(Opened { offset, told })
 }
 
 // Seeks. An error becomes a `Reason::Fault`.
@@ -140,8 +140,8 @@ fn seek<R: Told>(reader: &mut R, to: SeekFrom) -> ImageResult<u64>
     ensures last { IfErr result (IsLast (R.failure reader.new)) }
     ensures memory { IfErr result (λ e. is_memory e ≡ false) }
 {
-    let place = reader.seek_told(to)?;
-    Ok(place)
+    let offset = reader.seek_told(to)?;
+    Ok(offset)
 }
 
 // The error that the call returns. Not inlined, since few reads fail.

@@ -34,7 +34,7 @@ impl<R: Read + Seek + Drop> SizedReader<R> {
     /// Wraps a buffered reader at offset 0. It does not ask for its offset, nor for its length if that is passed.
     pub fn new(reader: BufReader<R>, length: Option<u64>) -> Self
         ensures reader { result.reader.reader ≡ reader }
-        ensures place { result.reader.place ≡ Some 0 }
+        ensures offset { result.reader.offset ≡ Some 0 }
         ensures length { result.length ≡ length }
         ensures front { result.front.items ≡ [] }
         ensures start { result.apart ≡ None }
@@ -48,21 +48,21 @@ impl<R: Read + Seek + Drop> SizedReader<R> {
     }
 
     // Reads with the inner reader, and keeps the first bytes.
-    fn read_on(&mut self, room: &mut [u8]) -> Result<usize, Stop>
-        ensures bound { IfOk result (λ n. n ≤ length room.new) }
+    fn read_on(&mut self, buffer: &mut [u8]) -> Result<usize, Stop>
+        ensures bound { IfOk result (λ n. n ≤ length buffer.new) }
         ensures stops { IfErr result (λ stop. (e : Error) × (stop ≡ stop_of e)) }
         ensures stands { self.new.apart ≡ self.old.apart }
         ensures length { self.new.length ≡ self.old.length }
         ensures reads { ReadConsumes (reader_remaining R.remaining self.old.reader.reader)
-            (reader_remaining R.remaining self.new.reader.reader) result room.new }
-        ensures keeps { IfOk result (λ n. self.new.front.items ≡ front_after self.old.reader.place self.old.front.items
-            (take n room.new) (reader_buffer self.new.reader.reader)) }
+            (reader_remaining R.remaining self.new.reader.reader) result buffer.new }
+        ensures keeps { IfOk result (λ n. self.new.front.items ≡ front_after self.old.reader.offset self.old.front.items
+            (take n buffer.new) (reader_buffer self.new.reader.reader)) }
         ensures fails { IfErr result (λ _. self.new.front ≡ self.old.front) }
     {
-        let place = self.reader.place();
-        let count = self.reader.read_told(room)?;
-        if place == Some(0) {
-            keep_front(&mut self.front, 0, room, count);
+        let offset = self.reader.offset();
+        let count = self.reader.read_told(buffer)?;
+        if offset == Some(0) {
+            keep_front(&mut self.front, 0, buffer, count);
             keep(&mut self.front, count as u64, self.reader.buffer());
         }
         Ok(count)
@@ -74,15 +74,15 @@ impl<R: Read + Seek + Drop> SizedReader<R> {
         ensures front { self.new.front ≡ self.old.front }
         ensures leaves { (target : ℕ) → to ≡ SeekFrom.Start target → self.new.apart ≡ None }
         ensures seeks { (target : ℕ) → to ≡ SeekFrom.Start target
-            → IsAt self.old.reader.place (reader_position R.stream_position self.old.reader.reader)
-            → LeavesBuffer self.old.reader.place (length (reader_buffer self.old.reader.reader)) to
+            → IsAt self.old.reader.offset (reader_position R.stream_position self.old.reader.reader)
+            → LeavesBuffer self.old.reader.offset (length (reader_buffer self.old.reader.reader)) to
             → SeekMoves (reader_position R.stream_position self.old.reader.reader)
             (reader_position R.stream_position self.new.reader.reader) (R.stream_bytes (reader_inner self.old.reader.reader)) to result }
     {
-        if let Some(place) = self.apart
+        if let Some(offset) = self.apart
             && matches!(to, SeekFrom::Current(_))
         {
-            self.reader.seek_told(SeekFrom::Start(place))?;
+            self.reader.seek_told(SeekFrom::Start(offset))?;
         }
         self.apart = None;
         self.reader.seek_told(to)
@@ -92,10 +92,10 @@ impl<R: Read + Seek + Drop> SizedReader<R> {
     fn is_kept(&self, target: u64) -> bool
         ensures { IsTrue result → target < length self.now.front.items }
     {
-        match self.reader.place() {
-            Some(place) => target < self.front.len() as u64
-                && place > BLOCK
-                && place - BLOCK > target,
+        match self.reader.offset() {
+            Some(offset) => target < self.front.len() as u64
+                && offset > BLOCK
+                && offset - BLOCK > target,
             None => false,
         }
     }
@@ -111,47 +111,47 @@ impl<R: Read + Seek + Drop> Told for SizedReader<R> {
 
     ghost failure = { λ _. None };
 
-    fn read_told(&mut self, room: &mut [u8]) -> Result<usize, Stop>
-        ensures bound { IfOk result (λ n. n ≤ length room.new) }
+    fn read_told(&mut self, buffer: &mut [u8]) -> Result<usize, Stop>
+        ensures bound { IfOk result (λ n. n ≤ length buffer.new) }
         ensures stops { IfErr result (λ stop. (e : Error) × (stop ≡ stop_of e)) }
         ensures length { self.new.length ≡ self.old.length }
         ensures reads { self.old.apart ≡ None → ReadConsumes (reader_remaining R.remaining self.old.reader.reader)
-            (reader_remaining R.remaining self.new.reader.reader) result room.new }
+            (reader_remaining R.remaining self.new.reader.reader) result buffer.new }
 
         ensures stands { self.old.apart ≡ None → self.new.apart ≡ None }
-        ensures on { (place : ℕ) → self.old.apart ≡ Some place → length self.old.front.items ≤ place → self.new.apart ≡ None }
+        ensures on { (offset : ℕ) → self.old.apart ≡ Some offset → length self.old.front.items ≤ offset → self.new.apart ≡ None }
 
         // The first bytes again, as they were read.
-        ensures again { (place : ℕ) → self.old.apart ≡ Some place → place < length self.old.front.items → 0 < length room.old
-            → GivesAgain self.old.front.items place room.new result self.new.apart × (self.new.reader ≡ self.old.reader)
+        ensures again { (offset : ℕ) → self.old.apart ≡ Some offset → offset < length self.old.front.items → 0 < length buffer.old
+            → GivesAgain self.old.front.items offset buffer.new result self.new.apart × (self.new.reader ≡ self.old.reader)
             × (self.new.front ≡ self.old.front) }
     {
-        if let Some(place) = self.apart {
-            let count = copy_kept(&self.front, place, room);
+        if let Some(offset) = self.apart {
+            let count = copy_kept(&self.front, offset, buffer);
             if count > 0 {
-                self.apart = Some(place.saturating_add(count as u64));
+                self.apart = Some(offset.saturating_add(count as u64));
                 return Ok(count);
             }
             self.apart = None;
-            self.reader.seek_told(SeekFrom::Start(place))?;
+            self.reader.seek_told(SeekFrom::Start(offset))?;
         }
-        self.read_on(room)
+        self.read_on(buffer)
     }
 
     #[inline(always)]
-    fn read_held(&mut self, text: Text, room: &mut [u8]) -> Option<usize>
-        ensures bound { IfSome result (λ n. n ≤ length room.new) }
-        ensures whole { IfSome result (λ n. IsWhole text (take n room.new)) }
+    fn read_held(&mut self, text: Text, buffer: &mut [u8]) -> Option<usize>
+        ensures bound { IfSome result (λ n. n ≤ length buffer.new) }
+        ensures whole { IfSome result (λ n. IsWhole text (take n buffer.new)) }
         ensures stands { self.new.apart ≡ self.old.apart }
         ensures length { self.new.length ≡ self.old.length }
         ensures front { self.new.front ≡ self.old.front }
         ensures stays { result ≡ None → self.new.reader.reader ≡ self.old.reader.reader }
-        ensures held { IfSome result (λ n. (self.old.apart ≡ None) × HeldOf self.old.reader.reader self.new.reader.reader room.new n) }
+        ensures held { IfSome result (λ n. (self.old.apart ≡ None) × HeldOf self.old.reader.reader self.new.reader.reader buffer.new n) }
     {
         if self.apart.is_some() {
             return None;
         }
-        self.reader.read_held(text, room)
+        self.reader.read_held(text, buffer)
     }
 
     fn seek_told(&mut self, to: SeekFrom) -> io::Result<u64>
@@ -165,11 +165,11 @@ impl<R: Read + Seek + Drop> Told for SizedReader<R> {
             → (result ≡ Ok n) × (self.new.apart ≡ Some n) × (self.new.reader ≡ self.old.reader) }
 
         // A seek to an offset is that of the inner reader, or stays apart at a byte of the front.
-        ensures apart { (target place : ℕ) → to ≡ SeekFrom.Start target → self.new.apart ≡ Some place
-            → (place ≡ target) × (result ≡ Ok target) × (target < length self.old.front.items) × (self.new.reader ≡ self.old.reader) }
+        ensures apart { (target offset : ℕ) → to ≡ SeekFrom.Start target → self.new.apart ≡ Some offset
+            → (offset ≡ target) × (result ≡ Ok target) × (target < length self.old.front.items) × (self.new.reader ≡ self.old.reader) }
         ensures seeks { (target : ℕ) → to ≡ SeekFrom.Start target → self.new.apart ≡ None
-            → IsAt self.old.reader.place (reader_position R.stream_position self.old.reader.reader)
-            → LeavesBuffer self.old.reader.place (length (reader_buffer self.old.reader.reader)) to
+            → IsAt self.old.reader.offset (reader_position R.stream_position self.old.reader.reader)
+            → LeavesBuffer self.old.reader.offset (length (reader_buffer self.old.reader.reader)) to
             → SeekMoves (reader_position R.stream_position self.old.reader.reader)
             (reader_position R.stream_position self.new.reader.reader) (R.stream_bytes (reader_inner self.old.reader.reader)) to result }
     {
@@ -178,7 +178,7 @@ impl<R: Read + Seek + Drop> Told for SizedReader<R> {
                 self.apart = Some(length);
                 Ok(length)
             }
-            (SeekFrom::Current(0), _, Some(place)) => Ok(place),
+            (SeekFrom::Current(0), _, Some(offset)) => Ok(offset),
             (SeekFrom::Start(target), _, _) if self.is_kept(target) => {
                 self.apart = Some(target);
                 Ok(target)

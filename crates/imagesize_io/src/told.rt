@@ -51,19 +51,19 @@ pub trait Told: Drop {
     ghost failure: { Self → Option (Option Error) };
 
     /// Reads into the buffer, and returns how many bytes were read.
-    fn read_told(&mut self, room: &mut [u8]) -> Result<usize, Stop>
-        ensures bound { IfOk result (λ n. n ≤ length room.new) }
-        ensures told { ReadTells (telling self.old) (telling self.new) room.new result }
+    fn read_told(&mut self, buffer: &mut [u8]) -> Result<usize, Stop>
+        ensures bound { IfOk result (λ n. n ≤ length buffer.new) }
+        ensures told { ReadTells (telling self.old) (telling self.new) buffer.new result }
         ensures counts { count self.new ≡ count_after (count self.old) result }
         ensures fails { failure self.new ≡ failure_after_read (failure self.old) result };
 
     /// Reads the text at the reader's offset, if the reader holds all of it, and returns how many bytes were read. It may
     /// always return `None`, and then it has read nothing.
     #[inline(always)]
-    fn read_held(&mut self, _text: Text, _room: &mut [u8]) -> Option<usize>
-        ensures bound { IfSome result (λ n. n ≤ length _room.new) }
-        ensures whole { IfSome result (λ n. IsWhole _text (take n _room.new)) }
-        ensures told { IfSome result (λ n. ReadTells (telling self.old) (telling self.new) _room.new (Ok n)) }
+    fn read_held(&mut self, _text: Text, _buffer: &mut [u8]) -> Option<usize>
+        ensures bound { IfSome result (λ n. n ≤ length _buffer.new) }
+        ensures whole { IfSome result (λ n. IsWhole _text (take n _buffer.new)) }
+        ensures told { IfSome result (λ n. ReadTells (telling self.old) (telling self.new) _buffer.new (Ok n)) }
         ensures counts { IfSome result (λ n. count self.new ≡ count_after {E = Stop} (count self.old) (Ok n)) }
         ensures none { result ≡ None → (telling self.new ≡ telling self.old) × (count self.new ≡ count self.old) }
         ensures fails { failure self.new ≡ failure self.old }
@@ -83,7 +83,7 @@ pub trait Told: Drop {
 impl Told for Cursor<&[u8]> {
     ghost telling = { λ c. Some (record {
       bytes = (cursor_inner c).now;
-      place = cursor_position c;
+      offset = cursor_position c;
       can_fail = false;
       interruptions = 0;
     }) };
@@ -93,32 +93,32 @@ impl Told for Cursor<&[u8]> {
     ghost failure = { λ _. None };
 
     #[inline(always)]
-    fn read_told(&mut self, room: &mut [u8]) -> Result<usize, Stop> {
+    fn read_told(&mut self, buffer: &mut [u8]) -> Result<usize, Stop> {
         let bytes = *self.get_ref();
-        let place = self.position();
-        let count = copy_part(bytes, place, room);
-        self.set_position(place + count as u64);
+        let offset = self.position();
+        let count = copy_part(bytes, offset, buffer);
+        self.set_position(offset + count as u64);
         Ok(count)
     }
 
     #[inline(always)]
-    fn read_held(&mut self, text: Text, room: &mut [u8]) -> Option<usize> {
+    fn read_held(&mut self, text: Text, buffer: &mut [u8]) -> Option<usize> {
         let bytes = *self.get_ref();
-        let place = self.position();
-        let start = bytes.len().min(place as usize);
-        let count = copy_text(text, &bytes[start..], room)?;
-        self.set_position(place + count as u64);
+        let offset = self.position();
+        let start = bytes.len().min(offset as usize);
+        let count = copy_text(text, &bytes[start..], buffer)?;
+        self.set_position(offset + count as u64);
         Some(count)
     }
 
     #[inline(always)]
     fn seek_told(&mut self, to: SeekFrom) -> io::Result<u64> {
         // The proof needs that the offset and the length are below 2^64.
-        let place = self.position();
+        let offset = self.position();
         let length = self.get_ref().len() as u64;
         let target = match to {
             SeekFrom::Start(target) => target,
-            SeekFrom::Current(0) => place,
+            SeekFrom::Current(0) => offset,
             SeekFrom::End(0) => length,
             _ => return self.seek(to),
         };
@@ -136,24 +136,24 @@ impl<R: Read + Seek + Drop> Told for BufReader<R> {
 
     ghost failure = { λ _. None };
 
-    fn read_told(&mut self, room: &mut [u8]) -> Result<usize, Stop>
-        ensures bound { IfOk result (λ n. n ≤ length room.new) }
+    fn read_told(&mut self, buffer: &mut [u8]) -> Result<usize, Stop>
+        ensures bound { IfOk result (λ n. n ≤ length buffer.new) }
         ensures stops { IfErr result (λ stop. (e : Error) × (stop ≡ stop_of e)) }
-        ensures reads { ReadConsumes (reader_remaining R.remaining self.old) (reader_remaining R.remaining self.new) result room.new }
+        ensures reads { ReadConsumes (reader_remaining R.remaining self.old) (reader_remaining R.remaining self.new) result buffer.new }
     {
-        let count = self.read(room)?;
+        let count = self.read(buffer)?;
         Ok(count)
     }
 
     #[inline(always)]
-    fn read_held(&mut self, text: Text, room: &mut [u8]) -> Option<usize>
-        ensures bound { IfSome result (λ n. n ≤ length room.new) }
-        ensures whole { IfSome result (λ n. IsWhole text (take n room.new)) }
+    fn read_held(&mut self, text: Text, buffer: &mut [u8]) -> Option<usize>
+        ensures bound { IfSome result (λ n. n ≤ length buffer.new) }
+        ensures whole { IfSome result (λ n. IsWhole text (take n buffer.new)) }
         // The bytes given come from the buffer, and the inner reader is not called.
         ensures stays { result ≡ None → self.new ≡ self.old }
-        ensures held { IfSome result (HeldOf self.old self.new room.new) }
+        ensures held { IfSome result (HeldOf self.old self.new buffer.new) }
     {
-        let count = copy_text(text, self.buffer(), room)?;
+        let count = copy_text(text, self.buffer(), buffer)?;
         self.consume(count);
         Some(count)
     }
@@ -175,10 +175,10 @@ fn seek_kept<R: Read + Seek>(reader: &mut BufReader<R>, target: u64) -> io::Resu
     ensures { SeekMoves (reader_position R.stream_position reader.old) (reader_position R.stream_position reader.new)
         (R.stream_bytes (reader_inner reader.old)) (SeekFrom.Start target) result }
 {
-    let place = reader.stream_position()?;
-    match distance(place, target) {
-        Some(offset) => {
-            reader.seek_relative(offset)?;
+    let offset = reader.stream_position()?;
+    match distance(offset, target) {
+        Some(distance) => {
+            reader.seek_relative(distance)?;
             Ok(target)
         }
         None => reader.seek(SeekFrom::Start(target)),

@@ -15,10 +15,10 @@ pub(crate) type Window = ArrayVec<u8, WINDOW>;
 
 // Keeps bytes that were read at an offset, if they come right after the window, as far as they fit.
 #[inline(always)]
-pub(crate) fn keep(window: &mut Window, place: u64, bytes: &[u8])
-    ensures { window.new.items ≡ kept_window window.old.items place bytes.now }
+pub(crate) fn keep(window: &mut Window, offset: u64, bytes: &[u8])
+    ensures { window.new.items ≡ kept_window window.old.items offset bytes.now }
 {
-    if place != window.len() as u64 {
+    if offset != window.len() as u64 {
         return;
     }
     if window.try_extend_from_slice(bytes).is_ok() {
@@ -31,27 +31,27 @@ pub(crate) fn keep(window: &mut Window, place: u64, bytes: &[u8])
 
 // Keeps the first `count` bytes of a buffer. Most reads fill the buffer, whose length the compiler knows.
 #[inline(always)]
-pub(crate) fn keep_front(window: &mut Window, place: u64, room: &[u8], count: usize)
-    requires { count ≤ length room.now }
-    ensures { window.new.items ≡ kept_window window.old.items place (take count room.now) }
+pub(crate) fn keep_front(window: &mut Window, offset: u64, buffer: &[u8], count: usize)
+    requires { count ≤ length buffer.now }
+    ensures { window.new.items ≡ kept_window window.old.items offset (take count buffer.now) }
 {
-    if count == room.len() {
-        keep(window, place, room);
+    if count == buffer.len() {
+        keep(window, offset, buffer);
     } else {
-        keep(window, place, &room[..count]);
+        keep(window, offset, &buffer[..count]);
     }
 }
 
 // Copies the window's bytes from an offset on into the buffer, and returns how many were copied.
 #[inline(always)]
 #[tactic(auto, unfolding(imagesize_source::specs::Input::part))]
-pub(crate) fn copy_kept(window: &Window, place: u64, room: &mut [u8]) -> usize
-    ensures count { result ≡ min (length room.old) (length window.now.items - place) }
-    ensures copied { room.new ≡ part window.now.items place (length room.old) ++ drop result room.old }
+pub(crate) fn copy_kept(window: &Window, offset: u64, buffer: &mut [u8]) -> usize
+    ensures count { result ≡ min (length buffer.old) (length window.now.items - offset) }
+    ensures copied { buffer.new ≡ part window.now.items offset (length buffer.old) ++ drop result buffer.old }
     ensures small { length window.now.items ≤ most_held }
 {
-    if place >= window.len() as u64 {
+    if offset >= window.len() as u64 {
         return 0;
     }
-    copy_part(window.as_slice(), place, room)
+    copy_part(window.as_slice(), offset, buffer)
 }

@@ -6,7 +6,7 @@ use Rattle.std.proofs.lemmas.Bool.Decides.{nat_tests}
 use Rattle.imagesize_source.specs.declared.halt.Halt.{Halt}
 use Rattle.imagesize_source.specs.declared.source.parts.Missing.{Missing}
 use Rattle.imagesize_source.specs.declared.span.Span.{Span}
-use Rattle.imagesize_source.specs.Agreement.{Alike, is_covered, has_place}
+use Rattle.imagesize_source.specs.Agreement.{Alike, is_covered, has_offset}
 use Rattle.imagesize_source.specs.Input.{span_at}
 use Rattle.imagesize_source.specs.Known.{sure_of}
 use Rattle.imagesize_source.specs.Reading.{Reads, is_faulted, just, put_behind, uncounted}
@@ -32,7 +32,7 @@ pub missed_covered : {a b : State} (marks : List Span) (m : Missing) → Misses 
     → is_covered marks m.start ≡ true
 missed_covered marks m is some =
     let begins = is.behind in let ends = is.within in
-    let in_mark : has_place is.mark m.start ≡ true = grind (arith, nat_tests) in
+    let in_mark : has_offset is.mark m.start ≡ true = grind (arith, nat_tests) in
     subst (λ s. is_covered s m.start ≡ true) (sym is.all) (covered_one_of is.made is.mark is.rest m.start in_mark)
 
 head_is : {x y : Span} {xs ys : List Span} → ◌≡◌ {A = List Span} (x ∷ xs) (y ∷ ys) → x ≡ y
@@ -44,18 +44,18 @@ tail_is e = cc
 -- Reads of two inputs part at an offset p, and those of the first have m in a mark, after some others. If p is in none
 -- of these, and in the mark not before m, the reads of the second input have m too.
 parted_covered : (made rest seen parted others : List Span) (mark one other : Span) (p m : ℕ)
-    → made ++ mark ∷ rest ≡ seen ++ one ∷ parted → other.start ≡ one.start → has_place one p ≡ true
-    → has_place other p ≡ true → (is_covered made p ≡ true → ⊥) → (mark.start ≤ p → m ≤ p)
-    → has_place mark m ≡ true → is_covered (seen ++ other ∷ others) m ≡ true
+    → made ++ mark ∷ rest ≡ seen ++ one ∷ parted → other.start ≡ one.start → has_offset one p ≡ true
+    → has_offset other p ≡ true → (is_covered made p ≡ true → ⊥) → (mark.start ≤ p → m ≤ p)
+    → has_offset mark m ≡ true → is_covered (seen ++ other ∷ others) m ≡ true
 parted_covered [] rest [] parted others mark one other p m same start within also none late here =
     let begins : other.start ≡ mark.start = start ∙ ap (λ (s : Span). s.start) (sym (head_is same)) in
     let above : other.start ≤ p = grind (arith, nat_tests) in
     let after : m ≤ p = late (omega (arith, above, begins)) in
     covered_one_of [] other others m (grind (arith, nat_tests))
 parted_covered [] rest (y ∷ seen) parted others mark one other p m same start within also none late here =
-    covered_one_of [] y (seen ++ other ∷ others) m (subst (λ s. has_place s m ≡ true) (head_is same) here)
+    covered_one_of [] y (seen ++ other ∷ others) m (subst (λ s. has_offset s m ≡ true) (head_is same) here)
 parted_covered (x ∷ made) rest [] parted others mark one other p m same start within also none late here =
-    absurd (none (covered_one_of [] x made p (subst (λ s. has_place s p ≡ true) (sym (head_is same)) within)))
+    absurd (none (covered_one_of [] x made p (subst (λ s. has_offset s p ≡ true) (sym (head_is same)) within)))
 parted_covered (x ∷ made) rest (y ∷ seen) parted others mark one other p m same start within also none late here =
     covered-right (y ∷ []) (seen ++ other ∷ others) m
     (parted_covered made rest seen parted others mark one other p m (tail_is same) start within also
@@ -69,15 +69,15 @@ alike_covered {X} d e f g made rest mark m alike all behind within shares = elim
   | inl same ↦ subst (λ s. is_covered s m ≡ true) (sym (ap (λ (r : Reads X). r.marks) same ∙ all))
       (covered_one_of made mark rest m here)
   | inr parts ↦ subst (λ s. is_covered s m ≡ true) (sym parts.there)
-      (parted_covered made rest parts.seen parts.rest parts.others mark parts.mark parts.other parts.place m
+      (parted_covered made rest parts.seen parts.rest parts.others mark parts.mark parts.other parts.offset m
       (sym all ∙ parts.here) parts.start parts.within parts.also
-      (λ before. parts.differs (shares.there parts.place (covered-left made part parts.place before)).1)
-      (λ above. by_cases parts.place (cases_lt parts.place m) above parts.differs) here)
+      (λ before. parts.differs (shares.there parts.offset (covered-left made part parts.offset before)).1)
+      (λ above. by_cases parts.offset (cases_lt parts.offset m) above parts.differs) here)
 ] where
   part : List Span
   part = span_at mark.start (m - mark.start)
 
-  here : has_place mark m ≡ true
+  here : has_offset mark m ≡ true
   here = grind (arith, nat_tests)
 
   by_cases : (p : ℕ) → (p < m) ⊎ (m ≤ p) → mark.start ≤ p → (slice_index e p ≡ slice_index d p → ⊥) → m ≤ p
@@ -158,7 +158,7 @@ module _ {X : Type 0} (f : List ℕ → Reads X) (same : IsShared f) (told start
 
     -- An input of the told length whose marks all lie in the bytes so far would have missed nothing.
     pub complete_begun : (d : List ℕ) → Begins front told d → length d ≡ told
-        → ((place : ℕ) → is_covered (f d).marks place ≡ true → start ≤ place) → AllBelow (length front) (f d).marks → ⊥
+        → ((offset : ℕ) → is_covered (f d).marks offset ≡ true → start ≤ offset) → AllBelow (length front) (f d).marks → ⊥
     complete_begun d begins as_long above below =
         let shares = shares_begun told start kept unread front run fits d (f d).marks begins as_long above below in
         let here : is_covered (f d).marks what.0.start ≡ true =
@@ -169,14 +169,14 @@ module _ {X : Type 0} (f : List ℕ → Reads X) (same : IsShared f) (told start
 
     -- so where no mark is before the start there are fewer than the farthest mark needs
     pub few_begun : (high : ℕ)
-        → ((place : ℕ) → is_covered (f fill).marks place ≡ true → (start ≤ place) × (place < high))
+        → ((offset : ℕ) → is_covered (f fill).marks offset ≡ true → (start ≤ offset) × (offset < high))
         → length front < high
     few_begun high within =
         let here = within what.0.start what_covered in
         omega (arith, here.1, (what_behind here.0).0)
 
     -- where all came, nothing is missed
-    pub none_missed : told ≤ length front → ((place : ℕ) → is_covered (f fill).marks place ≡ true → start ≤ place) → ⊥
+    pub none_missed : told ≤ length front → ((offset : ℕ) → is_covered (f fill).marks offset ≡ true → start ≤ offset) → ⊥
     none_missed all within =
         let behind = what_behind (within what.0.start what_covered) in
         omega (arith, all, behind.0, behind.1)

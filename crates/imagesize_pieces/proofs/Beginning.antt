@@ -22,11 +22,11 @@ pub begun_fits : (front d : List ℕ) (told : ℕ) → Begins front told d → l
 begun_fits front d told begins = let long = begun_long front d told begins in let few = begins.fits in
     omega (arith, long, few)
 
-pub begins_at : (front d : List ℕ) (told place : ℕ) → Begins front told d → place < length front
-    → (place < length d) × (get_or d place 0 ≡ get_or front place 0)
-begins_at front d told place begins below = (
+pub begins_at : (front d : List ℕ) (told offset : ℕ) → Begins front told d → offset < length front
+    → (offset < length d) × (get_or d offset 0 ≡ get_or front offset 0)
+begins_at front d told offset begins below = (
   omega (arith, begun_long front d told begins, below),
-  sym (get_or-take (length front) d place 0 below) ∙ ap (λ bs. get_or bs place 0) begins.first,
+  sym (get_or-take (length front) d offset 0 below) ∙ ap (λ bs. get_or bs offset 0) begins.first,
 )
 
 -- and begins with the first of them
@@ -54,25 +54,25 @@ pub record Run (front kept unread : List ℕ) (start : ℕ) : Type 0 where
   pub is : kept ++ unread ≡ drop start front
   pub ends : start + (length kept + length unread) ≡ length front
 
--- what was kept from a place on, and what came after the bytes before
-run_start : (front chunk : List ℕ) (place : ℕ)
-    → drop place front ++ drop (place - length front) chunk
-    ≡ drop (min place (length front + length chunk)) (front ++ chunk)
-run_start front chunk place = by_cases (cases_lt (length front) place) where
-  by_cases : (length front < place) ⊎ (place ≤ length front)
-      → drop place front ++ drop (place - length front) chunk
-      ≡ drop (min place (length front + length chunk)) (front ++ chunk)
+-- what was kept from an offset on, and what came after the bytes before
+run_start : (front chunk : List ℕ) (offset : ℕ)
+    → drop offset front ++ drop (offset - length front) chunk
+    ≡ drop (min offset (length front + length chunk)) (front ++ chunk)
+run_start front chunk offset = by_cases (cases_lt (length front) offset) where
+  by_cases : (length front < offset) ⊎ (offset ≤ length front)
+      → drop offset front ++ drop (offset - length front) chunk
+      ≡ drop (min offset (length front + length chunk)) (front ++ chunk)
   by_cases (inr within) =
-      let none : place - length front ≡ 0 = omega (arith, within) in
-      let at : min place (length front + length chunk) ≡ place = omega (arith, within) in
-      ap (λ k. drop place front ++ drop k chunk) none ∙ sym (drop-append-le place front chunk within)
+      let none : offset - length front ≡ 0 = omega (arith, within) in
+      let at : min offset (length front + length chunk) ≡ offset = omega (arith, within) in
+      ap (λ k. drop offset front ++ drop k chunk) none ∙ sym (drop-append-le offset front chunk within)
       ∙ ap (λ k. drop k (front ++ chunk)) (sym at)
   by_cases (inl beyond) =
-      let at : min place (length front + length chunk) ≡ length front + min (place - length front) (length chunk) =
+      let at : min offset (length front + length chunk) ≡ length front + min (offset - length front) (length chunk) =
       omega (arith, beyond) in
-      ap (λ xs. xs ++ drop (place - length front) chunk) (drop_all place front (omega (arith, beyond)))
-      ∙ sym (drop_min (place - length front) chunk)
-      ∙ sym (drop-append-add front chunk (min (place - length front) (length chunk)))
+      ap (λ xs. xs ++ drop (offset - length front) chunk) (drop_all offset front (omega (arith, beyond)))
+      ∙ sym (drop_min (offset - length front) chunk)
+      ∙ sym (drop-append-add front chunk (min (offset - length front) (length chunk)))
       ∙ ap (λ k. drop k (front ++ chunk)) (sym at)
 
 pub run_held : (front chunk kept unread : List ℕ) (from passed start : ℕ) → passed ≡ length front
@@ -94,12 +94,12 @@ run_held front chunk kept unread from passed start as_many is_kept is_unread at 
           omega (arith, long, length-append kept unread, length-append front chunk, here);
     }
 
--- what of it stands from a later place on
-pub kept_on : (front kept unread : List ℕ) (start place skip : ℕ) → Run front kept unread start → start ≤ place
-    → skip ≡ place - start
-    → drop skip (kept ++ unread) ≡ drop place front
-kept_on front kept unread start place skip run ahead is =
-    let at : start + skip ≡ place = omega (arith, ahead, is) in
+-- what of it stands from a later offset on
+pub kept_on : (front kept unread : List ℕ) (start offset skip : ℕ) → Run front kept unread start → start ≤ offset
+    → skip ≡ offset - start
+    → drop skip (kept ++ unread) ≡ drop offset front
+kept_on front kept unread start offset skip run ahead is =
+    let at : start + skip ≡ offset = omega (arith, ahead, is) in
     ap (drop skip) run.is ∙ drop-drop skip start front ∙ ap (λ k. drop k front) at
 
 -- all of them
@@ -151,47 +151,47 @@ module _ (told start : ℕ) (kept unread front : List ℕ) (run : Run front kept
   all : length bytes ≡ length front - start
   all = ap length run.is ∙ length-drop start front
 
-  as_one : (place : ℕ)
-      → byte_at told start kept unread place ≡ byte_in_parts told (run_of start (length bytes)) bytes place
-  as_one place = ap (λ k. byte_in_parts told (run_of start k) bytes place) long
+  as_one : (offset : ℕ)
+      → byte_at told start kept unread offset ≡ byte_in_parts told (run_of start (length bytes)) bytes offset
+  as_one offset = ap (λ k. byte_in_parts told (run_of start k) bytes offset) long
 
-  -- a place from the start on is known, where it came
-  pub known_here : (place : ℕ) → start ≤ place → place < length front
-      → byte_at told start kept unread place ≡ Some (get_or front place 0)
-  known_here place above below =
-      let offset : start + (place - start) ≡ place = omega (arith, above) in
-      as_one place ∙ in_run told start bytes place (omega (arith, long, fits)) above (omega (arith, below, all))
-      ∙ ap Some (ap (λ bs. get_or bs (place - start) 0) run.is ∙ get_or-drop start front (place - start) 0
-      ∙ ap (λ k. get_or front k 0) offset)
+  -- an offset from the start on is known, where it came
+  pub known_here : (offset : ℕ) → start ≤ offset → offset < length front
+      → byte_at told start kept unread offset ≡ Some (get_or front offset 0)
+  known_here offset above below =
+      let back : start + (offset - start) ≡ offset = omega (arith, above) in
+      as_one offset ∙ in_run told start bytes offset (omega (arith, long, fits)) above (omega (arith, below, all))
+      ∙ ap Some (ap (λ bs. get_or bs (offset - start) 0) run.is ∙ get_or-drop start front (offset - start) 0
+      ∙ ap (λ k. get_or front k 0) back)
 
   -- and no other
-  pub known_within : (place : ℕ) → is_some (byte_at told start kept unread place) ≡ true
-      → (start ≤ place) × (place < length front)
-  known_within place is = by_cases (cases_lt place start) (cases_lt place (start + length bytes)) where
-    by_cases : (place < start) ⊎ (start ≤ place) → (place < start + length bytes) ⊎ (start + length bytes ≤ place)
-        → (start ≤ place) × (place < length front)
+  pub known_within : (offset : ℕ) → is_some (byte_at told start kept unread offset) ≡ true
+      → (start ≤ offset) × (offset < length front)
+  known_within offset is = by_cases (cases_lt offset start) (cases_lt offset (start + length bytes)) where
+    by_cases : (offset < start) ⊎ (start ≤ offset) → (offset < start + length bytes) ⊎ (start + length bytes ≤ offset)
+        → (start ≤ offset) × (offset < length front)
     by_cases (inr above) (inl below) = (above, omega (arith, below, long, run.ends))
     by_cases (inl early) end =
-        absurd (let no : true ≡ false = sym is ∙ ap is_some (as_one place) ∙ not_before told start bytes place early in
+        absurd (let no : true ≡ false = sym is ∙ ap is_some (as_one offset) ∙ not_before told start bytes offset early in
         cc)
     by_cases (inr above) (inr late) =
-        absurd (let no : true ≡ false = sym is ∙ ap is_some (as_one place) ∙ not_behind told start bytes place late in
+        absurd (let no : true ≡ false = sym is ∙ ap is_some (as_one offset) ∙ not_behind told start bytes offset late in
         cc)
 
   -- an offset from the start on that is not known is after the bytes so far
-  pub unknown_behind : (place : ℕ) → is_some (byte_at told start kept unread place) ≡ false → start ≤ place
-      → length front ≤ place
-  unknown_behind place none above = by_cases (cases_lt place (length front)) where
-    by_cases : (place < length front) ⊎ (length front ≤ place) → length front ≤ place
+  pub unknown_behind : (offset : ℕ) → is_some (byte_at told start kept unread offset) ≡ false → start ≤ offset
+      → length front ≤ offset
+  unknown_behind offset none above = by_cases (cases_lt offset (length front)) where
+    by_cases : (offset < length front) ⊎ (length front ≤ offset) → length front ≤ offset
     by_cases (inr behind) = behind
-    by_cases (inl below) = absurd (let no : true ≡ false = sym (ap is_some (known_here place above below)) ∙ none in cc)
+    by_cases (inl below) = absurd (let no : true ≡ false = sym (ap is_some (known_here offset above below)) ∙ none in cc)
 
   -- the byte that the source reads there
-  byte_here : (place : ℕ) → start ≤ place → place < length front
-      → get_or (stream_input told start kept unread) place 0 ≡ get_or front place 0
-  byte_here place above below =
-      filled_at told (came start kept unread) bytes place (omega (arith, below, run.ends, fits))
-      ∙ ap (λ o. unwrap_or o 0) (known_here place above below)
+  byte_here : (offset : ℕ) → start ≤ offset → offset < length front
+      → get_or (stream_input told start kept unread) offset 0 ≡ get_or front offset 0
+  byte_here offset above below =
+      filled_at told (came start kept unread) bytes offset (omega (arith, below, run.ends, fits))
+      ∙ ap (λ o. unwrap_or o 0) (known_here offset above below)
 
   -- an input that begins with the bytes so far shares what is known
   pub begins_shares : (d : List ℕ) (marks : List Span) → Begins front told d
@@ -199,21 +199,21 @@ module _ (told start : ℕ) (kept unread front : List ℕ) (run : Run front kept
       → Shares d (stream_input told start kept unread) marks
   begins_shares d marks begins known = record {
     no_longer = let few = begins.fits in omega (arith, few, length-filled_input told (came start kept unread) bytes);
-    there = λ place here.
-        let within = known_within place (known place here) in
-        let there = begins_at front d told place begins within.1 in
-        (there.0, there.1 ∙ sym (byte_here place within.0 within.1));
+    there = λ offset here.
+        let within = known_within offset (known offset here) in
+        let there = begins_at front d told offset begins within.1 in
+        (there.0, there.1 ∙ sym (byte_here offset within.0 within.1));
   }
 
   -- and where it is as long as was told, it is the other way round, of what lies in them
   pub shares_begun : (d : List ℕ) (marks : List Span) → Begins front told d → length d ≡ told
-      → ((place : ℕ) → is_covered marks place ≡ true → start ≤ place) → AllBelow (length front) marks
+      → ((offset : ℕ) → is_covered marks offset ≡ true → start ≤ offset) → AllBelow (length front) marks
       → Shares (stream_input told start kept unread) d marks
   shares_begun d marks begins as_long above below = record {
     no_longer = omega (arith, as_long, length-filled_input told (came start kept unread) bytes);
-    there = λ place here.
-        let early = below place here in (
+    there = λ offset here.
+        let early = below offset here in (
           omega (arith, early, run.ends, fits, length-filled_input told (came start kept unread) bytes),
-          byte_here place (above place here) early ∙ sym (begins_at front d told place begins early).1,
+          byte_here offset (above offset here) early ∙ sym (begins_at front d told offset begins early).1,
         );
   }

@@ -23,59 +23,59 @@ use Rattle.imagesize_pieces.proofs.Beginning.{Run, begins_shares, unknown_behind
 use Rattle.imagesize_pieces.proofs.Called.{is_short, moved, some_is}
 use Rattle.imagesize_pieces.proofs.Reaching.{covered_either, reach_covered}
 
--- each record reads so many bytes from its place on at most
+-- each record reads so many bytes from its offset on at most
 abbrev pub Reaches : {C X : Type 0} → Chain C X → ℕ → Type 0
-Reaches {C} c k = (held : List C) (place : ℕ) → Reach place (place + k) (c.said held place)
+Reaches {C} c k = (held : List C) (offset : ℕ) → Reach offset (offset + k) (c.said held offset)
 
--- no chain reads before its place
+-- no chain reads before its offset
 pub chain_above : {C X : Type 0} (c : Chain C X) (k : ℕ) → Reaches c k → (d : List ℕ) → Advances c d
-    → (t : Along C) (place : ℕ)
-    → is_covered (chain_from c d t).marks place ≡ true → t.place ≤ place
+    → (t : Along C) (offset : ℕ)
+    → is_covered (chain_from c d t).marks offset ≡ true → t.offset ≤ offset
 chain_above {C} {X} c k reaches d adv =
-    chain_induction c d (λ t. (place : ℕ) → is_covered (chain_from c d t).marks place ≡ true → t.place ≤ place) adv
-    (λ t v next is later place here.
-    let u : Along C = record { held = t.held ++ v ∷ []; place = next } in
+    chain_induction c d (λ t. (offset : ℕ) → is_covered (chain_from c d t).marks offset ≡ true → t.offset ≤ offset) adv
+    (λ t v next is later offset here.
+    let u : Along C = record { held = t.held ++ v ∷ []; offset = next } in
     let on = (adv t v next is).0 in
-    elim (covered_either (next_record c d t).marks (chain_from c d u).marks place
-    (subst (λ w. is_covered w.marks place ≡ true) (chain_next c d t v next adv is) here)) [
-      | inl first ↦ (reach_covered d t.place (t.place + k) (c.said t.held t.place)
-          (reaches t.held t.place) place first).0
-      | inr rest ↦ (let after = later place rest in omega (arith, on, after))
+    elim (covered_either (next_record c d t).marks (chain_from c d u).marks offset
+    (subst (λ w. is_covered w.marks offset ≡ true) (chain_next c d t v next adv is) here)) [
+      | inl first ↦ (reach_covered d t.offset (t.offset + k) (c.said t.held t.offset)
+          (reaches t.held t.offset) offset first).0
+      | inr rest ↦ (let after = later offset rest in omega (arith, on, after))
     ])
-    (λ t r is place here.
-    (reach_covered d t.place (t.place + k) (c.said t.held t.place) (reaches t.held t.place) place
-    (subst (λ w. is_covered w.marks place ≡ true) (chain_stop c d t r is) here)).0)
+    (λ t r is offset here.
+    (reach_covered d t.offset (t.offset + k) (c.said t.held t.offset) (reaches t.held t.offset) offset
+    (subst (λ w. is_covered w.marks offset ≡ true) (chain_stop c d t r is) here)).0)
 
-pub stood_as : {C X : Type 0} (c : Chain C X) (P : List C → Type 0) (t : Along C) (place told m start : ℕ)
+pub stood_as : {C X : Type 0} (c : Chain C X) (P : List C → Type 0) (t : Along C) (offset told m start : ℕ)
     (kept unread : List ℕ)
     (others : List Span) (content : List ℕ) (first log : List Span) (before missed : Option Missing) → first ≡ []
     → before ≡ None
     → (m ≡ told) × (others ≡ came start kept unread) × (content ≡ kept ++ unread)
-    → Stood c P (stream_state told start kept unread first before) (parts_state m others content log missed) t place
-    → Stood c P (stream_state told start kept unread [] None) (stream_state told start kept unread log missed) t place
-stood_as c P t place told m start kept unread others content first log before missed none unmissed same stood =
+    → Stood c P (stream_state told start kept unread first before) (parts_state m others content log missed) t offset
+    → Stood c P (stream_state told start kept unread [] None) (stream_state told start kept unread log missed) t offset
+stood_as c P t offset told m start kept unread others content first log before missed none unmissed same stood =
     subst (λ l. Stood c P (stream_state told start kept unread l None)
-    (stream_state told start kept unread log missed) t place) none
+    (stream_state told start kept unread log missed) t offset) none
     (subst (λ x. Stood c P (stream_state told start kept unread first x)
-    (stream_state told start kept unread log missed) t place) unmissed
+    (stream_state told start kept unread log missed) t offset) unmissed
     (moved (λ x y z. Stood c P (stream_state told start kept unread first before)
-    (parts_state x y z log missed) t place) told m
+    (parts_state x y z log missed) t offset) told m
     (came start kept unread) others (kept ++ unread) content same.0 same.1 same.2 stood))
 
 -- a mark of the first readings is one of all
-onward_covered : {X Y : Type 0} (marks : List Span) (r : Result X Halt) (f : X → Reads Y) (place : ℕ)
-    → is_covered marks place ≡ true
-    → is_covered (go_on marks r f).marks place ≡ true
-onward_covered marks (Ok x) f place here = covered-left marks (f x).marks place here
-onward_covered marks (Err e) f place here = here
+onward_covered : {X Y : Type 0} (marks : List Span) (r : Result X Halt) (f : X → Reads Y) (offset : ℕ)
+    → is_covered marks offset ≡ true
+    → is_covered (go_on marks r f).marks offset ≡ true
+onward_covered marks (Ok x) f offset here = covered-left marks (f x).marks offset here
+onward_covered marks (Err e) f offset here = here
 
 module _ {C X : Type 0} (c : Chain C X) (P : List C → Type 0) (t : Along C) (told start : ℕ)
     (kept unread front : List ℕ)
     (run : Run front kept unread start) (fits : start + (length kept + length unread) ≤ told) (short : told < 2 ^ 63)
     (log : List Span)
-    (missed : Option Missing) (place : ℕ)
+    (missed : Option Missing) (offset : ℕ)
     (stood : Stood c P (stream_state told start kept unread [] None)
-    (stream_state told start kept unread log missed) t place)
+    (stream_state told start kept unread log missed) t offset)
     (seen : AllKnown told (came start kept unread) (kept ++ unread) log)
     (lacks : ForSome missed (Lacks told (came start kept unread) (kept ++ unread))) where
   abbrev fill : List ℕ
@@ -85,7 +85,7 @@ module _ {C X : Type 0} (c : Chain C X) (P : List C → Type 0) (t : Along C) (t
   before = stream_state told start kept unread [] None
 
   abbrev u : Along C
-  u = record { held = stood.held; place = place }
+  u = record { held = stood.held; offset = offset }
 
   honest : before.held.honest ≡ true
   honest = is_short told short
@@ -111,28 +111,28 @@ module _ {C X : Type 0} (c : Chain C X) (P : List C → Type 0) (t : Along C) (t
   leads_begun d begins =
       stood.leads honest d (begins_shares told start kept unread front run fits d stood.made begins made_known)
 
-  pub ahead_begun : t.place ≤ place
+  pub ahead_begun : t.offset ≤ offset
   ahead_begun = stood.ahead honest
 
   -- what is missed lies in the record, and after the bytes so far, so that few of them are kept
-  pub few_left : (k : ℕ) → Reaches c k → start ≤ t.place → length front < place + k
+  pub few_left : (k : ℕ) → Reaches c k → start ≤ t.offset → length front < offset + k
   few_left k reaches from =
       let is = what.2 in let none = lacks what.0 what.1 in
-      let between = reach_covered fill place (place + k) (c.said stood.held place)
-      (reaches stood.held place) what.0.start
+      let between = reach_covered fill offset (offset + k) (c.said stood.held offset)
+      (reaches stood.held offset) what.0.start
       (missed_covered (next_record c fill u).marks what.0 is none.0) in
       let behind = unknown_behind told start kept unread front run fits what.0.start none.3
       (omega (arith, ahead_begun, from, between.0)) in
       omega (arith, behind, between.1)
 
   -- the read that failed requests bytes after the record's offset, and after the bytes so far
-  pub ends_left : (k : ℕ) → Reaches c k → start ≤ t.place
-      → (length front < end_of missed) × (place < end_of missed) × (end_of missed ≤ told)
+  pub ends_left : (k : ℕ) → Reaches c k → start ≤ t.offset
+      → (length front < end_of missed) × (offset < end_of missed) × (end_of missed ≤ told)
   ends_left k reaches from =
       let is = what.2 in let none = lacks what.0 what.1 in
       let some = none.0 in let few = none.1 in let within = none.2 in
-      let between = reach_covered fill place (place + k) (c.said stood.held place)
-      (reaches stood.held place) what.0.start
+      let between = reach_covered fill offset (offset + k) (c.said stood.held offset)
+      (reaches stood.held offset) what.0.start
       (missed_covered (next_record c fill u).marks what.0 is none.0) in
       let behind = unknown_behind told start kept unread front run fits what.0.start none.3
       (omega (arith, ahead_begun, from, between.0)) in
@@ -160,20 +160,20 @@ module _ {C X : Type 0} (c : Chain C X) (P : List C → Type 0) (t : Along C) (t
       let is = what.2 in let none = lacks what.0 what.1 in let some = none.0 in
       let within : what.0.start + what.0.sure ≤ is.mark.start + is.mark.len = is.within in
       alike_covered fill d (next_record c fill u) (next_record c d u) is.made is.rest is.mark what.0.start
-      (alike_layout fill d (c.said stood.held place) (with_texts (c.said stood.held place))
+      (alike_layout fill d (c.said stood.held offset) (with_texts (c.said stood.held offset))
       (as_long ∙ sym (length-filled_input told (came start kept unread) (kept ++ unread))))
       is.all is.behind (omega (arith, within, some))
       (begins_shares told start kept unread front run fits d
       (is.made ++ span_at is.mark.start (what.0.start - is.mark.start)) begins seen_known)
 
   -- An input of the told length depends on it.
-  pub marked_left : (k : ℕ) → Reaches c k → ((e : List ℕ) → Advances c e) → start ≤ t.place → (d : List ℕ)
+  pub marked_left : (k : ℕ) → Reaches c k → ((e : List ℕ) → Advances c e) → start ≤ t.offset → (d : List ℕ)
       → Begins front told d → length d ≡ told
-      → SomeBetween (max (length front) place) (min (end_of missed) (place + k)) (chain_from c d t).marks
+      → SomeBetween (max (length front) offset) (min (end_of missed) (offset + k)) (chain_from c d t).marks
   marked_left k reaches adv from d begins as_long =
       let none = lacks what.0 what.1 in let some = none.0 in let few = none.1 in
       let here = record_covered d begins as_long in
-      let between = reach_covered d place (place + k) (c.said stood.held place) (reaches stood.held place)
+      let between = reach_covered d offset (offset + k) (c.said stood.held offset) (reaches stood.held offset)
       what.0.start here in
       let behind = unknown_behind told start kept unread front run fits what.0.start none.3
       (omega (arith, ahead_begun, from, between.0)) in

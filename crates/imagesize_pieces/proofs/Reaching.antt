@@ -1,9 +1,9 @@
--- A layout that reads between two places has its marks there.
+-- A layout that reads between two offsets has its marks there.
 use Rattle.std.proofs.Common.{◌≡◌, ℕ, zero, suc, ◌+◌, ◌-◌, ◌<◌, ◌≤◌, min, Bool, true, false, cond, ◌||◌, ◌⊎◌, inl, inr, List, [], ◌∷◌, ◌++◌, length, Result, Ok, Err, refl, ap, arith}
 use Rattle.std.proofs.lemmas.Bool.Decides.{nat_tests}
 use Rattle.imagesize_source.specs.declared.halt.Halt.{Halt}
 use Rattle.imagesize_source.specs.declared.span.Span.{Span}
-use Rattle.imagesize_source.specs.Agreement.{is_covered, has_place}
+use Rattle.imagesize_source.specs.Agreement.{is_covered, has_offset}
 use Rattle.imagesize_source.specs.Input.{part, span_at, span_of}
 use Rattle.imagesize_source.specs.Layout.{Layout, done, refuse, field, reading, begin_record, layout_reads, bind, accept}
 use Rattle.imagesize_source.specs.Reading.{Reads, Reading, AllOf, PartOf, TextOf, go_on, read_of, most, number_at, text_part}
@@ -14,45 +14,45 @@ use Rattle.imagesize_source.proofs.Runs.{part_is}
 use Rattle.imagesize_source.proofs.Texts.{front_length}
 use Rattle.imagesize_pieces.specs.Stream.{Reach}
 
--- a place of two lists of spans is one of either
-pub covered_either : (s t : List Span) (place : ℕ) → is_covered (s ++ t) place ≡ true
-    → (is_covered s place ≡ true) ⊎ (is_covered t place ≡ true)
-covered_either [] t place is = inr is
-covered_either (x ∷ s) t place is = by_test (has_place x place) (covered_either s t place) is where
-  by_test : (b : Bool) → (is_covered (s ++ t) place ≡ true → (is_covered s place ≡ true) ⊎ (is_covered t place ≡ true))
-      → b || is_covered (s ++ t) place ≡ true → (b || is_covered s place ≡ true) ⊎ (is_covered t place ≡ true)
+-- an offset of two lists of spans is one of either
+pub covered_either : (s t : List Span) (offset : ℕ) → is_covered (s ++ t) offset ≡ true
+    → (is_covered s offset ≡ true) ⊎ (is_covered t offset ≡ true)
+covered_either [] t offset is = inr is
+covered_either (x ∷ s) t offset is = by_test (has_offset x offset) (covered_either s t offset) is where
+  by_test : (b : Bool) → (is_covered (s ++ t) offset ≡ true → (is_covered s offset ≡ true) ⊎ (is_covered t offset ≡ true))
+      → b || is_covered (s ++ t) offset ≡ true → (b || is_covered s offset ≡ true) ⊎ (is_covered t offset ≡ true)
   by_test true rest is = inl refl
   by_test false rest is = rest is
 
-covered_span : (start n place : ℕ) → is_covered (span_at start n) place ≡ true → (start ≤ place) × (place < start + n)
+covered_span : (start n offset : ℕ) → is_covered (span_at start n) offset ≡ true → (start ≤ offset) × (offset < start + n)
 unfolding span_at
-covered_span start zero place is = absurd cc
-covered_span start (suc n) place is = (grind (arith, nat_tests), grind (arith, nat_tests))
+covered_span start zero offset is = absurd cc
+covered_span start (suc n) offset is = (grind (arith, nat_tests), grind (arith, nat_tests))
 
-covered_part : (d : List ℕ) (start k place : ℕ) → is_covered (span_of d start k) place ≡ true
-    → (start ≤ place) × (place < start + k)
+covered_part : (d : List ℕ) (start k offset : ℕ) → is_covered (span_of d start k) offset ≡ true
+    → (start ≤ offset) × (offset < start + k)
 unfolding span_of
-covered_part d start k place is = let h = covered_span start (min k (length d - start)) place is in
+covered_part d start k offset is = let h = covered_span start (min k (length d - start)) offset is in
     (h.0, omega (arith, h.1))
 
-covered_reading : (d : List ℕ) (r : Reading) (start place : ℕ) → is_covered (read_of d r start).marks place ≡ true
-    → (start ≤ place) × (place < start + most r)
+covered_reading : (d : List ℕ) (r : Reading) (start offset : ℕ) → is_covered (read_of d r start).marks offset ≡ true
+    → (start ≤ offset) × (offset < start + most r)
 unfolding text_part
-covered_reading d (AllOf k) start place is = covered_part d start k place is
-covered_reading d (PartOf k) start place is = covered_part d start k place is
-covered_reading d (TextOf t k) start place is =
-    let h = covered_span start (length (text_front t (part d start k))) place is in
+covered_reading d (AllOf k) start offset is = covered_part d start k offset is
+covered_reading d (PartOf k) start offset is = covered_part d start k offset is
+covered_reading d (TextOf t k) start offset is =
+    let h = covered_span start (length (text_front t (part d start k))) offset is in
     (h.0, omega (arith, h.1, front_length t (part d start k), part_length d start k))
 
--- a place of readings and of what goes on from them
-covered_onward : {X Y : Type 0} (spans : List Span) (r : Result X Halt) (f : X → Reads Y) (place : ℕ) (P : Type 0)
-    → is_covered (go_on spans r f).marks place ≡ true → (is_covered spans place ≡ true → P)
-    → ((x : X) → r ≡ Ok x → is_covered (f x).marks place ≡ true → P) → P
-covered_onward spans (Ok x) f place P is first rest = elim (covered_either spans (f x).marks place is) [
+-- an offset of readings and of what goes on from them
+covered_onward : {X Y : Type 0} (spans : List Span) (r : Result X Halt) (f : X → Reads Y) (offset : ℕ) (P : Type 0)
+    → is_covered (go_on spans r f).marks offset ≡ true → (is_covered spans offset ≡ true → P)
+    → ((x : X) → r ≡ Ok x → is_covered (f x).marks offset ≡ true → P) → P
+covered_onward spans (Ok x) f offset P is first rest = elim (covered_either spans (f x).marks offset is) [
   | inl here ↦ first here
   | inr later ↦ rest x refl later
 ]
-covered_onward spans (Err e) f place P is first rest = first is
+covered_onward spans (Err e) f offset P is first rest = first is
 
 -- a reading gives no more bytes than it asks for
 read_most : (d : List ℕ) (r : Reading) (start : ℕ) (bs : List ℕ) → (read_of d r start).answer ≡ Ok bs
@@ -63,21 +63,21 @@ read_most d (PartOf k) start bs is = omega (arith, ap length (part_is is), part_
 read_most d (TextOf t k) start bs is =
     omega (arith, ap length (part_is is), front_length t (part d start k), part_length d start k)
 
-pub reach_covered : {X : Type 0} (d : List ℕ) (low high : ℕ) (t : Layout X) → Reach low high t → (place : ℕ)
-    → is_covered (layout_reads d t).marks place ≡ true → (low ≤ place) × (place < high)
-reach_covered d low high (done x) reach place is = absurd cc
-reach_covered d low high (refuse e) reach place is = absurd cc
-reach_covered d low high (field order start n f) reach place is =
-    covered_onward (span_of d start n) (number_at d order start n) (λ v. layout_reads d (f v)) place
-    ((low ≤ place) × (place < high)) is
-    (λ here. let h = covered_part d start n place here in (omega (arith, h.0, reach.0), omega (arith, h.1, reach.1)))
-    (λ v _ later. reach_covered d low high (f v) (reach.2 v) place later)
-reach_covered d low high (reading r start f) reach place is =
-    covered_onward (read_of d r start).marks (read_of d r start).answer (λ bs. layout_reads d (f bs)) place
-    ((low ≤ place) × (place < high)) is
-    (λ here. let h = covered_reading d r start place here in (omega (arith, h.0, reach.0), omega (arith, h.1, reach.1)))
-    (λ bs got later. reach_covered d low high (f bs) (reach.2 bs (read_most d r start bs got)) place later)
-reach_covered d low high (begin_record t) reach place is = reach_covered d low high t reach place is
+pub reach_covered : {X : Type 0} (d : List ℕ) (low high : ℕ) (t : Layout X) → Reach low high t → (offset : ℕ)
+    → is_covered (layout_reads d t).marks offset ≡ true → (low ≤ offset) × (offset < high)
+reach_covered d low high (done x) reach offset is = absurd cc
+reach_covered d low high (refuse e) reach offset is = absurd cc
+reach_covered d low high (field order start n f) reach offset is =
+    covered_onward (span_of d start n) (number_at d order start n) (λ v. layout_reads d (f v)) offset
+    ((low ≤ offset) × (offset < high)) is
+    (λ here. let h = covered_part d start n offset here in (omega (arith, h.0, reach.0), omega (arith, h.1, reach.1)))
+    (λ v _ later. reach_covered d low high (f v) (reach.2 v) offset later)
+reach_covered d low high (reading r start f) reach offset is =
+    covered_onward (read_of d r start).marks (read_of d r start).answer (λ bs. layout_reads d (f bs)) offset
+    ((low ≤ offset) × (offset < high)) is
+    (λ here. let h = covered_reading d r start offset here in (omega (arith, h.0, reach.0), omega (arith, h.1, reach.1)))
+    (λ bs got later. reach_covered d low high (f bs) (reach.2 bs (read_most d r start bs got)) offset later)
+reach_covered d low high (begin_record t) reach offset is = reach_covered d low high t reach offset is
 
 -- what reads so far reads no farther
 pub reach_more : {X : Type 0} (low high more : ℕ) (t : Layout X) → high ≤ more → Reach low high t → Reach low more t
@@ -108,8 +108,8 @@ pub reach_bind : {X Y : Type 0} (low high : ℕ) (t : Layout X) (g : X → Layou
     → Reach low high (bind t g)
 reach_bind low high (done x) g reach rest = rest x
 reach_bind low high (refuse e) g reach rest = tt
-reach_bind low high (field order place n f) g reach rest =
+reach_bind low high (field order offset n f) g reach rest =
     (reach.0, reach.1, λ v. reach_bind low high (f v) g (reach.2 v) rest)
-reach_bind low high (reading r place f) g reach rest =
+reach_bind low high (reading r offset f) g reach rest =
     (reach.0, reach.1, λ bs few. reach_bind low high (f bs) g (reach.2 bs few) rest)
 reach_bind low high (begin_record t) g reach rest = reach_bind low high t g reach rest

@@ -9,6 +9,6 @@ use Rattle.imagesize_pieces.specs.declared.stand.Stand.{Stand}
 -- these bytes arrived, and the buffer holds those from `stand.start` on
 abbrev pub Stands : {C X : Type 0} → ℕ → (List C → ℕ → Layout (Said C X)) → (List C → ℕ → Type 0) → Stand → List ℕ → (List ℕ → Reads X)
     → List ℕ → Type 0
-Stands first said keeps stand room whole front =
-    Streams first said (λ held. keeps held stand.place) stand.start stand.place stand.told stand.passed (take (stand.passed - stand.start) room)
+Stands first said keeps stand buffer whole front =
+    Streams first said (λ held. keeps held stand.offset) stand.start stand.offset stand.told stand.passed (take (stand.passed - stand.start) buffer)
     whole front

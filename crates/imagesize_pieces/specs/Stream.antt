@@ -20,17 +20,17 @@ pub record Begins (front : List ℕ) (told : ℕ) (d : List ℕ) : Type 0 where
 abbrev pub Reach : {X : Type 0} → ℕ → ℕ → Layout X → Type 0
 Reach low high (done x) = Unit {0}
 Reach low high (refuse e) = Unit {0}
-Reach low high (field order place n f) = (low ≤ place) × (place + n ≤ high) × ((v : ℕ) → Reach low high (f v))
-Reach low high (reading r place f) = (low ≤ place) × (place + most r ≤ high) × ((bs : List ℕ) → length bs ≤ most r → Reach low high (f bs))
+Reach low high (field order offset n f) = (low ≤ offset) × (offset + n ≤ high) × ((v : ℕ) → Reach low high (f v))
+Reach low high (reading r offset f) = (low ≤ offset) × (offset + most r ≤ high) × ((bs : List ℕ) → length bs ≤ most r → Reach low high (f bs))
 Reach low high (begin_record t) = Reach low high t
 
 -- each offset of the spans is below n
 abbrev pub AllBelow : ℕ → List Span → Type 0
-AllBelow n spans = (place : ℕ) → is_covered spans place ≡ true → place < n
+AllBelow n spans = (offset : ℕ) → is_covered spans offset ≡ true → offset < n
 
 -- an offset of the spans is at least `low` and below `high`
 abbrev pub SomeBetween : ℕ → ℕ → List Span → Type 0
-SomeBetween low high spans = (place : ℕ) × (low ≤ place) × (place < high) × (is_covered spans place ≡ true)
+SomeBetween low high spans = (offset : ℕ) × (low ≤ offset) × (offset < high) × (is_covered spans offset ≡ true)
 
 -- Every input that begins with these bytes has this result, with the same spans.
 pub record Says {X : Type 0} (front : List ℕ) (told : ℕ) (reads : List ℕ → Reads X) (answer : Result X Halt) : Type 0 where
@@ -39,7 +39,7 @@ pub record Says {X : Type 0} (front : List ℕ) (told : ℕ) (reads : List ℕ �
 
 -- the n bytes from an offset on, as one span
 abbrev pub run_of : ℕ → ℕ → List Span
-run_of place n = record { start = place; len = n } ∷ []
+run_of offset n = record { start = offset; len = n } ∷ []
 
 -- the span of the bytes from an offset on: those that were kept, and those of the next chunk after them
 abbrev pub came : ℕ → List ℕ → List ℕ → List Span
@@ -47,7 +47,7 @@ came start kept chunk = run_of start (length kept + length chunk)
 
 -- the byte at an offset, or `None` if it is not one of them
 abbrev pub byte_at : ℕ → ℕ → List ℕ → List ℕ → ℕ → Option ℕ
-byte_at told start kept chunk place = byte_in_parts told (came start kept chunk) (kept ++ chunk) place
+byte_at told start kept chunk offset = byte_in_parts told (came start kept chunk) (kept ++ chunk) offset
 
 -- an input that has them, and 0 at every other offset
 abbrev pub stream_input : ℕ → ℕ → List ℕ → List ℕ → List ℕ
@@ -63,8 +63,8 @@ end_of None = 0
 end_of (Some m) = m.start + m.most
 
 -- The first `passed` bytes of an input of at most `told` bytes arrived. Those from `start` on are kept. The next record
--- of the walk is at `place`. For every input that begins so, the reads are some spans, then those from that record on.
-pub record Streams {C X : Type 0} (first : ℕ) (said : List C → ℕ → Layout (Said C X)) (P : List C → Type 0) (start place told passed : ℕ)
+-- of the walk is at `offset`. For every input that begins so, the reads are some spans, then those from that record on.
+pub record Streams {C X : Type 0} (first : ℕ) (said : List C → ℕ → Layout (Said C X)) (P : List C → Type 0) (start offset told passed : ℕ)
     (kept : List ℕ) (whole : List ℕ → Reads X) (front : List ℕ) : Type 0 where
   pub held : List C
   pub known : P held
@@ -72,4 +72,4 @@ pub record Streams {C X : Type 0} (first : ℕ) (said : List C → ℕ → Layou
   pub rest : kept ≡ drop start front
   pub before : List Span
   pub resumes : (d : List ℕ) → Begins front told d
-      → uncounted (whole d) ≡ put_behind before (uncounted (chain_from (chain_of first said) d (record { held = held; place = place })))
+      → uncounted (whole d) ≡ put_behind before (uncounted (chain_from (chain_of first said) d (record { held = held; offset = offset })))

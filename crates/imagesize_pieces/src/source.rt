@@ -1,14 +1,14 @@
 //! The bytes of an input that arrived so far, from an offset on, as a source. A read of a missing byte fails.
 ghost use Rattle.std.specs.Prelude.{◌≡◌, ℕ, ◌+◌, ◌-◌, ◌<◌, ◌≤◌, ◌++◌, [], ◌∷◌, min, take, length, slice_index, is_some, true, false, None, Some, IfOk, IfSome};
 ghost use Rattle.std.specs.Option.{ForSome};
-ghost use Rattle.imagesize_source.specs.Agreement.{has_place};
+ghost use Rattle.imagesize_source.specs.Agreement.{has_offset};
 ghost use Rattle.imagesize_source.specs.Input.{part, span_at};
 ghost use Rattle.imagesize_source.specs.Known.{AllKnown, Lacks};
 ghost use Rattle.imagesize_source.specs.Reading.{part_read, map_answer};
 ghost use Rattle.imagesize_source.specs.State.{Runs};
 ghost use Rattle.imagesize_pieces.specs.Stream.{byte_at, came, end_of, stream_input, stream_state};
 
-use crate::room::bytes_behind;
+use crate::buffer::bytes_behind;
 use imagesize_source::source::Source;
 use imagesize_source::source::log::SpanLog;
 use imagesize_source::source::parts::{Missing, count_there, is_cut, put};
@@ -87,7 +87,7 @@ impl<'a> StreamSource<'a> {
     // Records a span.
     #[inline(always)]
     fn push(&mut self, span: Span)
-        requires { (place : ℕ) → has_place span place ≡ true → is_some (byte_at self.old.told self.old.start self.old.kept.now self.old.chunk.now place) ≡ true }
+        requires { (offset : ℕ) → has_offset span offset ≡ true → is_some (byte_at self.old.told self.old.start self.old.kept.now self.old.chunk.now offset) ≡ true }
         ensures start { self.new.start ≡ self.old.start }
         ensures kept { self.new.kept.now ≡ self.old.kept.now }
         ensures chunk { self.new.chunk.now ≡ self.old.chunk.now }
@@ -125,33 +125,33 @@ impl<'a> StreamSource<'a> {
     // Copies the known bytes of a read into the buffer, up to the first missing byte. Returns how many it copied, and how many
     // bytes of the buffer lie within the input.
     #[inline(always)]
-    fn fill_known(&self, place: u64, room: &mut [u8]) -> (usize, usize)
-        ensures wanted { result.1 ≡ min (length room.new) (self.now.told - place) }
+    fn fill_known(&self, offset: u64, buffer: &mut [u8]) -> (usize, usize)
+        ensures wanted { result.1 ≡ min (length buffer.new) (self.now.told - offset) }
         ensures within { result.0 ≤ result.1 }
-        ensures copied { take result.0 room.new ≡ part (stream_input self.now.told self.now.start self.now.kept.now self.now.chunk.now) place result.0 }
-        ensures known { (i : ℕ) → i < result.0 → is_some (byte_at self.now.told self.now.start self.now.kept.now self.now.chunk.now (place + i)) ≡ true }
-        ensures missing { result.0 < result.1 → is_some (byte_at self.now.told self.now.start self.now.kept.now self.now.chunk.now (place + result.0)) ≡ false }
+        ensures copied { take result.0 buffer.new ≡ part (stream_input self.now.told self.now.start self.now.kept.now self.now.chunk.now) offset result.0 }
+        ensures known { (i : ℕ) → i < result.0 → is_some (byte_at self.now.told self.now.start self.now.kept.now self.now.chunk.now (offset + i)) ≡ true }
+        ensures missing { result.0 < result.1 → is_some (byte_at self.now.told self.now.start self.now.kept.now self.now.chunk.now (offset + result.0)) ≡ false }
     {
-        let wanted = count_there(self.told, place, room.len());
-        let found = self.gather(place, &mut room[..wanted]);
+        let wanted = count_there(self.told, offset, buffer.len());
+        let found = self.gather(offset, &mut buffer[..wanted]);
         (found, wanted)
     }
 
     // Copies the known bytes of a read into the buffer, up to the first missing byte, and returns how many it copied.
-    fn gather(&self, place: u64, room: &mut [u8]) -> usize
-        requires { length room.old ≤ self.now.told - place }
-        ensures within { result ≤ length room.old }
-        ensures copied { take result room.new ≡ part (stream_input self.now.told self.now.start self.now.kept.now self.now.chunk.now) place result }
-        ensures known { (i : ℕ) → i < result → is_some (byte_at self.now.told self.now.start self.now.kept.now self.now.chunk.now (place + i)) ≡ true }
-        ensures missing { result < length room.old → is_some (byte_at self.now.told self.now.start self.now.kept.now self.now.chunk.now (place + result)) ≡ false }
+    fn gather(&self, offset: u64, buffer: &mut [u8]) -> usize
+        requires { length buffer.old ≤ self.now.told - offset }
+        ensures within { result ≤ length buffer.old }
+        ensures copied { take result buffer.new ≡ part (stream_input self.now.told self.now.start self.now.kept.now self.now.chunk.now) offset result }
+        ensures known { (i : ℕ) → i < result → is_some (byte_at self.now.told self.now.start self.now.kept.now self.now.chunk.now (offset + i)) ≡ true }
+        ensures missing { result < length buffer.old → is_some (byte_at self.now.told self.now.start self.now.kept.now self.now.chunk.now (offset + result)) ≡ false }
     {
         let mut count = 0;
-        while count < room.len() {
-            let run = self.known_from(place + count as u64);
+        while count < buffer.len() {
+            let run = self.known_from(offset + count as u64);
             if run.is_empty() {
                 return count;
             }
-            count += put(run, room, count);
+            count += put(run, buffer, count);
         }
         count
     }
@@ -159,29 +159,29 @@ impl<'a> StreamSource<'a> {
     // The known bytes from an offset on, up to the end of the slice that contains it.
     #[inline(always)]
     #[tactic(auto, using(crate::proofs::Streaming::kept_known, crate::proofs::Streaming::chunk_known, crate::proofs::Streaming::before_none, crate::proofs::Streaming::behind_none))]
-    fn known_from(&self, place: u64) -> &'a [u8]
-        ensures known { (i : ℕ) → i < length result.now → byte_at self.now.told self.now.start self.now.kept.now self.now.chunk.now (place + i) ≡ Some (slice_index result.now i) }
-        ensures none { length result.now ≡ 0 → is_some (byte_at self.now.told self.now.start self.now.kept.now self.now.chunk.now place) ≡ false }
+    fn known_from(&self, offset: u64) -> &'a [u8]
+        ensures known { (i : ℕ) → i < length result.now → byte_at self.now.told self.now.start self.now.kept.now self.now.chunk.now (offset + i) ≡ Some (slice_index result.now i) }
+        ensures none { length result.now ≡ 0 → is_some (byte_at self.now.told self.now.start self.now.kept.now self.now.chunk.now offset) ≡ false }
     {
-        if place < self.start {
+        if offset < self.start {
             return &self.kept[..0];
         }
-        let offset = place - self.start;
+        let index = offset - self.start;
         let kept = self.kept.len() as u64;
-        if offset < kept {
-            return &self.kept[offset as usize..];
+        if index < kept {
+            return &self.kept[index as usize..];
         }
-        bytes_behind(self.chunk, offset - kept)
+        bytes_behind(self.chunk, index - kept)
     }
 
     // The `count` bytes from an offset on, or `None` if no slice contains all of them.
     #[inline(always)]
     #[tactic(auto, using(crate::proofs::Streaming::first_known))]
-    fn whole_from(&self, place: u64, count: usize) -> Option<&'a [u8]>
+    fn whole_from(&self, offset: u64, count: usize) -> Option<&'a [u8]>
         ensures long { IfSome result (λ found. length found.now ≡ count) }
-        ensures known { IfSome result (λ found. (i : ℕ) → i < count → byte_at self.now.told self.now.start self.now.kept.now self.now.chunk.now (place + i) ≡ Some (slice_index found.now i)) }
+        ensures known { IfSome result (λ found. (i : ℕ) → i < count → byte_at self.now.told self.now.start self.now.kept.now self.now.chunk.now (offset + i) ≡ Some (slice_index found.now i)) }
     {
-        let run = self.known_from(place);
+        let run = self.known_from(offset);
         if run.len() < count {
             return None;
         }
@@ -191,20 +191,20 @@ impl<'a> StreamSource<'a> {
     // A read that no slice contains as a whole.
     #[cold]
     #[inline(never)]
-    fn gather_at(&mut self, place: u64, room: &mut [u8]) -> Result<usize, Halt>
-        ensures bound { IfOk result (λ n. n ≤ length room.new) }
-        ensures there { IfOk result (λ n. n ≤ self.old.told - place) }
+    fn gather_at(&mut self, offset: u64, buffer: &mut [u8]) -> Result<usize, Halt>
+        ensures bound { IfOk result (λ n. n ≤ length buffer.new) }
+        ensures there { IfOk result (λ n. n ≤ self.old.told - offset) }
         ensures runs { Runs (stream_state self.old.told self.old.start self.old.kept.now self.old.chunk.now self.old.log.spans self.old.missed)
             (stream_state self.new.told self.new.start self.new.kept.now self.new.chunk.now self.new.log.spans self.new.missed)
-            (map_answer (λ n. take n room.new) result)
-            (part_read (stream_input self.old.told self.old.start self.old.kept.now self.old.chunk.now) place (length room.new)) }
+            (map_answer (λ n. take n buffer.new) result)
+            (part_read (stream_input self.old.told self.old.start self.old.kept.now self.old.chunk.now) offset (length buffer.new)) }
     {
-        let (found, wanted) = self.fill_known(place, room);
+        let (found, wanted) = self.fill_known(offset, buffer);
         if found < wanted {
             let missing = wanted - found;
-            return Err(self.miss(place, found, missing, missing));
+            return Err(self.miss(offset, found, missing, missing));
         }
-        self.see(place, found);
+        self.see(offset, found);
         Ok(found)
     }
 }
@@ -225,22 +225,22 @@ impl Source for StreamSource<'_> {
     }
 
     #[inline(always)]
-    fn read_at(&mut self, place: u64, room: &mut [u8]) -> Result<usize, Halt> {
-        let Some(found) = self.whole_from(place, room.len()) else {
-            return self.gather_at(place, room);
+    fn read_at(&mut self, offset: u64, buffer: &mut [u8]) -> Result<usize, Halt> {
+        let Some(found) = self.whole_from(offset, buffer.len()) else {
+            return self.gather_at(offset, buffer);
         };
-        room.copy_from_slice(found);
-        self.see(place, found.len());
+        buffer.copy_from_slice(found);
+        self.see(offset, found.len());
         Ok(found.len())
     }
 
-    fn read_text(&mut self, place: u64, text: Text, room: &mut [u8]) -> Result<usize, Halt> {
-        let (found, wanted) = self.fill_known(place, room);
-        if is_cut(text, &room[..found], wanted) {
-            return Err(self.miss(place, found, 1, wanted - found));
+    fn read_text(&mut self, offset: u64, text: Text, buffer: &mut [u8]) -> Result<usize, Halt> {
+        let (found, wanted) = self.fill_known(offset, buffer);
+        if is_cut(text, &buffer[..found], wanted) {
+            return Err(self.miss(offset, found, 1, wanted - found));
         }
-        let count = text_length(text, &room[..found]);
-        self.see(place, count);
+        let count = text_length(text, &buffer[..found]);
+        self.see(offset, count);
         Ok(count)
     }
 }

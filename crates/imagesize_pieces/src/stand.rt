@@ -7,14 +7,14 @@ pub struct Stand {
     /// The offset of the first byte in the buffer.
     pub start: u64,
     /// The offset of the next record.
-    pub place: u64,
+    pub offset: u64,
     /// How many bytes arrived.
     pub passed: u64,
     /// The offset after the last byte that is requested.
     pub end: u64,
     /// How many bytes the input has at most.
     pub told: u64,
-    ghost ahead: { start ≤ place },
+    ghost ahead: { start ≤ offset },
     ghost fits: { passed ≤ told },
     ghost short: { told < 2 ^ 63 },
 }

@@ -5,7 +5,7 @@ ghost use Rattle.imagesize_source.specs.Walk.{CanFollow, chain_of};
 ghost use Rattle.imagesize_pieces.specs.Standing.{Stands};
 ghost use Rattle.imagesize_pieces.specs.Stream.{AllBelow, Begins, Reach, Says, SomeBetween};
 
-use crate::room::{bytes_behind, keep_behind};
+use crate::buffer::{bytes_behind, keep_behind};
 use crate::source::StreamSource;
 use crate::stand::Stand;
 use imagesize_source::Halt;
@@ -16,20 +16,20 @@ use imagesize_source::walk::{Records, walk_on};
 pub fn read_on<R: Records>(
     records: &mut R,
     stand: &mut Stand,
-    room: &mut [u8],
+    buffer: &mut [u8],
     chunk: &[u8],
 ) -> Option<Result<R::Answer, Halt>>
     requires follows { CanFollow (chain_of 0 (R.said records.old)) }
-    requires keeps { (held : List R.Held) × R.keeps records.old held stand.old.place }
-    requires reaches { (held : List R.Held) (place : ℕ) → Reach place (place + (length room.old + 1)) (R.said records.old held place) }
-    requires room { stand.old.passed - stand.old.start ≤ length room.old }
+    requires keeps { (held : List R.Held) × R.keeps records.old held stand.old.offset }
+    requires reaches { (held : List R.Held) (offset : ℕ) → Reach offset (offset + (length buffer.old + 1)) (R.said records.old held offset) }
+    requires buffer { stand.old.passed - stand.old.start ≤ length buffer.old }
     requires fits { stand.old.passed + length chunk.now ≤ stand.old.told }
     ensures same { R.said records.new ≡ R.said records.old }
     ensures told { stand.new.told ≡ stand.old.told }
     ensures passed { result ≡ None → stand.new.passed ≡ stand.old.passed + length chunk.now }
-    ensures keeps { result ≡ None → (held : List R.Held) × R.keeps records.new held stand.new.place }
-    ensures room { result ≡ None → stand.new.passed - stand.new.start ≤ length room.new }
-    ensures stays { IfSome result (λ _. (stand.new ≡ stand.old) × (room.new ≡ room.old)) }
+    ensures keeps { result ≡ None → (held : List R.Held) × R.keeps records.new held stand.new.offset }
+    ensures buffer { result ≡ None → stand.new.passed - stand.new.start ≤ length buffer.new }
+    ensures stays { IfSome result (λ _. (stand.new ≡ stand.old) × (buffer.new ≡ buffer.old)) }
     ensures unstopped { IfSome result (λ answer. is_stopped answer ≡ false) }
 
     // The read that a byte is missing for requests more than the bytes that arrived, and more than the records before it.
@@ -40,34 +40,34 @@ pub fn read_on<R: Records>(
 
     // For each list of bytes that may have arrived before:
     ensures goes_on { result ≡ None → (first : ℕ) (whole : List ℕ → Reads R.Answer) (front : List ℕ)
-        → Stands first (R.said records.old) (R.keeps records.old) stand.old room.old whole front
-        → Stands first (R.said records.old) (R.keeps records.new) stand.new room.new whole (front ++ chunk.now) }
+        → Stands first (R.said records.old) (R.keeps records.old) stand.old buffer.old whole front
+        → Stands first (R.said records.old) (R.keeps records.new) stand.new buffer.new whole (front ++ chunk.now) }
     ensures says { (first : ℕ) (whole : List ℕ → Reads R.Answer) (front : List ℕ)
-        → Stands first (R.said records.old) (R.keeps records.old) stand.old room.old whole front
+        → Stands first (R.said records.old) (R.keeps records.old) stand.old buffer.old whole front
         → IfSome result (Says (front ++ chunk.now) stand.old.told whole) }
     ensures complete { result ≡ None → (first : ℕ) (whole : List ℕ → Reads R.Answer) (front : List ℕ)
-        → Stands first (R.said records.old) (R.keeps records.old) stand.old room.old whole front
+        → Stands first (R.said records.old) (R.keeps records.old) stand.old buffer.old whole front
         → (d : List ℕ) → Begins (front ++ chunk.now) stand.old.told d → length d ≡ stand.old.told
         → AllBelow (length front + length chunk.now) (whole d).marks → ⊥ }
 
     // The result depends on a byte that has not arrived. It is in the next record, and the read that missed a byte requests it.
     ensures marked { result ≡ None → (first : ℕ) (whole : List ℕ → Reads R.Answer) (front : List ℕ)
-        → Stands first (R.said records.old) (R.keeps records.old) stand.old room.old whole front
+        → Stands first (R.said records.old) (R.keeps records.old) stand.old buffer.old whole front
         → (d : List ℕ) → Begins (front ++ chunk.now) stand.old.told d → length d ≡ stand.old.told
-        → SomeBetween (max stand.new.passed stand.new.start) (min stand.new.end (stand.new.start + (length room.old + 1))) (whole d).marks }
+        → SomeBetween (max stand.new.passed stand.new.start) (min stand.new.end (stand.new.start + (length buffer.old + 1))) (whole d).marks }
 {
     let passed = stand.passed + chunk.len() as u64;
     let start = stand.start.min(passed);
     let count = stand.passed.saturating_sub(stand.start) as usize;
     let unread = bytes_behind(chunk, stand.start.saturating_sub(stand.passed));
-    let mut source = StreamSource::new(start, &room[..count], unread, stand.told);
-    let mut place = stand.place;
-    let found = walk_on(records, &mut place, &mut source);
+    let mut source = StreamSource::new(start, &buffer[..count], unread, stand.told);
+    let mut offset = stand.offset;
+    let found = walk_on(records, &mut offset, &mut source);
     if is_faulted(&found) {
         stand.end = source.end();
-        keep_behind(room, count, unread, place.saturating_sub(start));
-        stand.start = place;
-        stand.place = place;
+        keep_behind(buffer, count, unread, offset.saturating_sub(start));
+        stand.start = offset;
+        stand.offset = offset;
         stand.passed = passed;
         return None;
     }

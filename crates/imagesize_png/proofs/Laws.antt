@@ -39,8 +39,8 @@ sides_plain true = search rules
 sides_plain false = tt
 
 -- the signature is 8 bytes, and the sides are 8 more
-pub png_laws : (place : ℕ) → FixedLaws 8 24 (png place)
-png_laws place = record {
+pub png_laws : (offset : ℕ) → FixedLaws 8 24 (png offset)
+png_laws offset = record {
   fits = omega arith;
   few = (omega arith, λ head. sides_few (is_png head));
   plain =
@@ -48,35 +48,35 @@ png_laws place = record {
 }
 
 -- the size is read from at most these bytes, and sees the input by them alone
-pub png_within : (d : List ℕ) (place : ℕ) → total (png_of d place).marks ≤ 16
-png_within d place = at_most d 16 (png place) (png_laws place).few
+pub png_within : (d : List ℕ) (offset : ℕ) → total (png_of d offset).marks ≤ 16
+png_within d offset = at_most d 16 (png offset) (png_laws offset).few
 
-pub png_local : (place : ℕ) → IsLocal false (λ d. png_reads d place)
-png_local place = local_layout (png place) (without_texts false 16 (png place) (png_laws place).few)
+pub png_local : (offset : ℕ) → IsLocal false (λ d. png_reads d offset)
+png_local offset = local_layout (png offset) (without_texts false 16 (png offset) (png_laws offset).few)
 
 -- a size stays, whatever bytes follow
-pub png_lasts : (d : List ℕ) (place : ℕ) (r : Result ImageSize ImageError) → r ≡ (png_of d place).answer
-    → IfOk r (λ size. (x : List ℕ) → (png_of (d ++ x) place).answer ≡ Ok size)
-png_lasts d place (Ok size) is = λ x.
-    ap stated (more_answer d x (png place) size (png_laws place).plain
-    (stated_ok (png_reads d place).answer size (sym is)))
-png_lasts d place (Err e) is = tt
+pub png_lasts : (d : List ℕ) (offset : ℕ) (r : Result ImageSize ImageError) → r ≡ (png_of d offset).answer
+    → IfOk r (λ size. (x : List ℕ) → (png_of (d ++ x) offset).answer ≡ Ok size)
+png_lasts d offset (Ok size) is = λ x.
+    ap stated (more_answer d x (png offset) size (png_laws offset).plain
+    (stated_ok (png_reads d offset).answer size (sym is)))
+png_lasts d offset (Err e) is = tt
 
 -- a reading is refused for the end of the input alone
-bytes_end : (d : List ℕ) (place k : ℕ) (e : Halt) → bytes_at d place k ≡ Err e → e ≡ halt.Ended
+bytes_end : (d : List ℕ) (offset k : ℕ) (e : Halt) → bytes_at d offset k ≡ Err e → e ≡ halt.Ended
 unfolding bytes_at
-bytes_end d place k e is = by_test (leb k (length d - place)) is where
-  by_test : (test : Bool) → ◌≡◌ {A = Result (List ℕ) Halt} (cond test (Ok (part d place k)) (Err halt.Ended)) (Err e)
+bytes_end d offset k e is = by_test (leb k (length d - offset)) is where
+  by_test : (test : Bool) → ◌≡◌ {A = Result (List ℕ) Halt} (cond test (Ok (part d offset k)) (Err halt.Ended)) (Err e)
       → e ≡ halt.Ended
   by_test true is = absurd cc
   by_test false is = cc
 
-number_end : (d : List ℕ) (place k : ℕ) (e : Halt) → number_at d Big place k ≡ Err e → e ≡ halt.Ended
+number_end : (d : List ℕ) (offset k : ℕ) (e : Halt) → number_at d Big offset k ≡ Err e → e ≡ halt.Ended
 unfolding number_at
-number_end d place k e is = by_bytes (bytes_at d place k) refl is where
-  by_bytes : (r : Result (List ℕ) Halt) → bytes_at d place k ≡ r → map_answer (number Big) r ≡ Err e → e ≡ halt.Ended
+number_end d offset k e is = by_bytes (bytes_at d offset k) refl is where
+  by_bytes : (r : Result (List ℕ) Halt) → bytes_at d offset k ≡ r → map_answer (number Big) r ≡ Err e → e ≡ halt.Ended
   by_bytes (Ok bs) same is = absurd cc
-  by_bytes (Err f) same is = let one : f ≡ e = cc in sym one ∙ bytes_end d place k f same
+  by_bytes (Err f) same is = let one : f ≡ e = cc in sym one ∙ bytes_end d offset k f same
 
 -- and so are the sides
 sides_end : (d : List ℕ) (e : Halt) → (layout_reads d png_sides).answer ≡ Err e → e ≡ halt.Ended
@@ -103,19 +103,19 @@ no_png d x true is = let no : halt.NotSupported ≡ halt.Ended = sides_end d hal
 no_png d x false is = refl
 
 -- what is no PNG stays none
-refused_lasts : (d x : List ℕ) (place : ℕ) → (png_reads d place).answer ≡ Err halt.NotSupported
-    → (png_reads (d ++ x) place).answer ≡ Err halt.NotSupported
-refused_lasts d x place is = by_head (bytes_at d place 8) refl is where
-  by_head : (r : Result (List ℕ) Halt) → bytes_at d place 8 ≡ r
-      → (go_on (span_of d place 8) r (λ head. layout_reads d (png_by (is_png head)))).answer ≡ Err halt.NotSupported
-      → (png_reads (d ++ x) place).answer ≡ Err halt.NotSupported
+refused_lasts : (d x : List ℕ) (offset : ℕ) → (png_reads d offset).answer ≡ Err halt.NotSupported
+    → (png_reads (d ++ x) offset).answer ≡ Err halt.NotSupported
+refused_lasts d x offset is = by_head (bytes_at d offset 8) refl is where
+  by_head : (r : Result (List ℕ) Halt) → bytes_at d offset 8 ≡ r
+      → (go_on (span_of d offset 8) r (λ head. layout_reads d (png_by (is_png head)))).answer ≡ Err halt.NotSupported
+      → (png_reads (d ++ x) offset).answer ≡ Err halt.NotSupported
   by_head (Ok head) same is =
-      ap (λ r. (go_on (span_of (d ++ x) place 8) r (λ head. layout_reads (d ++ x) (png_by (is_png head)))).answer)
-      (bytes_more d x place 8 (bytes_ok d head place 8 same) ∙ same)
+      ap (λ r. (go_on (span_of (d ++ x) offset 8) r (λ head. layout_reads (d ++ x) (png_by (is_png head)))).answer)
+      (bytes_more d x offset 8 (bytes_ok d head offset 8 same) ∙ same)
       ∙ no_png d x (is_png head) is
   by_head (Err e) same is =
       let one : e ≡ halt.NotSupported = cc in let no : halt.NotSupported ≡ halt.Ended = sym one
-      ∙ bytes_end d place 8 e same in absurd cc
+      ∙ bytes_end d offset 8 e same in absurd cc
 
 -- one halt alone is this error
 not_supported : (h : Halt) → error_of h ≡ NotSupported → h ≡ halt.NotSupported
@@ -126,24 +126,24 @@ refused_as : (r : Result ImageSize Halt) → stated r ≡ Err NotSupported → r
 refused_as (Ok size) is = absurd cc
 refused_as (Err h) is = let same : error_of h ≡ NotSupported = cc in ap Err (not_supported h same)
 
-pub png_final : (d : List ℕ) (place : ℕ) (r : Result ImageSize ImageError) → r ≡ (png_of d place).answer
-    → IfErr r (λ e. e ≡ NotSupported → (x : List ℕ) → (png_of (d ++ x) place).answer ≡ Err NotSupported)
-png_final d place (Ok size) is = tt
-png_final d place (Err e) is = λ none x.
-    ap stated (refused_lasts d x place (refused_as (png_reads d place).answer (sym is ∙ ap Err none)))
+pub png_final : (d : List ℕ) (offset : ℕ) (r : Result ImageSize ImageError) → r ≡ (png_of d offset).answer
+    → IfErr r (λ e. e ≡ NotSupported → (x : List ℕ) → (png_of (d ++ x) offset).answer ≡ Err NotSupported)
+png_final d offset (Ok size) is = tt
+png_final d offset (Err e) is = λ none x.
+    ap stated (refused_lasts d x offset (refused_as (png_reads d offset).answer (sym is ∙ ap Err none)))
 
 -- an honest budget is enough for it
 bounded_png : IsBounded png_reads
-bounded_png d place = omega (arith, png_within d place)
+bounded_png d offset = omega (arith, png_within d offset)
 
 -- the size that a reader was found to have
 pub png_answers : (telling mid : Option Telling) (count : Option ℕ) (home : ℕ) (opened : Opened) (a b : State)
     (r : Result ImageSize Halt) → a ≡ start_state mid count home opened.told → is_some b.failed ≡ true
     → Opens telling mid (Ok opened)
-    → Runs a b r (png_reads a.held.input opened.place) → Answers telling png_of (with_error b.failure b.frame.budget r)
+    → Runs a b r (png_reads a.held.input opened.offset) → Answers telling png_of (with_error b.failure b.frame.budget r)
 png_answers telling mid count home opened a b r start told opens h =
     opened_answers telling mid count home opened b r png_reads bounded_png told opens
-    (subst (λ s. Runs s b r (png_reads s.held.input opened.place)) start h)
+    (subst (λ s. Runs s b r (png_reads s.held.input opened.offset)) start h)
 
 both_are : (p q : ℕ × ℕ) → p ≡ q → (p.0 ≡ q.0) × (p.1 ≡ q.1)
 both_are p q same = (ap (λ (x : ℕ × ℕ). x.0) same, ap (λ (x : ℕ × ℕ). x.1) same)
@@ -161,9 +161,9 @@ rises (Some c) (Some d) taken k same few =
 -- and how far a count rose
 pub png_counts : (telling mid : Option Telling) (count after : Option ℕ) (home : ℕ) (opened : Opened) (a b : State)
     (r : Result ImageSize Halt) → a ≡ start_state mid count home opened.told → is_some b.failed ≡ true → Opens telling mid (Ok opened)
-    → Runs a b r (png_reads a.held.input opened.place) → since_of b.frame.backing ≡ drift after b.taken → CountsWithin telling count after png_of
+    → Runs a b r (png_reads a.held.input opened.offset) → since_of b.frame.backing ≡ drift after b.taken → CountsWithin telling count after png_of
 png_counts None mid count after home opened a b r start told opens h counted = tt
 png_counts (Some t) mid count after home opened a b r start told opens h counted = λ honest.
     let takes = opened_takes (Some t) mid count home opened b r png_reads told opens
-    (subst (λ s. Runs s b r (png_reads s.held.input opened.place)) start h) honest in
+    (subst (λ s. Runs s b r (png_reads s.held.input opened.offset)) start h) honest in
     rises count after b.taken _ (sym counted ∙ ap (λ f. since_of f.backing) h.frame ∙ ap (λ s. since_of s.frame.backing) start) takes.most

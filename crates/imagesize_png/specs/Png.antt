@@ -27,10 +27,10 @@ png_by is = if is then png_sides else refuse NotSupported
 -- The size of an input with its signature at an offset. The offsets of the width and the height count from the first
 -- byte of the input.
 abbrev pub png : ℕ → Layout ImageSize
-png place = bytes place 8 (λ head. png_by (is_png head))
+png offset = bytes offset 8 (λ head. png_by (is_png head))
 
 abbrev pub png_reads : List ℕ → ℕ → Reads ImageSize
-png_reads d place = layout_reads d (png place)
+png_reads d offset = layout_reads d (png offset)
 
 abbrev pub png_of : List ℕ → ℕ → Outcome ImageSize
-png_of d place = outcome_of (png_reads d place)
+png_of d offset = outcome_of (png_reads d offset)

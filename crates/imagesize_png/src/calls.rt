@@ -33,11 +33,11 @@ pub fn blob_size(data: &[u8]) -> ImageResult<ImageSize>
     ensures value { result ≡ (png_of «data».now 0).answer }
 
     // Another input of this length that agrees on the spans `marks` has the same size and the same spans, at every offset.
-    ensures local { (place : ℕ) (e : List ℕ) → Agrees «data».now e (png_of «data».now place).marks
-        → png_of e place ≡ png_of «data».now place }
+    ensures local { (offset : ℕ) (e : List ℕ) → Agrees «data».now e (png_of «data».now offset).marks
+        → png_of e offset ≡ png_of «data».now offset }
 
     // Only the signature, the width and the height are read.
-    ensures few { (place : ℕ) → total (png_of «data».now place).marks ≤ 16 }
+    ensures few { (offset : ℕ) → total (png_of «data».now offset).marks ≤ 16 }
 
     // Appended bytes change no size.
     ensures lasts { IfOk result (λ size. (x : List ℕ) → (png_of («data».now ++ x) 0).answer ≡ Ok size) }
@@ -80,7 +80,7 @@ pub fn reader_size<R: Told>(reader: &mut R) -> ImageResult<ImageSize>
     ensures fault { IfErr result (λ e. is_fault e ≡ true → IsLast (R.failure reader.new) e) }
     ensures leaves { Leaves (R.telling reader.old) (R.telling reader.new) }
 {
-    let opened = open(reader, Origin::Place)?;
+    let opened = open(reader, Origin::Offset)?;
     size_opened(reader, opened)
 }
 
@@ -97,6 +97,6 @@ fn size_opened<R: Told>(reader: &mut R, opened: Opened) -> ImageResult<ImageSize
         → Leaves telling (R.telling reader.new) }
 {
     let mut source = ReaderSource::new(reader, opened.told);
-    let found = size(&mut source, opened.place);
+    let found = size(&mut source, opened.offset);
     with_error(found, &source)
 }

@@ -29,11 +29,11 @@ pub fn is_png(header: &[u8]) -> bool
 /// The width and the height of an input with the signature at an offset, or the error.
 #[inline(always)]
 #[tactic(auto, using(imagesize_source::proofs::Runs::steps))]
-pub fn size<S: Source>(source: &mut S, place: u64) -> Result<ImageSize, Halt>
-    ensures { Follows (S.state source.old) (S.state source.new) result (png place) }
+pub fn size<S: Source>(source: &mut S, offset: u64) -> Result<ImageSize, Halt>
+    ensures { Follows (S.state source.old) (S.state source.new) result (png offset) }
 {
     let mut head = [0u8; 8];
-    read_exact_at(source, place, &mut head)?;
+    read_exact_at(source, offset, &mut head)?;
     if !is_png(&head) {
         return Err(Halt::NotSupported);
     }

@@ -66,9 +66,9 @@ began marks (Ok x) f _ = refl
 began marks (Err e) f ok = ok
 
 -- where there is a size there is a type
-pub sized_kind : (d : List ℕ) (place : ℕ) → IsOk (meaning d place).answer → IsOk (kind_of d place).answer
+pub sized_kind : (d : List ℕ) (offset : ℕ) → IsOk (meaning d offset).answer → IsOk (kind_of d offset).answer
 unfolding meaning_reads
-sized_kind d place ok = began (kind_reads d place).marks (kind_reads d place).answer (λ found. size_reads found d) ok
+sized_kind d offset ok = began (kind_reads d offset).marks (kind_reads d offset).answer (λ found. size_reads found d) ok
 
 -- the line of a refusal that has a text
 refused_text : (name : List ℕ) (text : Option (List ℕ)) (old new : Option (List ℕ)) → IsSome text →
@@ -94,7 +94,7 @@ found_line : (t : Telling) (name : List ℕ) (probed : Probed) (old new : Option
 found_line t name probed old new probes wrote going =
     let same : (over_reader t meaning).answer ≡ probed.answer = probes.answer.answer going in
     let typed : IsOk (over_reader t meaning).answer
-    → IsOk (over_reader t kind_of).answer = sized_kind t.bytes t.place in
+    → IsOk (over_reader t kind_of).answer = sized_kind t.bytes t.offset in
     let kind : probed.kind ≡ result_ok (over_reader t kind_of).answer = probes.whole going in
     rw same (answer_text name probed.answer (over_reader t kind_of).answer old new (rw same at typed) going
     (rw kind at wrote))

@@ -21,7 +21,7 @@ Files = List ℕ → Result (List ℕ) ImageError
 pub record TellsAll (d : List ℕ) (t : Telling) : Type 0 where
   pub honest : IsHonest t
   pub bytes : t.bytes ≡ d
-  pub place : t.place ≡ 0
+  pub offset : t.offset ≡ 0
   pub faultless : t.can_fail ≡ false
 
 -- what opening a file returns

@@ -23,9 +23,9 @@ struct Counted<'a> {
 }
 
 impl Read for Counted<'_> {
-    fn read(&mut self, room: &mut [u8]) -> io::Result<usize> {
+    fn read(&mut self, buffer: &mut [u8]) -> io::Result<usize> {
         self.made.reads = self.made.reads.saturating_add(1);
-        self.inner.read(room)
+        self.inner.read(buffer)
     }
 }
 
@@ -40,11 +40,11 @@ impl Seek for Counted<'_> {
 fn walk<R: Told>(rt: &impl Abort, reader: &mut R, length: u64, step: u64) -> Result<(), Fail> {
     assert_eq!(rt; reader.seek_told(SeekFrom::Current(0))?, 0);
     assert_eq!(rt; reader.seek_told(SeekFrom::End(0))?, length);
-    let mut place = 0u64;
+    let mut offset = 0u64;
     for _ in 0..100u64 {
-        assert_eq!(rt; reader.seek_told(SeekFrom::Start(place))?, place);
+        assert_eq!(rt; reader.seek_told(SeekFrom::Start(offset))?, offset);
         assert!(rt; matches!(reader.read_told(&mut [0u8; 4]), Ok(4)));
-        place = place.saturating_add(step);
+        offset = offset.saturating_add(step);
     }
     Ok(())
 }
@@ -123,16 +123,16 @@ fn the_first_bytes_are_given_again_from_far_behind(rt: HostRuntime) -> Result<()
     assert!(rt; matches!(reader.read_told(&mut [0u8; 12]), Ok(12)));
     assert_eq!(rt; reader.seek_told(SeekFrom::Start(19_982))?, 19_982);
     assert!(rt; matches!(reader.read_told(&mut [0u8; 18]), Ok(18)));
-    let mut room = [0u8; 2];
+    let mut buffer = [0u8; 2];
     assert_eq!(rt; reader.seek_told(SeekFrom::Start(12))?, 12);
-    assert!(rt; matches!(reader.read_told(&mut room), Ok(2)));
-    assert_eq!(rt; room, [7, 1]);
+    assert!(rt; matches!(reader.read_told(&mut buffer), Ok(2)));
+    assert_eq!(rt; buffer, [7, 1]);
     assert_eq!(rt; reader.seek_told(SeekFrom::Current(0))?, 14);
     assert_eq!(rt; reader.seek_told(SeekFrom::Start(31))?, 31);
-    assert!(rt; matches!(reader.read_told(&mut room), Ok(1)));
-    assert_eq!(rt; room, [2, 1]);
-    assert!(rt; matches!(reader.read_told(&mut room), Ok(2)));
-    assert_eq!(rt; room, [3, 7]);
+    assert!(rt; matches!(reader.read_told(&mut buffer), Ok(1)));
+    assert_eq!(rt; buffer, [2, 1]);
+    assert!(rt; matches!(reader.read_told(&mut buffer), Ok(2)));
+    assert_eq!(rt; buffer, [3, 7]);
     drop(reader);
     // The second seek is to offset 32, after the bytes that were kept.
     assert_eq!(rt; made, Made { reads: 3, seeks: 2 });
@@ -146,19 +146,19 @@ fn a_reader_of_known_length_reads_nothing_at_its_end(rt: HostRuntime) -> Result<
         BufReader::new(rt.alloc(), Cursor::new(bytes.as_slice()))?,
         Some(3),
     );
-    let mut room = [0u8; 2];
+    let mut buffer = [0u8; 2];
     assert_eq!(rt; reader.seek_told(SeekFrom::End(0))?, 3);
     assert_eq!(rt; reader.seek_told(SeekFrom::Current(0))?, 3);
-    assert!(rt; matches!(reader.read_told(&mut room), Ok(0)));
+    assert!(rt; matches!(reader.read_told(&mut buffer), Ok(0)));
     assert_eq!(rt; reader.seek_told(SeekFrom::End(0))?, 3);
     assert_eq!(rt; reader.seek_told(SeekFrom::Current(-1))?, 2);
-    assert!(rt; matches!(reader.read_told(&mut room), Ok(1)));
-    assert_eq!(rt; room, [3, 0]);
+    assert!(rt; matches!(reader.read_told(&mut buffer), Ok(1)));
+    assert_eq!(rt; buffer, [3, 0]);
     Ok(())
 }
 
 #[test]
-fn a_walk_over_blocks_makes_two_calls_a_place(rt: HostRuntime) -> Result<(), Fail> {
+fn a_walk_over_blocks_makes_two_calls_a_offset(rt: HostRuntime) -> Result<(), Fail> {
     let made = made_on_walk(&rt, 1_000_000, 10_000)?;
     assert_eq!(rt;
         made,
@@ -171,7 +171,7 @@ fn a_walk_over_blocks_makes_two_calls_a_place(rt: HostRuntime) -> Result<(), Fai
 }
 
 #[test]
-fn a_place_behind_in_the_block_is_reached_with_no_call(rt: HostRuntime) -> Result<(), Fail> {
+fn a_offset_behind_in_the_block_is_reached_with_no_call(rt: HostRuntime) -> Result<(), Fail> {
     let bytes = [1u8, 2, 3, 4, 5, 6, 7, 8];
     let mut made = NONE;
     let counted = Counted {
@@ -180,11 +180,11 @@ fn a_place_behind_in_the_block_is_reached_with_no_call(rt: HostRuntime) -> Resul
     };
     let mut reader = KeptReader::new(BufReader::new(rt.alloc(), counted)?);
     assert_eq!(rt; reader.seek_told(SeekFrom::Start(2))?, 2);
-    let mut room = [0u8; 4];
-    assert!(rt; matches!(reader.read_told(&mut room), Ok(4)));
+    let mut buffer = [0u8; 4];
+    assert!(rt; matches!(reader.read_told(&mut buffer), Ok(4)));
     assert_eq!(rt; reader.seek_told(SeekFrom::Start(3))?, 3);
-    assert!(rt; matches!(reader.read_told(&mut room), Ok(4)));
-    assert_eq!(rt; room, [4, 5, 6, 7]);
+    assert!(rt; matches!(reader.read_told(&mut buffer), Ok(4)));
+    assert_eq!(rt; buffer, [4, 5, 6, 7]);
     assert_eq!(rt; reader.seek_told(SeekFrom::Current(0))?, 7);
     drop(reader);
     assert_eq!(rt; made, Made { reads: 1, seeks: 1 });

@@ -40,9 +40,9 @@ impl<R: Told> Told for Cutting<'_, R> {
 
     ghost failure = { λ r. R.failure r.reader };
 
-    fn read_told(&mut self, room: &mut [u8]) -> Result<usize, Stop>
-        ensures bound { IfOk result (λ n. n ≤ length room.new) }
-        ensures told { ReadTells (R.telling self.old.reader) (R.telling self.new.reader) room.new result }
+    fn read_told(&mut self, buffer: &mut [u8]) -> Result<usize, Stop>
+        ensures bound { IfOk result (λ n. n ≤ length buffer.new) }
+        ensures told { ReadTells (R.telling self.old.reader) (R.telling self.new.reader) buffer.new result }
         ensures counts { R.count self.new.reader ≡ count_after (R.count self.old.reader) result }
         ensures fails { R.failure self.new.reader ≡ failure_after_read (R.failure self.old.reader) result }
         ensures cuts { (most : ℕ) → slice_get self.old.lengths.now self.old.next ≡ Some most → 0 < most
@@ -52,14 +52,14 @@ impl<R: Told> Told for Cutting<'_, R> {
         let most = match self.lengths.get(self.next) {
             Some(length) => {
                 self.next = self.next.saturating_add(1);
-                room.len().min((*length).max(1))
+                buffer.len().min((*length).max(1))
             }
             None => {
                 self.next = 0;
-                room.len().min(1)
+                buffer.len().min(1)
             }
         };
-        self.reader.read_told(&mut room[..most])
+        self.reader.read_told(&mut buffer[..most])
     }
 
     fn seek_told(&mut self, to: SeekFrom) -> io::Result<u64> {
@@ -83,14 +83,14 @@ impl<R: Told> Told for Counting<'_, R> {
 
     ghost failure = { λ _. None };
 
-    fn read_told(&mut self, room: &mut [u8]) -> Result<usize, Stop>
-        ensures bound { IfOk result (λ n. n ≤ length room.new) }
-        ensures told { ReadTells (may_fail (R.telling self.old.reader)) (may_fail (R.telling self.new.reader)) room.new result }
+    fn read_told(&mut self, buffer: &mut [u8]) -> Result<usize, Stop>
+        ensures bound { IfOk result (λ n. n ≤ length buffer.new) }
+        ensures told { ReadTells (may_fail (R.telling self.old.reader)) (may_fail (R.telling self.new.reader)) buffer.new result }
         ensures counts { ◌≡◌ {A = Option ℕ} (Some self.new.count.now) (count_after (Some self.old.count.now) result) }
-        ensures gives { self.old.count.now + length room.old < 2 ^ 64
-            → ReadTells (R.telling self.old.reader) (R.telling self.new.reader) room.new result }
+        ensures gives { self.old.count.now + length buffer.old < 2 ^ 64
+            → ReadTells (R.telling self.old.reader) (R.telling self.new.reader) buffer.new result }
     {
-        let given = self.reader.read_told(room)?;
+        let given = self.reader.read_told(buffer)?;
         match self.count.checked_add(given as u64) {
             Some(count) => {
                 *self.count = count;
@@ -125,15 +125,15 @@ impl<R: Told> Told for Calls<'_, R> {
 
     ghost failure = { λ r. R.failure r.reader };
 
-    fn read_told(&mut self, room: &mut [u8]) -> Result<usize, Stop>
-        ensures bound { IfOk result (λ n. n ≤ length room.new) }
-        ensures told { ReadTells (R.telling self.old.reader) (R.telling self.new.reader) room.new result }
+    fn read_told(&mut self, buffer: &mut [u8]) -> Result<usize, Stop>
+        ensures bound { IfOk result (λ n. n ≤ length buffer.new) }
+        ensures told { ReadTells (R.telling self.old.reader) (R.telling self.new.reader) buffer.new result }
         ensures counts { R.count self.new.reader ≡ count_after (R.count self.old.reader) result }
         ensures fails { R.failure self.new.reader ≡ failure_after_read (R.failure self.old.reader) result }
         ensures made { self.new.made.now ≡ (min (self.old.made.now.0 + 1) u32.MAX, self.old.made.now.1) }
     {
         self.made.0 = self.made.0.saturating_add(1);
-        self.reader.read_told(room)
+        self.reader.read_told(buffer)
     }
 
     fn seek_told(&mut self, to: SeekFrom) -> io::Result<u64>
@@ -165,10 +165,10 @@ impl<R: Told> Told for Interrupted<R> {
 
     ghost failure = { λ _. None };
 
-    fn read_told(&mut self, room: &mut [u8]) -> Result<usize, Stop>
-        ensures bound { IfOk result (λ n. n ≤ length room.new) }
+    fn read_told(&mut self, buffer: &mut [u8]) -> Result<usize, Stop>
+        ensures bound { IfOk result (λ n. n ≤ length buffer.new) }
         ensures told { ReadTells (interrupted_more self.old.left (R.telling self.old.reader))
-            (interrupted_more self.new.left (R.telling self.new.reader)) room.new result }
+            (interrupted_more self.new.left (R.telling self.new.reader)) buffer.new result }
         ensures counts { R.count self.new.reader ≡ count_after (R.count self.old.reader) result }
         ensures interrupts { 0 < self.old.left → result ≡ Err (Stop.Interrupted self.old.error) }
     {
@@ -176,7 +176,7 @@ impl<R: Told> Told for Interrupted<R> {
             self.left -= 1;
             return Err(Stop::Interrupted(self.error));
         }
-        self.reader.read_told(room)
+        self.reader.read_told(buffer)
     }
 
     fn seek_told(&mut self, to: SeekFrom) -> io::Result<u64> {
@@ -200,12 +200,12 @@ impl Told for Halting<'_> {
 
     ghost failure = { λ _. None };
 
-    fn read_told(&mut self, room: &mut [u8]) -> Result<usize, Stop>
-        ensures bound { IfOk result (λ n. n ≤ length room.new) }
+    fn read_told(&mut self, buffer: &mut [u8]) -> Result<usize, Stop>
+        ensures bound { IfOk result (λ n. n ≤ length buffer.new) }
         ensures told { ReadTells
             (halting_telling (cursor_inner self.old.reader.reader).now (cursor_position self.old.reader.reader) self.old.reader.left)
             (halting_telling (cursor_inner self.new.reader.reader).now (cursor_position self.new.reader.reader) self.new.reader.left)
-            room.new result }
+            buffer.new result }
         ensures counts { ◌≡◌ {A = Option ℕ} None (count_after None result) }
         ensures interrupts { 0 < self.old.reader.left → self.old.halts ≡ true → result ≡ Err (Stop.Interrupted self.old.reader.error) }
         ensures turns { 0 < self.old.reader.left → self.new.halts ≡ not self.old.halts }
@@ -213,9 +213,9 @@ impl Told for Halting<'_> {
         let halts = self.halts;
         self.halts = !halts;
         if halts {
-            return self.reader.read_told(room);
+            return self.reader.read_told(buffer);
         }
-        self.reader.reader.read_told(room)
+        self.reader.reader.read_told(buffer)
     }
 
     fn seek_told(&mut self, to: SeekFrom) -> io::Result<u64> {
@@ -263,18 +263,18 @@ impl<R: Told> Told for Failing<R> {
 
     ghost failure = { λ r. Some r.last };
 
-    fn read_told(&mut self, room: &mut [u8]) -> Result<usize, Stop>
-        ensures bound { IfOk result (λ n. n ≤ length room.new) }
-        ensures told { ReadTells (may_fail (R.telling self.old.reader)) (may_fail (R.telling self.new.reader)) room.new result }
+    fn read_told(&mut self, buffer: &mut [u8]) -> Result<usize, Stop>
+        ensures bound { IfOk result (λ n. n ≤ length buffer.new) }
+        ensures told { ReadTells (may_fail (R.telling self.old.reader)) (may_fail (R.telling self.new.reader)) buffer.new result }
         ensures counts { R.count self.new.reader ≡ count_after (R.count self.old.reader) result }
         ensures last { ◌≡◌ {A = Option (Option Error)} (Some self.new.last) (failure_after_read (Some self.old.last) result) }
         ensures fails { self.old.left ≡ Some 0 → result ≡ Err (Stop.Fault self.old.error) }
         ensures gives { failure_at self.old.left self.old.error ≡ Ok tt
-            → ReadTells (R.telling self.old.reader) (R.telling self.new.reader) room.new result }
+            → ReadTells (R.telling self.old.reader) (R.telling self.new.reader) buffer.new result }
         ensures left { self.new.left ≡ left_after self.old.left }
     {
         let answer = match self.step() {
-            Ok(()) => self.reader.read_told(room),
+            Ok(()) => self.reader.read_told(buffer),
             Err(error) => Err(Stop::Fault(error)),
         };
         if let Err(Stop::Interrupted(error) | Stop::Fault(error)) = &answer {
@@ -321,24 +321,24 @@ impl<R: Told> Told for Claiming<R> {
 
     ghost failure = { λ r. R.failure r.reader };
 
-    fn read_told(&mut self, room: &mut [u8]) -> Result<usize, Stop>
-        ensures bound { IfOk result (λ n. n ≤ length room.new) }
-        ensures told { ReadTells None None room.new result }
+    fn read_told(&mut self, buffer: &mut [u8]) -> Result<usize, Stop>
+        ensures bound { IfOk result (λ n. n ≤ length buffer.new) }
+        ensures told { ReadTells None None buffer.new result }
         ensures counts { R.count self.new.reader ≡ count_after (R.count self.old.reader) result }
         ensures fails { R.failure self.new.reader ≡ failure_after_read (R.failure self.old.reader) result }
-        ensures gives { ReadTells (R.telling self.old.reader) (R.telling self.new.reader) room.new result }
+        ensures gives { ReadTells (R.telling self.old.reader) (R.telling self.new.reader) buffer.new result }
     {
-        self.reader.read_told(room)
+        self.reader.read_told(buffer)
     }
 
     fn seek_told(&mut self, to: SeekFrom) -> io::Result<u64>
         ensures told { SeekTells None None to result }
         ensures counts { R.count self.new.reader ≡ R.count self.old.reader }
         ensures fails { R.failure self.new.reader ≡ failure_after (R.failure self.old.reader) result }
-        ensures claims { to ≡ SeekFrom.End (pos zero) → IfOk result (λ place. place ≡ self.old.told) }
-        ensures stands { self.old.goes_there ≡ true → to ≡ SeekFrom.End (pos zero) → IfOk result (λ place.
+        ensures claims { to ≡ SeekFrom.End (pos zero) → IfOk result (λ offset. offset ≡ self.old.told) }
+        ensures stands { self.old.goes_there ≡ true → to ≡ SeekFrom.End (pos zero) → IfOk result (λ offset.
             StandsAt (R.telling self.old.reader) (R.telling self.new.reader) self.old.told) }
-        ensures stands_elsewhere { self.old.goes_there ≡ false → to ≡ SeekFrom.End (pos zero) → IfOk result (λ place.
+        ensures stands_elsewhere { self.old.goes_there ≡ false → to ≡ SeekFrom.End (pos zero) → IfOk result (λ offset.
             StandsAtEnd (R.telling self.old.reader) (R.telling self.new.reader)) }
         ensures ends { self.old.goes_there ≡ true → to ≡ SeekFrom.End (pos zero) → IfErr result (λ e.
             SeekTells (R.telling self.old.reader) (R.telling self.new.reader) (SeekFrom.Start self.old.told) (Err e)) }
@@ -350,10 +350,10 @@ impl<R: Told> Told for Claiming<R> {
             SeekFrom::End(0) if self.goes_there => SeekFrom::Start(self.told),
             _ => to,
         };
-        let place = self.reader.seek_told(end)?;
+        let offset = self.reader.seek_told(end)?;
         match to {
             SeekFrom::End(0) => Ok(self.told),
-            _ => Ok(place),
+            _ => Ok(offset),
         }
     }
 }
@@ -366,21 +366,21 @@ pub struct Endless<'a> {
     /// The bytes after the head, which repeat; zeros if there are none.
     pub part: &'a [u8],
     /// Its offset.
-    pub place: u64,
+    pub offset: u64,
 }
 
 impl Endless<'_> {
     // The byte at an offset.
-    fn byte_at(&self, place: u64) -> u8
-        ensures head { place < length self.now.head.now → slice_get self.now.head.now place ≡ Some result }
-        ensures part { length self.now.head.now ≤ place → 0 < length self.now.part.now →
-            slice_get self.now.part.now ((place - length self.now.head.now) % length self.now.part.now) ≡ Some result }
+    fn byte_at(&self, offset: u64) -> u8
+        ensures head { offset < length self.now.head.now → slice_get self.now.head.now offset ≡ Some result }
+        ensures part { length self.now.head.now ≤ offset → 0 < length self.now.part.now →
+            slice_get self.now.part.now ((offset - length self.now.head.now) % length self.now.part.now) ≡ Some result }
     {
         let head = self.head.len() as u64;
-        if place < head {
-            return self.head[place as usize];
+        if offset < head {
+            return self.head[offset as usize];
         }
-        match (place - head).checked_rem(self.part.len() as u64) {
+        match (offset - head).checked_rem(self.part.len() as u64) {
             Some(index) => self.part[index as usize],
             None => 0,
         }
@@ -394,27 +394,27 @@ impl Told for Endless<'_> {
 
     ghost failure = { λ _. None };
 
-    fn read_told(&mut self, room: &mut [u8]) -> Result<usize, Stop>
-        ensures bound { IfOk result (λ n. n ≤ length room.new) }
-        ensures fills { result ≡ Ok (length room.new) }
+    fn read_told(&mut self, buffer: &mut [u8]) -> Result<usize, Stop>
+        ensures bound { IfOk result (λ n. n ≤ length buffer.new) }
+        ensures fills { result ≡ Ok (length buffer.new) }
     {
-        for byte in room.iter_mut() {
-            *byte = self.byte_at(self.place);
-            self.place = self.place.wrapping_add(1);
+        for byte in buffer.iter_mut() {
+            *byte = self.byte_at(self.offset);
+            self.offset = self.offset.wrapping_add(1);
         }
-        Ok(room.len())
+        Ok(buffer.len())
     }
 
     fn seek_told(&mut self, to: SeekFrom) -> io::Result<u64>
-        ensures goes { (place : ℕ) → to ≡ SeekFrom.Start place → (result ≡ Ok place) × (self.new.place ≡ place) }
-        ensures stands { to ≡ SeekFrom.Current (pos zero) → (result ≡ Ok self.old.place) × (self.new.place ≡ self.old.place) }
+        ensures goes { (offset : ℕ) → to ≡ SeekFrom.Start offset → (result ≡ Ok offset) × (self.new.offset ≡ offset) }
+        ensures stands { to ≡ SeekFrom.Current (pos zero) → (result ≡ Ok self.old.offset) × (self.new.offset ≡ self.old.offset) }
     {
         match to {
-            SeekFrom::Start(place) => {
-                self.place = place;
-                Ok(place)
+            SeekFrom::Start(offset) => {
+                self.offset = offset;
+                Ok(offset)
             }
-            SeekFrom::Current(0) => Ok(self.place),
+            SeekFrom::Current(0) => Ok(self.offset),
             _ => Err(io::Error::from(ErrorKind::InvalidInput)),
         }
     }

@@ -12,20 +12,20 @@ use std::test::Fail;
 fn check_text(
     rt: &impl Abort,
     bytes: &[u8],
-    place: u64,
+    offset: u64,
     text: Text,
     most: usize,
     expected: &[u8],
 ) -> Result<u64, Fail> {
     let most = most.min(16);
-    let mut room = [0u8; 16];
-    let count = SliceSource { bytes }.read_text(place, text, &mut room[..most])?;
-    assert_eq!(rt; &room[..count], expected);
+    let mut buffer = [0u8; 16];
+    let count = SliceSource { bytes }.read_text(offset, text, &mut buffer[..most])?;
+    assert_eq!(rt; &buffer[..count], expected);
     let mut reader = Cursor::new(bytes);
     let opened = open(&mut reader, Origin::Start)?;
     let mut source = ReaderSource::new(&mut reader, opened.told);
     let mut other = [0u8; 16];
-    let read = source.read_text(place, text, &mut other[..most])?;
+    let read = source.read_text(offset, text, &mut other[..most])?;
     assert_eq!(rt; &other[..read], expected);
     Ok(source.taken())
 }
@@ -41,7 +41,7 @@ fn a_line_has_its_delimiter(rt: HostRuntime) -> Result<(), Fail> {
 }
 
 #[test]
-fn a_line_ends_where_the_room_or_the_input_does(rt: HostRuntime) -> Result<(), Fail> {
+fn a_line_ends_where_the_buffer_or_the_input_does(rt: HostRuntime) -> Result<(), Fail> {
     assert_eq!(rt; check_text(&rt, b"ab\ncd\n", 3, LINE, 2, b"cd")?, 2);
     assert_eq!(rt; check_text(&rt, b"ab\ncd", 3, LINE, 16, b"cd")?, 2);
     assert_eq!(rt; check_text(&rt, b"ab\ncd", 5, LINE, 16, b"")?, 0);

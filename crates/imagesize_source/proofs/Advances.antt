@@ -11,13 +11,13 @@ use Rattle.imagesize_source.proofs.Runs.{part_is}
 use Rattle.imagesize_source.proofs.Counts.{text_length}
 use Rattle.imagesize_source.proofs.Parts.{part_length}
 
--- whatever its readings answer, each next place that the layout tells has the property
+-- whatever its readings answer, each next offset that the layout tells has the property
 abbrev pub Tells : {C X : Type 0} → (ℕ → Type 0) → Layout (Said C X) → Type 0
 Tells P (done (Decided x)) = Unit {0}
-Tells P (done (Next v place)) = P place
+Tells P (done (Next v offset)) = P offset
 Tells P (refuse e) = Unit {0}
-Tells P (field order place k f) = (v : ℕ) → Tells P (f v)
-Tells P (reading r place f) = (bs : List ℕ) → Tells P (f bs)
+Tells P (field order offset k f) = (v : ℕ) → Tells P (f v)
+Tells P (reading r offset f) = (bs : List ℕ) → Tells P (f bs)
 Tells P (begin_record t) = Tells P t
 
 -- the reading gives some byte, or P
@@ -26,13 +26,13 @@ OrSome (AllOf k) P = 0 < k
 OrSome (PartOf k) P = P
 OrSome (TextOf t k) P = P
 
--- the layout tells no next place unless it has first read a byte at the place or behind it
+-- the layout tells no next offset unless it has first read a byte at the offset or behind it
 abbrev pub Begins : {C X : Type 0} → ℕ → Layout (Said C X) → Type 0
 Begins q (done (Decided x)) = Unit {0}
-Begins q (done (Next v place)) = ⊥
+Begins q (done (Next v offset)) = ⊥
 Begins q (refuse e) = Unit {0}
-Begins q (field order place k f) = (q ≤ place) × (0 < k)
-Begins q (reading r place f) = (q ≤ place) × OrSome r (Tells (λ _. ⊥) (f []))
+Begins q (field order offset k f) = (q ≤ offset) × (0 < k)
+Begins q (reading r offset f) = (q ≤ offset) × OrSome r (Tells (λ _. ⊥) (f []))
 Begins q (begin_record t) = Begins q t
 
 onward_tells : {C X Y : Type 0} (P : Type 0) (spans : List Span) (r : Result Y Halt) (f : Y → Reads (Said C X))
@@ -44,50 +44,50 @@ onward_tells P spans (Err e) f s is each = absurd cc
 pub tells : {C X : Type 0} (P : ℕ → Type 0) (d : List ℕ) (t : Layout (Said C X)) (v : C) (q : ℕ) → Tells P t
     → (layout_reads d t).answer ≡ Ok (Next v q) → P q
 tells P d (done (Decided x)) v q h is = absurd cc
-tells P d (done (Next w place)) v q h is = let same : place ≡ q = cc in subst P same h
+tells P d (done (Next w offset)) v q h is = let same : offset ≡ q = cc in subst P same h
 tells P d (refuse e) v q h is = absurd cc
-tells P d (field order place k f) v q h is =
-    onward_tells (P q) (span_of d place k) (number_at d order place k) (λ n. layout_reads d (f n))
+tells P d (field order offset k f) v q h is =
+    onward_tells (P q) (span_of d offset k) (number_at d order offset k) (λ n. layout_reads d (f n))
     (Next v q) is (λ n _ got. tells P d (f n) v q (h n) got)
-tells P d (reading r place f) v q h is =
-    onward_tells (P q) (read_of d r place).marks (read_of d r place).answer (λ bs. layout_reads d (f bs))
+tells P d (reading r offset f) v q h is =
+    onward_tells (P q) (read_of d r offset).marks (read_of d r offset).answer (λ bs. layout_reads d (f bs))
     (Next v q) is (λ bs _ got. tells P d (f bs) v q (h bs) got)
 tells P d (begin_record t) v q h is = tells P d t v q h is
 
 -- where a reading gives a byte, there was one
-some_byte : {P : Type 0} (d : List ℕ) (r : Reading) (place : ℕ) (bs : List ℕ) → OrSome r P → (bs ≡ [] → P → ⊥)
-    → (read_of d r place).answer ≡ Ok bs → place < length d
-some_byte d (AllOf k) place bs h none is = let all = bytes_ok d bs place k is in omega arith
-some_byte d (PartOf k) place [] h none is = absurd (none refl h)
-some_byte d (PartOf k) place (b ∷ bs) h none is = omega (arith, part_length d place k, ap length (part_is is))
-some_byte d (TextOf t k) place [] h none is = absurd (none refl h)
-some_byte d (TextOf t k) place (b ∷ bs) h none is =
-    omega (arith, text_length d t place k, part_length d place k, ap length (part_is is))
+some_byte : {P : Type 0} (d : List ℕ) (r : Reading) (offset : ℕ) (bs : List ℕ) → OrSome r P → (bs ≡ [] → P → ⊥)
+    → (read_of d r offset).answer ≡ Ok bs → offset < length d
+some_byte d (AllOf k) offset bs h none is = let all = bytes_ok d bs offset k is in omega arith
+some_byte d (PartOf k) offset [] h none is = absurd (none refl h)
+some_byte d (PartOf k) offset (b ∷ bs) h none is = omega (arith, part_length d offset k, ap length (part_is is))
+some_byte d (TextOf t k) offset [] h none is = absurd (none refl h)
+some_byte d (TextOf t k) offset (b ∷ bs) h none is =
+    omega (arith, text_length d t offset k, part_length d offset k, ap length (part_is is))
 
--- where a layout tells a next place, there was a byte
+-- where a layout tells a next offset, there was a byte
 begins : {C X : Type 0} (d : List ℕ) (t : Layout (Said C X)) (v : C) (q p : ℕ) → Begins q t
     → (layout_reads d t).answer ≡ Ok (Next v p)
     → q < length d
 begins d (done (Decided x)) v q p h is = absurd cc
-begins d (done (Next w place)) v q p h is = absurd h
+begins d (done (Next w offset)) v q p h is = absurd h
 begins d (refuse e) v q p h is = absurd cc
-begins d (field order place k f) v q p h is =
-    onward_tells (q < length d) (span_of d place k) (number_at d order place k)
+begins d (field order offset k f) v q p h is =
+    onward_tells (q < length d) (span_of d offset k) (number_at d order offset k)
     (λ n. layout_reads d (f n)) (Next v p) is
-    (λ n got _. let here = h.0 in let some = h.1 in let all = number_ok d order place k n got in
+    (λ n got _. let here = h.0 in let some = h.1 in let all = number_ok d order offset k n got in
     omega arith)
-begins d (reading r place f) v q p h is =
-    onward_tells (q < length d) (read_of d r place).marks (read_of d r place).answer
+begins d (reading r offset f) v q p h is =
+    onward_tells (q < length d) (read_of d r offset).marks (read_of d r offset).answer
     (λ bs. layout_reads d (f bs)) (Next v p) is
-    (λ bs got told. let below = some_byte d r place bs h.1 (λ none nothing. tells (λ _. ⊥) d (f []) v p nothing
+    (λ bs got told. let below = some_byte d r offset bs h.1 (λ none nothing. tells (λ _. ⊥) d (f []) v p nothing
     (sym (ap (λ bs. (layout_reads d (f bs)).answer) none) ∙ told)) got in omega (arith, h.0))
 begins d (begin_record t) v q p h is = begins d t v q p h is
 
--- A chain advances, whose records each begin at their place or behind it and tell only greater places.
+-- A chain advances, whose records each begin at their offset or behind it and tell only greater offsets.
 pub advances : {C X : Type 0} (c : Chain C X)
-    → ((held : List C) (place : ℕ) → Tells (λ p. place < p) (c.said held place))
-    → ((held : List C) (place : ℕ) → Begins place (c.said held place)) → (d : List ℕ) → Advances c d
-advances c up first d t v place is = (
-  tells (λ p. t.place < p) d (c.said t.held t.place) v place (up t.held t.place) is,
-  begins d (c.said t.held t.place) v t.place place (first t.held t.place) is,
+    → ((held : List C) (offset : ℕ) → Tells (λ p. offset < p) (c.said held offset))
+    → ((held : List C) (offset : ℕ) → Begins offset (c.said held offset)) → (d : List ℕ) → Advances c d
+advances c up first d t v offset is = (
+  tells (λ p. t.offset < p) d (c.said t.held t.offset) v offset (up t.held t.offset) is,
+  begins d (c.said t.held t.offset) v t.offset offset (first t.held t.offset) is,
 )

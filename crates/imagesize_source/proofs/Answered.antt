@@ -14,29 +14,29 @@ use Rattle.imagesize_source.proofs.Extension.{bytes_ok, number_ok}
 use Rattle.imagesize_source.proofs.Parts.{part_length}
 
 -- the bytes that are read
-pub bytes_is : (d bs : List ℕ) (place k : ℕ) → bytes_at d place k ≡ Ok bs → part d place k ≡ bs
+pub bytes_is : (d bs : List ℕ) (offset k : ℕ) → bytes_at d offset k ≡ Ok bs → part d offset k ≡ bs
 unfolding bytes_at
-bytes_is d bs place k is =
-    let all = bytes_ok d bs place k is in
-    let test : leb k (length d - place) ≡ true = grind (arith, nat_tests) in
+bytes_is d bs offset k is =
+    let all = bytes_ok d bs offset k is in
+    let test : leb k (length d - offset) ≡ true = grind (arith, nat_tests) in
     let got = rw test at is in cc
 
 -- and their number
-pub number_is : (d : List ℕ) (order : Endian) (place k v : ℕ) → number_at d order place k ≡ Ok v
-    → number order (part d place k) ≡ v
+pub number_is : (d : List ℕ) (order : Endian) (offset k v : ℕ) → number_at d order offset k ≡ Ok v
+    → number order (part d offset k) ≡ v
 unfolding number_at bytes_at
-number_is d order place k v is =
-    let all = number_ok d order place k v is in
-    let test : leb k (length d - place) ≡ true = grind (arith, nat_tests) in
+number_is d order offset k v is =
+    let all = number_ok d order offset k v is in
+    let test : leb k (length d - offset) ≡ true = grind (arith, nat_tests) in
     let got = rw test at is in cc
 
 -- a byte of them is the input's
-pub part_index : (d : List ℕ) (place k i : ℕ) → i < k → slice_index (part d place k) i ≡ slice_index d (place + i)
+pub part_index : (d : List ℕ) (offset k i : ℕ) → i < k → slice_index (part d offset k) i ≡ slice_index d (offset + i)
 unfolding part
-part_index d place k i below = get_or-take k (drop place d) i 0 below ∙ get_or-drop place d i 0
+part_index d offset k i below = get_or-take k (drop offset d) i 0 below ∙ get_or-drop offset d i 0
 
-pub part_first : (d : List ℕ) (place k : ℕ) → 0 < k → slice_index (part d place k) 0 ≡ slice_index d place
-part_first d place k some = part_index d place k 0 some ∙ ap (slice_index d) (add-zero place)
+pub part_first : (d : List ℕ) (offset k : ℕ) → 0 < k → slice_index (part d offset k) 0 ≡ slice_index d offset
+part_first d offset k some = part_index d offset k 0 some ∙ ap (slice_index d) (add-zero offset)
 
 pair : (bs : List ℕ) → length bs ≡ 2 → number Big bs ≡ 256 * slice_index bs 0 + slice_index bs 1
 unfolding number
@@ -46,15 +46,15 @@ pair (a ∷ b ∷ []) is = omega arith
 pair (a ∷ b ∷ x ∷ rest) is = absurd (omega (arith, is))
 
 -- the number of two bytes, the highest first
-pub big_pair : (d : List ℕ) (place v : ℕ) → number_at d Big place 2 ≡ Ok v
-    → v ≡ 256 * slice_index d place + slice_index d (place + 1)
-big_pair d place v is =
-    let all = number_ok d Big place 2 v is in
-    let long = part_length d place 2 in
-    let two = pair (part d place 2) (omega arith) in
-    let high = part_first d place 2 (omega arith) in
-    let low = part_index d place 2 1 (omega arith) in
-    let got = number_is d Big place 2 v is in
+pub big_pair : (d : List ℕ) (offset v : ℕ) → number_at d Big offset 2 ≡ Ok v
+    → v ≡ 256 * slice_index d offset + slice_index d (offset + 1)
+big_pair d offset v is =
+    let all = number_ok d Big offset 2 v is in
+    let long = part_length d offset 2 in
+    let two = pair (part d offset 2) (omega arith) in
+    let high = part_first d offset 2 (omega arith) in
+    let low = part_index d offset 2 1 (omega arith) in
+    let got = number_is d Big offset 2 v is in
     omega arith
 
 -- what holds behind an answer and behind a refusal holds of what goes on

@@ -87,28 +87,28 @@ module _ {C X : Type 0} (c : Chain C X) (d : List ℕ) where
 
   -- a chain that advances has a deciding record before the end and one
   found_by : (t : Along C) (k : ℕ) (r : Result (Said C X) Halt) → Advances c d → (next_record c d t).answer ≡ r
-      → ((u : Along C) → t.place < u.place → t.place < length d → position_or_len (λ i. is_some (verdict_of c d u i))
+      → ((u : Along C) → t.offset < u.offset → t.offset < length d → position_or_len (λ i. is_some (verdict_of c d u i))
       (range_with_len 0 k) < k) → position_or_len (λ i. is_some (verdict_of c d t i)) (range_with_len 0 (suc k)) < suc k
   found_by t k (Ok (Decided x)) adv e later =
       let here = position_here (λ i. is_some (verdict_of c d t i)) 0 k (ap (λ r. is_some (verdict r)) e) in omega arith
   found_by t k (Err x) adv e later =
       let here = position_here (λ i. is_some (verdict_of c d t i)) 0 k (ap (λ r. is_some (verdict r)) e) in omega arith
-  found_by t k (Ok (Next v place)) adv e later =
-      let u : Along C = record { held = t.held ++ v ∷ []; place = place } in
+  found_by t k (Ok (Next v offset)) adv e later =
+      let u : Along C = record { held = t.held ++ v ∷ []; offset = offset } in
       let here = position_there (λ i. is_some (verdict_of c d t i)) 0 k (ap (λ r. is_some (verdict r)) e) in
       let on = position_shift (λ i. is_some (verdict_of c d t i)) (λ i. is_some (verdict_of c d u i)) 0 k
       (λ i. ap is_some (verdict_next t u i (ap (leads t.held) e))) in
-      let rest = later u (adv t v place e).0 (adv t v place e).1 in
+      let rest = later u (adv t v offset e).0 (adv t v offset e).1 in
       omega arith
 
-  found : (k : ℕ) (t : Along C) → Advances c d → length d ≤ t.place + k
+  found : (k : ℕ) (t : Along C) → Advances c d → length d ≤ t.offset + k
       → position_or_len (λ i. is_some (verdict_of c d t i))
       (range_with_len 0 (suc k)) < suc k
   found zero t adv h = found_by t zero (next_record c d t).answer adv refl (λ u up below. absurd (omega arith))
   found (suc k) t adv h =
       found_by t (suc k) (next_record c d t).answer adv refl (λ u up below. found k u adv (omega arith))
 
-  found_within : (n : ℕ) (u : Along C) → Advances c d → length d ≤ n → 0 < u.place → 0 < n
+  found_within : (n : ℕ) (u : Along C) → Advances c d → length d ≤ n → 0 < u.offset → 0 < n
       → position_or_len (λ i. is_some (verdict_of c d u i)) (range_with_len 0 n) < n
   found_within zero u adv h up some = absurd (omega arith)
   found_within (suc n) u adv h up some = found n u adv (omega arith)
@@ -123,7 +123,7 @@ module _ {C X : Type 0} (c : Chain C X) (d : List ℕ) where
   deciding_stop t h = deciding-is t ∙ position_here (λ i. is_some (verdict_of c d t i)) 0 (length d) h
 
   deciding_next : (t u : Along C) → Advances c d → leads t.held (next_record c d t).answer ≡ Some u
-      → is_some (verdict (next_record c d t).answer) ≡ false → t.place < u.place → t.place < length d
+      → is_some (verdict (next_record c d t).answer) ≡ false → t.offset < u.offset → t.offset < length d
       → deciding_record c d t ≡ deciding_record c d u + 1
   deciding_next t u adv led h up below =
       let here = position_there (λ i. is_some (verdict_of c d t i)) 0 (length d) h in
@@ -146,16 +146,16 @@ module _ {C X : Type 0} (c : Chain C X) (d : List ℕ) where
   begun_first t k = ap (λ n. sum_by (begun_of c d t) (range_with_len 0 n)) (add-one k)
       ∙ sum_by-cons (begun_of c d t) 0 (range_with_len 1 k)
 
-  -- a record that tells the place of the next: its marks, and the chain from there on
-  pub chain_next : (t : Along C) (v : C) (place : ℕ) → Advances c d → (next_record c d t).answer ≡ Ok (Next v place)
+  -- a record that tells the offset of the next: its marks, and the chain from there on
+  pub chain_next : (t : Along C) (v : C) (offset : ℕ) → Advances c d → (next_record c d t).answer ≡ Ok (Next v offset)
       → chain_from c d t ≡ after_records (next_record c d t).begun (put_behind (next_record c d t).marks
-      (chain_from c d (record { held = t.held ++ v ∷ []; place = place })))
+      (chain_from c d (record { held = t.held ++ v ∷ []; offset = offset })))
   unfolding chain_from
-  chain_next t v place adv is =
-      let u : Along C = record { held = t.held ++ v ∷ []; place = place } in
+  chain_next t v offset adv is =
+      let u : Along C = record { held = t.held ++ v ∷ []; offset = offset } in
       let led : leads t.held (next_record c d t).answer ≡ Some u = ap (leads t.held) is in
-      let one = deciding_next t u adv led (ap (λ r. is_some (verdict r)) is) (adv t v place is).0
-      (adv t v place is).1 in
+      let one = deciding_next t u adv led (ap (λ r. is_some (verdict r)) is) (adv t v offset is).0
+      (adv t v offset is).1 in
       same_reads (chain_from c d t)
       (after_records (next_record c d t).begun (put_behind (next_record c d t).marks (chain_from c d u)))
       (ap (λ o. unwrap_or o (Err Ended)) (ap (verdict_of c d t) one ∙ verdict_next t u (deciding_record c d u) led))
@@ -181,7 +181,7 @@ module _ {C X : Type 0} (c : Chain C X) (d : List ℕ) where
   -- what follows a record
   abbrev pub follows : List C → Said C X → Reads X
   follows held (Decided x) = gives x
-  follows held (Next v place) = chain_from c d (record { held = held ++ v ∷ []; place = place })
+  follows held (Next v offset) = chain_from c d (record { held = held ++ v ∷ []; offset = offset })
 
   unfolds_by : (t : Along C) (r : Result (Said C X) Halt) → Advances c d → (next_record c d t).answer ≡ r
       → chain_from c d t ≡ after_records (next_record c d t).begun (go_on (next_record c d t).marks r (follows t.held))
@@ -189,7 +189,7 @@ module _ {C X : Type 0} (c : Chain C X) (d : List ℕ) where
       ∙ same_reads (with_answer (Ok x) (next_record c d t))
       (after_records (next_record c d t).begun (put_behind (next_record c d t).marks (gives x))) refl
       (sym (append-nil (next_record c d t).marks)) (sym (plus-zero (next_record c d t).begun))
-  unfolds_by t (Ok (Next v place)) adv is = chain_next t v place adv is
+  unfolds_by t (Ok (Next v offset)) adv is = chain_next t v offset adv is
   unfolds_by t (Err e) adv is = chain_stop t (Err e) (ap verdict is)
       ∙ ap (λ n. record { answer = Err e; marks = (next_record c d t).marks; begun = n })
       (sym (plus-zero (next_record c d t).begun))

@@ -17,11 +17,11 @@ bound_of f e (Ok x) = f x
 bound_of f e (Err _) = e
 
 -- what is owed of a reading, one by one
-refused : (P Q : Type 0) {e : Halt} (d : List ℕ) (r : Reading) (place : ℕ) → IfRefused r P Q
-    → (read_of d r place).answer ≡ Err e → P
-refused P Q d (AllOf k) place h is = h.0
-refused P Q d (PartOf k) place h is = absurd cc
-refused P Q d (TextOf t k) place h is = absurd cc
+refused : (P Q : Type 0) {e : Halt} (d : List ℕ) (r : Reading) (offset : ℕ) → IfRefused r P Q
+    → (read_of d r offset).answer ≡ Err e → P
+refused P Q d (AllOf k) offset h is = h.0
+refused P Q d (PartOf k) offset h is = absurd cc
+refused P Q d (TextOf t k) offset h is = absurd cc
 
 otherwise : (P Q : Type 0) (r : Reading) → IfRefused r P Q → Q
 otherwise P Q (AllOf k) h = h.1
@@ -51,13 +51,13 @@ pub costs : {X : Type 0} (f : X → ℕ) (e u : ℕ) (d : List ℕ) (t : Layout 
     (layout_reads d t).answer
 costs f e u d (done x) h = omega arith
 costs f e u d (refuse r) h = omega arith
-costs f e u d (field order place n g) h =
-    onward_costs f e u n (span_of d place n) (number_at d order place n) (λ v. layout_reads d (g v))
-    (total-span_of d place n) (λ _ _. h.0) (λ v. costs f e (u + n) d (g v) (h.1 v))
-costs f e u d (reading r place g) h = onward_costs f e u (most r) (read_of d r place).marks (read_of d r place).answer
-    (λ bs. layout_reads d (g bs)) (total_reading d r place)
+costs f e u d (field order offset n g) h =
+    onward_costs f e u n (span_of d offset n) (number_at d order offset n) (λ v. layout_reads d (g v))
+    (total-span_of d offset n) (λ _ _. h.0) (λ v. costs f e (u + n) d (g v) (h.1 v))
+costs f e u d (reading r offset g) h = onward_costs f e u (most r) (read_of d r offset).marks (read_of d r offset).answer
+    (λ bs. layout_reads d (g bs)) (total_reading d r offset)
     (λ x is. refused (u + most r ≤ e) ((bs : List ℕ) → CostsBy f e (u + most r) (g bs))
-    {e = x} d r place h is) (λ bs. costs f e (u + most r) d (g bs)
+    {e = x} d r offset h is) (λ bs. costs f e (u + most r) d (g bs)
     (otherwise (u + most r ≤ e) ((bs : List ℕ) → CostsBy f e (u + most r) (g bs)) r h bs))
 costs f e u d (begin_record t) h = costs f e u d t h
 
@@ -65,12 +65,12 @@ costs f e u d (begin_record t) h = costs f e u d t h
 pub costs_less : {X : Type 0} (f : X → ℕ) (e u v : ℕ) (t : Layout X) → u ≤ v → CostsBy f e v t → CostsBy f e u t
 costs_less f e u v (done x) le h = omega arith
 costs_less f e u v (refuse r) le h = omega arith
-costs_less f e u v (field order place n g) le h = let here = h.0 in (
+costs_less f e u v (field order offset n g) le h = let here = h.0 in (
   omega arith,
   λ w. costs_less f e (u + n) (v + n) (g w) (omega arith)
       (h.1 w),
 )
-costs_less f e u v (reading r place g) le h =
+costs_less f e u v (reading r offset g) le h =
     if_refused r (λ here. omega arith) (λ rest bs. costs_less f e (u + most r) (v + most r)
     (g bs) (omega arith) (rest bs)) h
 costs_less f e u v (begin_record t) le h = costs_less f e u v t le h
@@ -80,12 +80,12 @@ pub costs_bind : {X Y : Type 0} (f : Y → ℕ) (e u j : ℕ) (t : Layout X) (g 
     → ((x : X) → CostsBy f e (u + j) (g x)) → CostsBy f e u (bind t g)
 costs_bind f e u j (done x) g few enough next = costs_less f e u (u + j) (g x) (omega arith) (next x)
 costs_bind f e u j (refuse r) g few enough next = omega arith
-costs_bind f e u j (field order place n h) g few enough next = let here = few.0 in (
+costs_bind f e u j (field order offset n h) g few enough next = let here = few.0 in (
   omega arith,
   λ v. costs_bind f e (u + n) (j - n) (h v) g (few.1 v) (omega arith) (λ x. costs_less f e (u + n + (j - n)) (u + j)
       (g x) (omega arith) (next x)),
 )
-costs_bind f e u j (reading r place h) g few enough next =
+costs_bind f e u j (reading r offset h) g few enough next =
     let all = of_bytes r few in
     let here = all.0 in
     both ((most r ≤ j) × ((bs : List ℕ) → AtMost (j - most r) (h bs))) r few (omega arith)

@@ -1,4 +1,4 @@
--- How many bytes are read, and how many places are seen.
+-- How many bytes are read, and how many offsets are seen.
 use Rattle.std.proofs.Common.{◌≡◌, ℕ, zero, suc, ◌+◌, ◌-◌, ◌*◌, ◌≤◌, min, max, Bool, true, false, cond, eqb, ◌||◌, List, [], ◌∷◌, length, Result, Ok, Err, refl, sym, ap, ◌∙◌, arith}
 use Rattle.std.proofs.Math.Nat.{add-zero, mul-add}
 use Rattle.std.proofs.lemmas.Bool.Decides.{nat_tests}
@@ -10,8 +10,8 @@ use Rattle.imagesize_source.proofs.Texts.{front_length}
 use Rattle.imagesize_source.specs.declared.halt.Halt.{Halt}
 use Rattle.imagesize_source.specs.declared.span.Span.{Span}
 use Rattle.imagesize_source.specs.declared.text.Text.{Text}
-use Rattle.imagesize_source.specs.Agreement.{has_place, is_covered}
-use Rattle.imagesize_source.specs.Counts.{places, AtMost, Each, IfBytes}
+use Rattle.imagesize_source.specs.Agreement.{has_offset, is_covered}
+use Rattle.imagesize_source.specs.Counts.{offsets, AtMost, Each, IfBytes}
 use Rattle.imagesize_source.specs.Input.{part, span_at, span_of}
 use Rattle.imagesize_source.specs.Layout.{Layout, done, refuse, field, reading, begin_record, layout_reads, bind}
 use Rattle.imagesize_source.specs.Reading.{Reads, Reading, AllOf, PartOf, TextOf, after_records, and_then, go_on, plus, number_at, text_part, read_of, most}
@@ -20,43 +20,43 @@ use Rattle.imagesize_source.proofs.Marks.{plus-is}
 use Rattle.imagesize_source.proofs.Parts.{part_length}
 use Rattle.std.proofs.lemmas.Bool.{or_right}
 
-total_unless : (b : Bool) (place n : ℕ) → (b ≡ true → n ≡ 0)
-    → total (cond b [] (record { start = place; len = n } ∷ [])) ≡ n
-total_unless true place n h = sym (h refl)
-total_unless false place n h = add-zero n
+total_unless : (b : Bool) (offset n : ℕ) → (b ≡ true → n ≡ 0)
+    → total (cond b [] (record { start = offset; len = n } ∷ [])) ≡ n
+total_unless true offset n h = sym (h refl)
+total_unless false offset n h = add-zero n
 
 -- a span has no more bytes than were asked for
-pub total-span_at : (place n : ℕ) → total (span_at place n) ≡ n
+pub total-span_at : (offset n : ℕ) → total (span_at offset n) ≡ n
 unfolding span_at
-total-span_at place n = total_unless (eqb n 0) place n (λ h. grind (arith, nat_tests))
+total-span_at offset n = total_unless (eqb n 0) offset n (λ h. grind (arith, nat_tests))
 
 -- a reading has no more bytes than were asked for
-pub total-span_of : (d : List ℕ) (place k : ℕ) → total (span_of d place k) ≤ k
+pub total-span_of : (d : List ℕ) (offset k : ℕ) → total (span_of d offset k) ≤ k
 unfolding span_of
-total-span_of d place k = let n = total-span_at place (min k (length d - place)) in omega arith
+total-span_of d offset k = let n = total-span_at offset (min k (length d - offset)) in omega arith
 
 -- it has those of them that are there
-pub total_there : (d : List ℕ) (place k : ℕ) → total (span_of d place k) ≡ min k (length d - place)
+pub total_there : (d : List ℕ) (offset k : ℕ) → total (span_of d offset k) ≡ min k (length d - offset)
 unfolding span_of
-total_there d place k = total-span_at place (min k (length d - place))
+total_there d offset k = total-span_at offset (min k (length d - offset))
 
-pub total_behind : (d : List ℕ) (place k : ℕ) → total (span_of d place k) ≤ length d - place
-total_behind d place k = omega (arith, total_there d place k)
+pub total_behind : (d : List ℕ) (offset k : ℕ) → total (span_of d offset k) ≤ length d - offset
+total_behind d offset k = omega (arith, total_there d offset k)
 
 -- a text is no longer than the part that it is looked for in
-pub text_length : (d : List ℕ) (t : Text) (place k : ℕ) → length (text_part d t place k) ≤ length (part d place k)
+pub text_length : (d : List ℕ) (t : Text) (offset k : ℕ) → length (text_part d t offset k) ≤ length (part d offset k)
 unfolding text_part
-text_length d t place k = front_length t (part d place k)
+text_length d t offset k = front_length t (part d offset k)
 
 -- the same of any reading
-pub total_reading : (d : List ℕ) (r : Reading) (place : ℕ) → total (read_of d r place).marks ≤ most r
-total_reading d (AllOf k) place = total-span_of d place k
-total_reading d (PartOf k) place = total-span_of d place k
-total_reading d (TextOf t k) place = omega (
+pub total_reading : (d : List ℕ) (r : Reading) (offset : ℕ) → total (read_of d r offset).marks ≤ most r
+total_reading d (AllOf k) offset = total-span_of d offset k
+total_reading d (PartOf k) offset = total-span_of d offset k
+total_reading d (TextOf t k) offset = omega (
   arith,
-  total-span_at place (length (text_part d t place k)),
-  text_length d t place k,
-  part_length d place k,
+  total-span_at offset (length (text_part d t offset k)),
+  text_length d t offset k,
+  part_length d offset k,
 )
 
 -- what is owed of a reading of bytes
@@ -81,12 +81,12 @@ onward_at_most spans (Err e) f n k here fits rest = omega arith
 pub at_most : {X : Type 0} (d : List ℕ) (k : ℕ) (t : Layout X) → AtMost k t → total (layout_reads d t).marks ≤ k
 at_most d k (done x) h = omega arith
 at_most d k (refuse e) h = omega arith
-at_most d k (field order place n f) h =
-    onward_at_most (span_of d place n) (number_at d order place n) (λ v. layout_reads d (f v)) n k
-    (total-span_of d place n) h.0 (λ v. at_most d (k - n) (f v) (h.1 v))
-at_most d k (reading r place f) h =
-    onward_at_most (read_of d r place).marks (read_of d r place).answer (λ bs. layout_reads d (f bs)) (most r) k
-    (total_reading d r place) (of_bytes r h).0 (λ bs. at_most d (k - most r) (f bs) ((of_bytes r h).1 bs))
+at_most d k (field order offset n f) h =
+    onward_at_most (span_of d offset n) (number_at d order offset n) (λ v. layout_reads d (f v)) n k
+    (total-span_of d offset n) h.0 (λ v. at_most d (k - n) (f v) (h.1 v))
+at_most d k (reading r offset f) h =
+    onward_at_most (read_of d r offset).marks (read_of d r offset).answer (λ bs. layout_reads d (f bs)) (most r) k
+    (total_reading d r offset) (of_bytes r h).0 (λ bs. at_most d (k - most r) (f bs) ((of_bytes r h).1 bs))
 at_most d k (begin_record t) h = at_most d k t h
 
 onward_within : {X Y : Type 0} (spans : List Span) (r : Result X Halt) (f : X → Reads Y) (j k : ℕ) → total spans ≤ j
@@ -132,19 +132,19 @@ bounded_each each d (begin_record t) few =
     omega (arith, at_most d each t few, each_plus each 1 (layout_reads d t).begun)
 bounded_each each d (done x) few = omega arith
 bounded_each each d (refuse e) few = omega arith
-bounded_each each d (field order place n f) few = bounded_layout each 0 d (field order place n f) few
-bounded_each each d (reading r place f) few = bounded_layout each 0 d (reading r place f) few
+bounded_each each d (field order offset n f) few = bounded_layout each 0 d (field order offset n f) few
+bounded_each each d (reading r offset f) few = bounded_layout each 0 d (reading r offset f) few
 
 -- at most j bytes are at most k, where k is no less
 pub at_most_more : {X : Type 0} (j k : ℕ) (t : Layout X) → j ≤ k → AtMost j t → AtMost k t
 at_most_more j k (done x) le h = tt
 at_most_more j k (refuse e) le h = tt
-at_most_more j k (field order place n f) le h = let here = h.0 in (
+at_most_more j k (field order offset n f) le h = let here = h.0 in (
   omega arith,
   λ v. at_most_more (j - n) (k - n) (f v) (omega arith)
       (h.1 v),
 )
-at_most_more j k (reading r place f) le h = if_bytes r (λ few. let here = few.0 in (
+at_most_more j k (reading r offset f) le h = if_bytes r (λ few. let here = few.0 in (
   omega arith,
   λ bs. at_most_more (j - most r) (k - most r) (f bs)
       (omega arith) (few.1 bs),
@@ -156,12 +156,12 @@ pub at_most_bind : {X Y : Type 0} (j k : ℕ) (t : Layout X) (g : X → Layout Y
     → AtMost (j + k) (bind t g)
 at_most_bind j k (done x) g h rest = at_most_more k (j + k) (g x) (omega arith) (rest x)
 at_most_bind j k (refuse e) g h rest = tt
-at_most_bind j k (field order place n f) g h rest = let here = h.0 in (
+at_most_bind j k (field order offset n f) g h rest = let here = h.0 in (
   omega arith,
   λ v. at_most_more (j - n + k) (j + k - n) (bind (f v) g) (omega arith)
       (at_most_bind (j - n) k (f v) g (h.1 v) rest),
 )
-at_most_bind j k (reading r place f) g h rest = if_bytes r (λ few. let here = few.0 in (
+at_most_bind j k (reading r offset f) g h rest = if_bytes r (λ few. let here = few.0 in (
   omega arith,
   λ bs. at_most_more (j - most r + k) (j + k - most r)
       (bind (f bs) g) (omega arith) (at_most_bind (j - most r) k (f bs) g (few.1 bs) rest),
@@ -186,52 +186,52 @@ tests_fewer true true h = omega arith
 tests_fewer true false h = absurd (let no : false ≡ true = h refl in cc)
 tests_fewer false c h = omega arith
 
--- what fewer places have is counted no more often
+-- what fewer offsets have is counted no more often
 pub count_fewer : (p q : ℕ → Bool) (xs : List ℕ) → ((x : ℕ) → p x ≡ true → q x ≡ true) → count_by p xs ≤ count_by q xs
 count_fewer p q [] h = omega arith
 count_fewer p q (x ∷ xs) h =
     let left = count-cons p x xs in let right = count-cons q x xs in
     let rest = count_fewer p q xs h in let here = tests_fewer (p x) (q x) (h x) in omega arith
 
-count_span : (s : Span) (a n : ℕ) → count_by (has_place s) (range_with_len a n) ≤ (s.start + s.len) - max a s.start
+count_span : (s : Span) (a n : ℕ) → count_by (has_offset s) (range_with_len a n) ≤ (s.start + s.len) - max a s.start
 count_span s a zero = omega arith
 count_span s a (suc n) =
-    let one = count-cons (has_place s) a (range_with_len (a + 1) n) in
+    let one = count-cons (has_offset s) a (range_with_len (a + 1) n) in
     let rest = count_span s (a + 1) n in
-    let here : cond (has_place s a) 1 0 + ((s.start + s.len) - max (a + 1) s.start) ≤
+    let here : cond (has_offset s a) 1 0 + ((s.start + s.len) - max (a + 1) s.start) ≤
     (s.start + s.len) - max a s.start =
     grind (arith, nat_tests) in
     omega arith
 
--- spans that have no place which others have not have no more places
-pub places_fewer : (n : ℕ) (s t : List Span) → ((place : ℕ) → is_covered s place ≡ true → is_covered t place ≡ true)
-    → places n s ≤ places n t
-places_fewer n s t h = count_fewer (is_covered s) (is_covered t) (range_with_len 0 n) h
+-- spans that have no offset which others have not have no more offsets
+pub offsets_fewer : (n : ℕ) (s t : List Span) → ((offset : ℕ) → is_covered s offset ≡ true → is_covered t offset ≡ true)
+    → offsets n s ≤ offsets n t
+offsets_fewer n s t h = count_fewer (is_covered s) (is_covered t) (range_with_len 0 n) h
 
--- one more span has no more places than it is long
-pub places_more : (n : ℕ) (s : Span) (spans : List Span) → places n (s ∷ spans) ≤ s.len + places n spans
-places_more n s spans =
-    let both = count_or (has_place s) (is_covered spans) (range_with_len 0 n) in
+-- one more span has no more offsets than it is long
+pub offsets_more : (n : ℕ) (s : Span) (spans : List Span) → offsets n (s ∷ spans) ≤ s.len + offsets n spans
+offsets_more n s spans =
+    let both = count_or (has_offset s) (is_covered spans) (range_with_len 0 n) in
     let here = count_span s 0 n in omega arith
 
--- the spans have no more places than they are long
-pub places_total : (n : ℕ) (spans : List Span) → places n spans ≤ total spans
-places_total n [] = let none = count_fewer (λ _. false) (has_place (record { start = 0; len = 0 })) (range_with_len 0 n)
+-- the spans have no more offsets than they are long
+pub offsets_total : (n : ℕ) (spans : List Span) → offsets n spans ≤ total spans
+offsets_total n [] = let none = count_fewer (λ _. false) (has_offset (record { start = 0; len = 0 })) (range_with_len 0 n)
     (λ x h. absurd cc) in let empty = count_span (record { start = 0; len = 0 }) 0 n in omega arith
-places_total n (s ∷ spans) = let here = places_more n s spans in let rest = places_total n spans in omega arith
+offsets_total n (s ∷ spans) = let here = offsets_more n s spans in let rest = offsets_total n spans in omega arith
 
 -- the span of the first bytes that a source holds
 abbrev pub front_span : State → Span
 front_span a = record { start = 0; len = a.front }
 
--- one reading covers no place that the front afterwards and the bytes that it took do not cover
-step_covers : (front place n at : ℕ) → has_place (record { start = 0; len = front }) at || has_place
-    (record { start = place; len = n }) at ≡ true
-    → has_place (record {
-      start = max (front_after front place n) place;
-      len = new_bytes front place n - (front_after front place n - front);
-    }) at || has_place (record { start = 0; len = front_after front place n }) at ≡ true
-step_covers front place n at h = grind (arith, nat_tests)
+-- one reading covers no offset that the front afterwards and the bytes that it took do not cover
+step_covers : (front offset n at : ℕ) → has_offset (record { start = 0; len = front }) at || has_offset
+    (record { start = offset; len = n }) at ≡ true
+    → has_offset (record {
+      start = max (front_after front offset n) offset;
+      len = new_bytes front offset n - (front_after front offset n - front);
+    }) at || has_offset (record { start = 0; len = front_after front offset n }) at ≡ true
+step_covers front offset n at h = grind (arith, nat_tests)
 
 joined : (b c rest b' c' : Bool) → (b || c ≡ true → b' || c' ≡ true) → b || (c || rest) ≡ true
     → b' || (c' || rest) ≡ true
@@ -241,40 +241,40 @@ joined true c rest false false h is = absurd (let no : false ≡ true = h refl i
 joined false true rest false false h is = absurd (let no : false ≡ true = h refl in cc)
 joined false false rest false false h is = is
 
--- what one reading adds to the places and to the bytes taken
+-- what one reading adds to the offsets and to the bytes taken
 step_covers_all : (n : ℕ) (a : State) (s : Span) (spans : List Span) → a.frame.counts ≡ true
-    → places n (front_span a ∷ s ∷ spans)
-    + a.taken + (step a s).front ≤ places n (front_span (step a s) ∷ spans) + (step a s).taken + a.front
+    → offsets n (front_span a ∷ s ∷ spans)
+    + a.taken + (step a s).front ≤ offsets n (front_span (step a s) ∷ spans) + (step a s).taken + a.front
 step_covers_all n a s spans counts =
     let w : ℕ = front_after a.front s.start s.len in
     let m : ℕ = new_bytes a.front s.start s.len in
     let more : Span = record { start = max w s.start; len = m - (w - a.front) } in
     let after : Span = record { start = 0; len = w } in
-    let fewer : places n (front_span a ∷ s ∷ spans) ≤ places n (more ∷ after ∷ spans) =
-    places_fewer n (front_span a ∷ s ∷ spans) (more ∷ after ∷ spans)
-    (λ at h. joined (has_place (front_span a) at) (has_place s at) (is_covered spans at) (has_place more at)
-    (has_place after at)
+    let fewer : offsets n (front_span a ∷ s ∷ spans) ≤ offsets n (more ∷ after ∷ spans) =
+    offsets_fewer n (front_span a ∷ s ∷ spans) (more ∷ after ∷ spans)
+    (λ at h. joined (has_offset (front_span a) at) (has_offset s at) (is_covered spans at) (has_offset more at)
+    (has_offset after at)
     (step_covers a.front s.start s.len at) h) in
-    let one = places_more n more (after ∷ spans) in
+    let one = offsets_more n more (after ∷ spans) in
     let grows : w - a.front ≤ m = grind (arith, nat_tests) in
     let above : a.front ≤ w = grind (arith, nat_tests) in
     rw counts (omega arith)
 
 -- what the front or the spans cover was taken
 pub covers_past : (n : ℕ) (a : State) (spans : List Span) → a.frame.counts ≡ true
-    → places n (front_span a ∷ spans) + a.taken
+    → offsets n (front_span a ∷ spans) + a.taken
     ≤ (state_after a spans).taken + a.front
 unfolding state_after
-covers_past n a [] counts = let front = places_total n (front_span a ∷ []) in omega arith
+covers_past n a [] counts = let front = offsets_total n (front_span a ∷ []) in omega arith
 covers_past n a (s ∷ spans) counts =
     let here = step_covers_all n a s spans counts in let rest = covers_past n (step a s) spans counts in omega arith
 
--- each place of the spans was taken, by a source that held nothing before
-pub places_past : (n : ℕ) (a : State) (spans : List Span) → a.frame.counts ≡ true → a.front ≡ 0
-    → places n spans + a.taken
+-- each offset of the spans was taken, by a source that held nothing before
+pub offsets_past : (n : ℕ) (a : State) (spans : List Span) → a.frame.counts ≡ true → a.front ≡ 0
+    → offsets n spans + a.taken
     ≤ (state_after a spans).taken
-places_past n a spans counts none =
+offsets_past n a spans counts none =
     let all = covers_past n a spans counts in
-    let fewer = places_fewer n spans (front_span a ∷ spans)
-    (λ at h. or_right (has_place (front_span a) at) (is_covered spans at) h) in
+    let fewer = offsets_fewer n spans (front_span a ∷ spans)
+    (λ at h. or_right (has_offset (front_span a) at) (is_covered spans at) h) in
     omega arith

@@ -13,70 +13,70 @@ use Rattle.imagesize_source.proofs.Known.{filled_at, known_below, length-filled_
 use Rattle.imagesize_source.proofs.Parts.{part_length, part_at}
 
 -- a part goes on with the next one
-part_more : (d : List ℕ) (place i n : ℕ) → part d place (i + n) ≡ part d place i ++ part d (place + i) n
+part_more : (d : List ℕ) (offset i n : ℕ) → part d offset (i + n) ≡ part d offset i ++ part d (offset + i) n
 unfolding part
-part_more d place i n = take-add i n (drop place d)
-    ∙ ap (λ xs. take i (drop place d) ++ take n xs) (drop-drop i place d)
+part_more d offset i n = take-add i n (drop offset d)
+    ∙ ap (λ xs. take i (drop offset d) ++ take n xs) (drop-drop i offset d)
 
--- the byte at a place of the filled input, where it is known
-known_byte : (n : ℕ) (spans : List Span) (bytes : List ℕ) (place b : ℕ) → byte_in_parts n spans bytes place ≡ Some b
-    → slice_index (filled_input n spans bytes) place ≡ b
-known_byte n spans bytes place b is =
-    filled_at n spans bytes place (known_below n spans bytes place (ap is_some is)) ∙ ap (λ o. unwrap_or o 0) is
+-- the byte at an offset of the filled input, where it is known
+known_byte : (n : ℕ) (spans : List Span) (bytes : List ℕ) (offset b : ℕ) → byte_in_parts n spans bytes offset ≡ Some b
+    → slice_index (filled_input n spans bytes) offset ≡ b
+known_byte n spans bytes offset b is =
+    filled_at n spans bytes offset (known_below n spans bytes offset (ap is_some is)) ∙ ap (λ o. unwrap_or o 0) is
 
 -- known bytes are a part of the filled input
-pub run_part : (n : ℕ) (spans : List Span) (bytes run : List ℕ) (place count : ℕ) → count ≤ length run
-    → place + count ≤ n
-    → ((i : ℕ) → i < length run → byte_in_parts n spans bytes (place + i) ≡ Some (get_or run i 0))
-    → take count run ≡ part (filled_input n spans bytes) place count
-run_part n spans bytes run place count few fits is =
-    ext_get_or 0 (take count run) (part (filled_input n spans bytes) place count)
+pub run_part : (n : ℕ) (spans : List Span) (bytes run : List ℕ) (offset count : ℕ) → count ≤ length run
+    → offset + count ≤ n
+    → ((i : ℕ) → i < length run → byte_in_parts n spans bytes (offset + i) ≡ Some (get_or run i 0))
+    → take count run ≡ part (filled_input n spans bytes) offset count
+run_part n spans bytes run offset count few fits is =
+    ext_get_or 0 (take count run) (part (filled_input n spans bytes) offset count)
     (length-take count run
-    ∙ omega (arith, few, fits, part_length (filled_input n spans bytes) place count, length-filled_input n spans bytes))
+    ∙ omega (arith, few, fits, part_length (filled_input n spans bytes) offset count, length-filled_input n spans bytes))
     (λ i below.
     let small : i < count = omega (arith, below, length-take count run) in
     get_or-take count run i 0 small
-    ∙ sym (known_byte n spans bytes (place + i) (get_or run i 0) (is i (omega (arith, small, few))))
-    ∙ sym (part_at (filled_input n spans bytes) place count i small))
+    ∙ sym (known_byte n spans bytes (offset + i) (get_or run i 0) (is i (omega (arith, small, few))))
+    ∙ sym (part_at (filled_input n spans bytes) offset count i small))
 
--- the front of a room behind which a run was put
-put_front : (run room : List ℕ) (index count : ℕ) → index ≤ length room → count ≤ length run
-    → take (index + count) (take index room ++ take count run ++ drop (index + count) room)
-    ≡ take index room ++ take count run
-put_front run room index count within few =
-    let long : length (take index room ++ take count run) ≡ index + count =
-    length-append (take index room) (take count run)
-    ∙ omega (arith, length-take index room, length-take count run, within, few) in
-    ap (λ k. take k (take index room ++ take count run ++ drop (index + count) room)) (sym long)
-    ∙ take-append_seam (take index room ++ take count run) (drop (index + count) room)
+-- the front of a buffer behind which a run was put
+put_front : (run buffer : List ℕ) (index count : ℕ) → index ≤ length buffer → count ≤ length run
+    → take (index + count) (take index buffer ++ take count run ++ drop (index + count) buffer)
+    ≡ take index buffer ++ take count run
+put_front run buffer index count within few =
+    let long : length (take index buffer ++ take count run) ≡ index + count =
+    length-append (take index buffer) (take count run)
+    ∙ omega (arith, length-take index buffer, length-take count run, within, few) in
+    ap (λ k. take k (take index buffer ++ take count run ++ drop (index + count) buffer)) (sym long)
+    ∙ take-append_seam (take index buffer ++ take count run) (drop (index + count) buffer)
 
-pub gathered_run : (n : ℕ) (spans : List Span) (bytes run room new : List ℕ) (place index count : ℕ)
-    → take index room ≡ part (filled_input n spans bytes) place index → index ≤ length room → count ≤ length run
-    → place + index + count ≤ n
-    → new ≡ take index room ++ take count run ++ drop (index + count) room
-    → ((i : ℕ) → i < length run → byte_in_parts n spans bytes (place + index + i) ≡ Some (get_or run i 0))
-    → take (index + count) new ≡ part (filled_input n spans bytes) place (index + count)
-gathered_run n spans bytes run room new place index count so_far within few fits is_new is =
-    ap (take (index + count)) is_new ∙ put_front run room index count within few
+pub gathered_run : (n : ℕ) (spans : List Span) (bytes run buffer new : List ℕ) (offset index count : ℕ)
+    → take index buffer ≡ part (filled_input n spans bytes) offset index → index ≤ length buffer → count ≤ length run
+    → offset + index + count ≤ n
+    → new ≡ take index buffer ++ take count run ++ drop (index + count) buffer
+    → ((i : ℕ) → i < length run → byte_in_parts n spans bytes (offset + index + i) ≡ Some (get_or run i 0))
+    → take (index + count) new ≡ part (filled_input n spans bytes) offset (index + count)
+gathered_run n spans bytes run buffer new offset index count so_far within few fits is_new is =
+    ap (take (index + count)) is_new ∙ put_front run buffer index count within few
     ∙ ap (λ xs. xs ++ take count run) so_far
-    ∙ ap (λ xs. part (filled_input n spans bytes) place index ++ xs)
-    (run_part n spans bytes run (place + index) count few fits is)
-    ∙ sym (part_more (filled_input n spans bytes) place index count)
+    ∙ ap (λ xs. part (filled_input n spans bytes) offset index ++ xs)
+    (run_part n spans bytes run (offset + index) count few fits is)
+    ∙ sym (part_more (filled_input n spans bytes) offset index count)
 
-pub known_run : (n : ℕ) (spans : List Span) (bytes run : List ℕ) (place index count : ℕ)
-    → ((i : ℕ) → i < index → is_some (byte_in_parts n spans bytes (place + i)) ≡ true) → count ≤ length run
-    → ((i : ℕ) → i < length run → byte_in_parts n spans bytes (place + index + i) ≡ Some (get_or run i 0))
-    → (i : ℕ) → i < index + count → is_some (byte_in_parts n spans bytes (place + i)) ≡ true
-known_run n spans bytes run place index count so_far few is i below = elim (cases_lt i index) [
+pub known_run : (n : ℕ) (spans : List Span) (bytes run : List ℕ) (offset index count : ℕ)
+    → ((i : ℕ) → i < index → is_some (byte_in_parts n spans bytes (offset + i)) ≡ true) → count ≤ length run
+    → ((i : ℕ) → i < length run → byte_in_parts n spans bytes (offset + index + i) ≡ Some (get_or run i 0))
+    → (i : ℕ) → i < index + count → is_some (byte_in_parts n spans bytes (offset + i)) ≡ true
+known_run n spans bytes run offset index count so_far few is i below = elim (cases_lt i index) [
   | inl less ↦ so_far i less
   | inr more ↦ (
-      let same : place + index + (i - index) ≡ place + i = omega (arith, more) in
+      let same : offset + index + (i - index) ≡ offset + i = omega (arith, more) in
       let one = is (i - index) (omega (arith, below, more, few)) in
       ap (λ p. is_some (byte_in_parts n spans bytes p)) (sym same) ∙ ap is_some one
       )
 ]
 
--- ---- what stands in the front alone, whose bytes are those from place 0 on
+-- ---- what stands in the front alone, whose bytes are those from offset 0 on
 
 module _ (n : ℕ) (spans : List Span) (bytes front : List ℕ)
     (is : (i : ℕ) → i < length front → byte_in_parts n spans bytes i ≡ Some (get_or front i 0)) where
@@ -87,46 +87,46 @@ module _ (n : ℕ) (spans : List Span) (bytes front : List ℕ)
     by_length (suc k) more = omega (arith, more, known_below n spans bytes k (ap is_some (is k (omega (arith, more)))))
 
   -- all of what is asked for is there
-  pub front_fits : (place count : ℕ) → place + count ≤ length front → count ≡ min count (n - place)
-  front_fits place count fits = omega (arith, fits, front_long)
+  pub front_fits : (offset count : ℕ) → offset + count ≤ length front → count ≡ min count (n - offset)
+  front_fits offset count fits = omega (arith, fits, front_long)
 
   -- and is a part of the filled input
-  pub front_part : (found : List ℕ) (place count : ℕ) → place + count ≤ length front → found ≡ part front place count
+  pub front_part : (found : List ℕ) (offset count : ℕ) → offset + count ≤ length front → found ≡ part front offset count
       → length found ≡ count
-      → take count found ≡ part (filled_input n spans bytes) place count
-  front_part found place count fits at long =
-      run_part n spans bytes found place count (omega (arith, long)) (omega (arith, fits, front_long))
-      (λ i below. is (place + i) (omega (arith, fits, below, long))
-      ∙ ap Some (sym (part_at front place count i (omega (arith, below, long))) ∙ ap (λ bs. get_or bs i 0) (sym at)))
+      → take count found ≡ part (filled_input n spans bytes) offset count
+  front_part found offset count fits at long =
+      run_part n spans bytes found offset count (omega (arith, long)) (omega (arith, fits, front_long))
+      (λ i below. is (offset + i) (omega (arith, fits, below, long))
+      ∙ ap Some (sym (part_at front offset count i (omega (arith, below, long))) ∙ ap (λ bs. get_or bs i 0) (sym at)))
 
 -- ---- one part after another
 
 -- what is known from one part on
-known_turn : (n : ℕ) (spans : List Span) (k : ℕ) (other : Span) (rest : List ℕ) (place : ℕ) → k < length spans
-    → byte_in_parts n (drop k spans) rest place ≡ byte_in_parts n (get_or spans k other ∷ drop (k + 1) spans) rest place
-known_turn n spans k other rest place within =
+known_turn : (n : ℕ) (spans : List Span) (k : ℕ) (other : Span) (rest : List ℕ) (offset : ℕ) → k < length spans
+    → byte_in_parts n (drop k spans) rest offset ≡ byte_in_parts n (get_or spans k other ∷ drop (k + 1) spans) rest offset
+known_turn n spans k other rest offset within =
     let next : suc k ≡ k + 1 = omega arith in
-    ap (λ ss. byte_in_parts n ss rest place) (drop-cons spans k other within)
-    ∙ ap (λ j. byte_in_parts n (get_or spans k other ∷ drop j spans) rest place) next
+    ap (λ ss. byte_in_parts n ss rest offset) (drop-cons spans k other within)
+    ∙ ap (λ j. byte_in_parts n (get_or spans k other ∷ drop j spans) rest offset) next
 
--- a part that has not the place is left behind
-known_later : (n : ℕ) (spans : List Span) (k : ℕ) (other : Span) (rest : List ℕ) (place : ℕ) → k < length spans
-    → reaches n (get_or spans k other) place ≡ false
-    → byte_in_parts n (drop k spans) rest place
-    ≡ byte_in_parts n (drop (k + 1) spans) (drop (length_within n (get_or spans k other)) rest) place
-known_later n spans k other rest place here misses =
-    known_turn n spans k other rest place here
-    ∙ ap (λ (b : Bool). cond b (byte_of rest (place - (get_or spans k other).start))
-    (byte_in_parts n (drop (k + 1) spans) (drop (length_within n (get_or spans k other)) rest) place)) misses
+-- a part that has not the offset is left behind
+known_later : (n : ℕ) (spans : List Span) (k : ℕ) (other : Span) (rest : List ℕ) (offset : ℕ) → k < length spans
+    → reaches n (get_or spans k other) offset ≡ false
+    → byte_in_parts n (drop k spans) rest offset
+    ≡ byte_in_parts n (drop (k + 1) spans) (drop (length_within n (get_or spans k other)) rest) offset
+known_later n spans k other rest offset here misses =
+    known_turn n spans k other rest offset here
+    ∙ ap (λ (b : Bool). cond b (byte_of rest (offset - (get_or spans k other).start))
+    (byte_in_parts n (drop (k + 1) spans) (drop (length_within n (get_or spans k other)) rest) offset)) misses
 
 -- and one that has it gives its byte
-known_here : (n : ℕ) (spans : List Span) (k : ℕ) (other : Span) (rest : List ℕ) (place : ℕ) → k < length spans
-    → reaches n (get_or spans k other) place ≡ true
-    → byte_in_parts n (drop k spans) rest place ≡ byte_of rest (place - (get_or spans k other).start)
-known_here n spans k other rest place here has =
-    known_turn n spans k other rest place here
-    ∙ ap (λ (b : Bool). cond b (byte_of rest (place - (get_or spans k other).start))
-    (byte_in_parts n (drop (k + 1) spans) (drop (length_within n (get_or spans k other)) rest) place)) has
+known_here : (n : ℕ) (spans : List Span) (k : ℕ) (other : Span) (rest : List ℕ) (offset : ℕ) → k < length spans
+    → reaches n (get_or spans k other) offset ≡ true
+    → byte_in_parts n (drop k spans) rest offset ≡ byte_of rest (offset - (get_or spans k other).start)
+known_here n spans k other rest offset here has =
+    known_turn n spans k other rest offset here
+    ∙ ap (λ (b : Bool). cond b (byte_of rest (offset - (get_or spans k other).start))
+    (byte_in_parts n (drop (k + 1) spans) (drop (length_within n (get_or spans k other)) rest) offset)) has
 
 -- the bytes of a part of some bytes
 pub front_known : (rest : List ℕ) (offset most i : ℕ) → i < length (part rest offset most)
@@ -145,85 +145,85 @@ front_none rest offset most some none =
     let there : leb (suc offset) (length rest) ≡ false = grind (arith, nat_tests) in
     ap (λ (b : Bool). is_some (cond b (Some (get_or rest offset 0)) None)) there
 
--- the parts before one have none of so many places from one on
+-- the parts before one have none of so many offsets from one on
 abbrev pub NoneBefore : ℕ → List Span → ℕ → List ℕ → List ℕ → ℕ → ℕ → Type 0
-NoneBefore n spans k bytes rest place most =
+NoneBefore n spans k bytes rest offset most =
     (0 < most) × ((i : ℕ) → i < most
-    → byte_in_parts n spans bytes (place + i) ≡ byte_in_parts n (drop k spans) rest (place + i))
+    → byte_in_parts n spans bytes (offset + i) ≡ byte_in_parts n (drop k spans) rest (offset + i))
 
--- a place that a part has not, and those behind it up to where the part begins
-misses_more : (start len place most left i : ℕ) → (leb start place && leb (suc (place - start)) len) ≡ false
-    → left ≡ cond (leb (suc place) start) (min most (start - place)) most → i < left
-    → ((leb start (place + i) && leb (suc (place + i - start)) len) ≡ false) × (i < most)
-misses_more start len place most left i misses is below = by_test (leb (suc place) start) refl is where
-  by_test : (test : Bool) → leb (suc place) start ≡ test → left ≡ cond test (min most (start - place)) most
-      → ((leb start (place + i) && leb (suc (place + i - start)) len) ≡ false) × (i < most)
-  by_test true early few = let before : place < start = grind (arith, nat_tests) in (
-    let off : leb start (place + i) ≡ false =
-        (let far : place + i < start = omega (arith, few, below) in grind (arith, nat_tests)) in
-        ap (λ (b : Bool). b && leb (suc (place + i - start)) len) off,
+-- an offset that a part has not, and those behind it up to where the part begins
+misses_more : (start len offset most left i : ℕ) → (leb start offset && leb (suc (offset - start)) len) ≡ false
+    → left ≡ cond (leb (suc offset) start) (min most (start - offset)) most → i < left
+    → ((leb start (offset + i) && leb (suc (offset + i - start)) len) ≡ false) × (i < most)
+misses_more start len offset most left i misses is below = by_test (leb (suc offset) start) refl is where
+  by_test : (test : Bool) → leb (suc offset) start ≡ test → left ≡ cond test (min most (start - offset)) most
+      → ((leb start (offset + i) && leb (suc (offset + i - start)) len) ≡ false) × (i < most)
+  by_test true early few = let before : offset < start = grind (arith, nat_tests) in (
+    let off : leb start (offset + i) ≡ false =
+        (let far : offset + i < start = omega (arith, few, below) in grind (arith, nat_tests)) in
+        ap (λ (b : Bool). b && leb (suc (offset + i - start)) len) off,
     omega (arith, few, below),
   )
-  by_test false late few = let begun : start ≤ place = grind (arith, nat_tests) in
-      (let over : len ≤ place - start = grind (arith, nat_tests) in grind (arith, nat_tests), omega (arith, few, below))
+  by_test false late few = let begun : start ≤ offset = grind (arith, nat_tests) in
+      (let over : len ≤ offset - start = grind (arith, nat_tests) in grind (arith, nat_tests), omega (arith, few, below))
 
-left_some : (place start most left : ℕ) → left ≡ cond (leb (suc place) start) (min most (start - place)) most → 0 < most
+left_some : (offset start most left : ℕ) → left ≡ cond (leb (suc offset) start) (min most (start - offset)) most → 0 < most
     → 0 < left
-left_some place start most left is some = by_test (leb (suc place) start) refl is where
-  by_test : (test : Bool) → leb (suc place) start ≡ test → left ≡ cond test (min most (start - place)) most → 0 < left
-  by_test true early few = let before : place < start = grind (arith, nat_tests) in omega (arith, few, before, some)
+left_some offset start most left is some = by_test (leb (suc offset) start) refl is where
+  by_test : (test : Bool) → leb (suc offset) start ≡ test → left ≡ cond test (min most (start - offset)) most → 0 < left
+  by_test true early few = let before : offset < start = grind (arith, nat_tests) in omega (arith, few, before, some)
   by_test false late few = omega (arith, few, some)
 
-pub none_more : (n : ℕ) (spans : List Span) (k : ℕ) (other : Span) (bytes rest after : List ℕ) (place most left len : ℕ)
+pub none_more : (n : ℕ) (spans : List Span) (k : ℕ) (other : Span) (bytes rest after : List ℕ) (offset most left len : ℕ)
     → k < length spans
-    → NoneBefore n spans k bytes rest place most → len ≡ length_within n (get_or spans k other)
-    → (leb (get_or spans k other).start place && leb (suc (place - (get_or spans k other).start)) len) ≡ false
-    → left ≡ cond (leb (suc place) (get_or spans k other).start) (min most ((get_or spans k other).start - place)) most
-    → after ≡ drop len rest → NoneBefore n spans (k + 1) bytes after place left
-none_more n spans k other bytes rest after place most left len here so_far is_len misses is_left is_after = (
-  left_some place (get_or spans k other).start most left is_left so_far.0,
+    → NoneBefore n spans k bytes rest offset most → len ≡ length_within n (get_or spans k other)
+    → (leb (get_or spans k other).start offset && leb (suc (offset - (get_or spans k other).start)) len) ≡ false
+    → left ≡ cond (leb (suc offset) (get_or spans k other).start) (min most ((get_or spans k other).start - offset)) most
+    → after ≡ drop len rest → NoneBefore n spans (k + 1) bytes after offset left
+none_more n spans k other bytes rest after offset most left len here so_far is_len misses is_left is_after = (
+  left_some offset (get_or spans k other).start most left is_left so_far.0,
   λ i below.
-      let more = misses_more (get_or spans k other).start len place most left i misses is_left below in
-      let no : reaches n (get_or spans k other) (place + i) ≡ false =
-      ap (λ l. leb (get_or spans k other).start (place + i) && leb (suc (place + i - (get_or spans k other).start)) l)
+      let more = misses_more (get_or spans k other).start len offset most left i misses is_left below in
+      let no : reaches n (get_or spans k other) (offset + i) ≡ false =
+      ap (λ l. leb (get_or spans k other).start (offset + i) && leb (suc (offset + i - (get_or spans k other).start)) l)
       (sym is_len) ∙ more.0 in
-      so_far.1 i more.1 ∙ known_later n spans k other rest (place + i) here no
-      ∙ ap (λ bs. byte_in_parts n (drop (k + 1) spans) bs (place + i))
+      so_far.1 i more.1 ∙ known_later n spans k other rest (offset + i) here no
+      ∙ ap (λ bs. byte_in_parts n (drop (k + 1) spans) bs (offset + i))
       (ap (λ l. drop l rest) (sym is_len) ∙ sym is_after),
 )
 
-module _ (n : ℕ) (spans : List Span) (k : ℕ) (other : Span) (bytes rest run : List ℕ) (place most len : ℕ)
+module _ (n : ℕ) (spans : List Span) (k : ℕ) (other : Span) (bytes rest run : List ℕ) (offset most len : ℕ)
     (here : k < length spans)
-    (so_far : NoneBefore n spans k bytes rest place most) (is_len : len ≡ length_within n (get_or spans k other))
-    (has : (leb (get_or spans k other).start place && leb (suc (place - (get_or spans k other).start)) len) ≡ true)
-    (runs : run ≡ part rest (place - (get_or spans k other).start)
-    (min most (len - (place - (get_or spans k other).start)))) where
-  pub found_run : (i : ℕ) → i < length run → byte_in_parts n spans bytes (place + i) ≡ Some (get_or run i 0)
+    (so_far : NoneBefore n spans k bytes rest offset most) (is_len : len ≡ length_within n (get_or spans k other))
+    (has : (leb (get_or spans k other).start offset && leb (suc (offset - (get_or spans k other).start)) len) ≡ true)
+    (runs : run ≡ part rest (offset - (get_or spans k other).start)
+    (min most (len - (offset - (get_or spans k other).start)))) where
+  pub found_run : (i : ℕ) → i < length run → byte_in_parts n spans bytes (offset + i) ≡ Some (get_or run i 0)
   found_run i below =
       let start : ℕ = (get_or spans k other).start in
-      let m : ℕ = min most (len - (place - start)) in
-      let within_run : i < length (part rest (place - start) m) = subst (λ r. i < length r) runs below in
-      let small : i < m = omega (arith, within_run, part_length rest (place - start) m) in
-      let begun : start ≤ place = grind (arith, nat_tests) in
-      let also : (leb start (place + i) && leb (suc (place + i - start)) len) ≡ true =
-      (let fits : place + i - start < len = omega (arith, small, begun) in grind (arith, nat_tests)) in
-      let yes : reaches n (get_or spans k other) (place + i) ≡ true =
-      ap (λ l. leb start (place + i) && leb (suc (place + i - start)) l) (sym is_len) ∙ also in
-      let same : place + i - start ≡ place - start + i = omega (arith, begun) in
-      so_far.1 i (omega (arith, small)) ∙ known_here n spans k other rest (place + i) here yes ∙ ap (byte_of rest) same
-      ∙ front_known rest (place - start) m i within_run ∙ ap (λ r. Some (get_or r i 0)) (sym runs)
+      let m : ℕ = min most (len - (offset - start)) in
+      let within_run : i < length (part rest (offset - start) m) = subst (λ r. i < length r) runs below in
+      let small : i < m = omega (arith, within_run, part_length rest (offset - start) m) in
+      let begun : start ≤ offset = grind (arith, nat_tests) in
+      let also : (leb start (offset + i) && leb (suc (offset + i - start)) len) ≡ true =
+      (let fits : offset + i - start < len = omega (arith, small, begun) in grind (arith, nat_tests)) in
+      let yes : reaches n (get_or spans k other) (offset + i) ≡ true =
+      ap (λ l. leb start (offset + i) && leb (suc (offset + i - start)) l) (sym is_len) ∙ also in
+      let same : offset + i - start ≡ offset - start + i = omega (arith, begun) in
+      so_far.1 i (omega (arith, small)) ∙ known_here n spans k other rest (offset + i) here yes ∙ ap (byte_of rest) same
+      ∙ front_known rest (offset - start) m i within_run ∙ ap (λ r. Some (get_or r i 0)) (sym runs)
 
-  pub found_none : length run ≡ 0 → is_some (byte_in_parts n spans bytes place) ≡ false
+  pub found_none : length run ≡ 0 → is_some (byte_in_parts n spans bytes offset) ≡ false
   found_none none =
       let start : ℕ = (get_or spans k other).start in
-      let m : ℕ = min most (len - (place - start)) in
-      let begun : start ≤ place = grind (arith, nat_tests) in
-      let fits : place - start < len = grind (arith, nat_tests) in
-      let yes : reaches n (get_or spans k other) place ≡ true =
-      ap (λ l. leb start place && leb (suc (place - start)) l) (sym is_len) ∙ has in
-      let at : place + 0 ≡ place = omega arith in
+      let m : ℕ = min most (len - (offset - start)) in
+      let begun : start ≤ offset = grind (arith, nat_tests) in
+      let fits : offset - start < len = grind (arith, nat_tests) in
+      let yes : reaches n (get_or spans k other) offset ≡ true =
+      ap (λ l. leb start offset && leb (suc (offset - start)) l) (sym is_len) ∙ has in
+      let at : offset + 0 ≡ offset = omega arith in
       let first = subst (λ p. byte_in_parts n spans bytes p ≡ byte_in_parts n (drop k spans) rest p) at
       (so_far.1 0 so_far.0) in
       let some : 0 < m = omega (arith, so_far.0, fits) in
-      ap is_some (first ∙ known_here n spans k other rest place here yes)
-      ∙ front_none rest (place - start) m some (ap length (sym runs) ∙ none)
+      ap is_some (first ∙ known_here n spans k other rest offset here yes)
+      ∙ front_none rest (offset - start) m some (ap length (sym runs) ∙ none)

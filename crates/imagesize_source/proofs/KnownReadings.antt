@@ -80,16 +80,16 @@ module _ (n : ℕ) (spans : List Span) (bytes : List ℕ) (log : List Span) (mis
       })
 
   -- one that misses a byte
-  fails : {X : Type 0} (reads : Reads X) (b : State) (w : Missing) (place m : ℕ)
-      → b ≡ parts_state n spans bytes (log ++ span_at place (w.start - place)) (Some w) → reads.marks ≡ span_at place m
+  fails : {X : Type 0} (reads : Reads X) (b : State) (w : Missing) (offset m : ℕ)
+      → b ≡ parts_state n spans bytes (log ++ span_at offset (w.start - offset)) (Some w) → reads.marks ≡ span_at offset m
       → 0 < m
-      → place ≤ w.start → w.start + w.sure ≤ place + m
+      → offset ≤ w.start → w.start + w.sure ≤ offset + m
       → Runs (parts_state n spans bytes log missed) b (Err Failed) reads
-  fails {X} reads b w place m after marks some behind within =
+  fails {X} reads b w offset m after marks some behind within =
       subst (λ s. Runs (parts_state n spans bytes log missed) s (Err Failed) reads)
       (sym after) (record {
         sound = parts_sound n spans bytes log missed;
-        sound_after = parts_sound n spans bytes (log ++ span_at place (w.start - place)) (Some w);
+        sound_after = parts_sound n spans bytes (log ++ span_at offset (w.start - offset)) (Some w);
         frame = refl;
         taken = omega arith;
         within = λ honest. omega arith;
@@ -99,10 +99,10 @@ module _ (n : ℕ) (spans : List Span) (bytes : List ℕ) (log : List Span) (mis
         misses = λ honest faults. record {
           told = record {
             made = [];
-            mark = record { start = place; len = m };
+            mark = record { start = offset; len = m };
             rest = [];
             recorded = refl;
-            all = marks ∙ span-some place m some;
+            all = marks ∙ span-some offset m some;
             behind = behind;
             within = within;
           };
@@ -111,126 +111,126 @@ module _ (n : ℕ) (spans : List Span) (bytes : List ℕ) (log : List Span) (mis
       })
 
   -- how long a reading of k bytes is
-  wanted_is : (place k wanted : ℕ) → wanted ≡ min k (n - place)
-      → wanted ≡ min k (length (filled_input n spans bytes) - place)
-  wanted_is place k wanted is = is ∙ ap (λ m. min k (m - place)) (sym (length-filled_input n spans bytes))
+  wanted_is : (offset k wanted : ℕ) → wanted ≡ min k (n - offset)
+      → wanted ≡ min k (length (filled_input n spans bytes) - offset)
+  wanted_is offset k wanted is = is ∙ ap (λ m. min k (m - offset)) (sym (length-filled_input n spans bytes))
 
-  span_is : (place k wanted : ℕ) → wanted ≡ min k (n - place)
-      → span_of (filled_input n spans bytes) place k ≡ span_at place wanted
+  span_is : (offset k wanted : ℕ) → wanted ≡ min k (n - offset)
+      → span_of (filled_input n spans bytes) offset k ≡ span_at offset wanted
   unfolding span_of
-  span_is place k wanted is = ap (span_at place) (sym (wanted_is place k wanted is))
+  span_is offset k wanted is = ap (span_at offset) (sym (wanted_is offset k wanted is))
 
-  pub parts_read : (b : State) (room : List ℕ) (place wanted found : ℕ) → wanted ≡ min (length room) (n - place)
+  pub parts_read : (b : State) (buffer : List ℕ) (offset wanted found : ℕ) → wanted ≡ min (length buffer) (n - offset)
       → found ≤ wanted
-      → wanted ≤ found → take found room ≡ part (filled_input n spans bytes) place found
-      → b ≡ parts_state n spans bytes (log ++ span_at place found) missed
-      → Runs (parts_state n spans bytes log missed) b (Ok (take found room))
-      (part_read (filled_input n spans bytes) place (length room))
-  parts_read b room place wanted found long fits all copied after =
+      → wanted ≤ found → take found buffer ≡ part (filled_input n spans bytes) offset found
+      → b ≡ parts_state n spans bytes (log ++ span_at offset found) missed
+      → Runs (parts_state n spans bytes log missed) b (Ok (take found buffer))
+      (part_read (filled_input n spans bytes) offset (length buffer))
+  parts_read b buffer offset wanted found long fits all copied after =
       let same : found ≡ wanted = omega (arith, fits, all) in
-      answers (part_read (filled_input n spans bytes) place (length room)) b (take found room)
+      answers (part_read (filled_input n spans bytes) offset (length buffer)) b (take found buffer)
       (after ∙ ap (λ s. parts_state n spans bytes (log ++ s) missed)
-      (sym (span_is place (length room) found (same ∙ long))))
-      (ap Ok (part_whole (filled_input n spans bytes) place (length room) found
-      (wanted_is place (length room) found (same ∙ long)) ∙ sym copied))
+      (sym (span_is offset (length buffer) found (same ∙ long))))
+      (ap Ok (part_whole (filled_input n spans bytes) offset (length buffer) found
+      (wanted_is offset (length buffer) found (same ∙ long)) ∙ sym copied))
 
   -- what was found is what lies before the missing byte
-  found_before : (place found : ℕ) (w : Missing) → w.start ≡ place + found → found ≡ w.start - place
-  found_before place found w at = omega (arith, at)
+  found_before : (offset found : ℕ) (w : Missing) → w.start ≡ offset + found → found ≡ w.start - offset
+  found_before offset found w at = omega (arith, at)
 
-  pub parts_missing : (b : State) (k place wanted found : ℕ) (w : Missing) → wanted ≡ min k (n - place) → found < wanted
-      → w.start ≡ place + found → w.sure ≡ wanted - found
-      → b ≡ parts_state n spans bytes (log ++ span_at place found) (Some w)
+  pub parts_missing : (b : State) (k offset wanted found : ℕ) (w : Missing) → wanted ≡ min k (n - offset) → found < wanted
+      → w.start ≡ offset + found → w.sure ≡ wanted - found
+      → b ≡ parts_state n spans bytes (log ++ span_at offset found) (Some w)
       → Runs {X = List ℕ} (parts_state n spans bytes log missed) b (Err Failed)
-      (part_read (filled_input n spans bytes) place k)
-  parts_missing b k place wanted found w long short at sure after =
-      fails (part_read (filled_input n spans bytes) place k) b w place wanted
-      (after ∙ ap (λ i. parts_state n spans bytes (log ++ span_at place i) (Some w)) (found_before place found w at))
-      (span_is place k wanted long) (omega (arith, short)) (omega (arith, at)) (omega (arith, at, sure, short))
+      (part_read (filled_input n spans bytes) offset k)
+  parts_missing b k offset wanted found w long short at sure after =
+      fails (part_read (filled_input n spans bytes) offset k) b w offset wanted
+      (after ∙ ap (λ i. parts_state n spans bytes (log ++ span_at offset i) (Some w)) (found_before offset found w at))
+      (span_is offset k wanted long) (omega (arith, short)) (omega (arith, at)) (omega (arith, at, sure, short))
 
   -- the text that a reading has, by its bytes so far
-  whole_text : (place k wanted found : ℕ) → wanted ≡ min k (n - place) → found ≤ wanted
-      → part (filled_input n spans bytes) place k ≡ part (filled_input n spans bytes) place found
-      ++ drop found (part (filled_input n spans bytes) place wanted)
-  whole_text place k wanted found long fits =
-      part_whole (filled_input n spans bytes) place k wanted (wanted_is place k wanted long)
-      ∙ sym (take-append-drop found (part (filled_input n spans bytes) place wanted))
-      ∙ ap (λ bs. bs ++ drop found (part (filled_input n spans bytes) place wanted))
-      (part_front (filled_input n spans bytes) place found wanted fits)
+  whole_text : (offset k wanted found : ℕ) → wanted ≡ min k (n - offset) → found ≤ wanted
+      → part (filled_input n spans bytes) offset k ≡ part (filled_input n spans bytes) offset found
+      ++ drop found (part (filled_input n spans bytes) offset wanted)
+  whole_text offset k wanted found long fits =
+      part_whole (filled_input n spans bytes) offset k wanted (wanted_is offset k wanted long)
+      ∙ sym (take-append-drop found (part (filled_input n spans bytes) offset wanted))
+      ∙ ap (λ bs. bs ++ drop found (part (filled_input n spans bytes) offset wanted))
+      (part_front (filled_input n spans bytes) offset found wanted fits)
 
-  part_long : (place k wanted : ℕ) → wanted ≡ min k (n - place)
-      → length (part (filled_input n spans bytes) place wanted) ≡ wanted
-  part_long place k wanted long = part_length (filled_input n spans bytes) place wanted
+  part_long : (offset k wanted : ℕ) → wanted ≡ min k (n - offset)
+      → length (part (filled_input n spans bytes) offset wanted) ≡ wanted
+  part_long offset k wanted long = part_length (filled_input n spans bytes) offset wanted
       ∙ omega (arith, long, length-filled_input n spans bytes)
 
-  text_is : (t : Text) (place k wanted found : ℕ) → wanted ≡ min k (n - place) → found ≤ wanted
-      → leb (suc found) wanted && not (is_ended t (part (filled_input n spans bytes) place found)) ≡ false
-      → text_part (filled_input n spans bytes) t place k ≡ text_front t (part (filled_input n spans bytes) place found)
+  text_is : (t : Text) (offset k wanted found : ℕ) → wanted ≡ min k (n - offset) → found ≤ wanted
+      → leb (suc found) wanted && not (is_ended t (part (filled_input n spans bytes) offset found)) ≡ false
+      → text_part (filled_input n spans bytes) t offset k ≡ text_front t (part (filled_input n spans bytes) offset found)
   unfolding text_part
-  text_is t place k wanted found long fits uncut =
-      by_end (is_ended t (part (filled_input n spans bytes) place found)) refl where
-        by_end : (is : Bool) → is_ended t (part (filled_input n spans bytes) place found) ≡ is
-            → text_front t (part (filled_input n spans bytes) place k)
-            ≡ text_front t (part (filled_input n spans bytes) place found)
-        by_end true is = ap (text_front t) (whole_text place k wanted found long fits)
-            ∙ front_more t (part (filled_input n spans bytes) place found)
-            (drop found (part (filled_input n spans bytes) place wanted)) is
+  text_is t offset k wanted found long fits uncut =
+      by_end (is_ended t (part (filled_input n spans bytes) offset found)) refl where
+        by_end : (is : Bool) → is_ended t (part (filled_input n spans bytes) offset found) ≡ is
+            → text_front t (part (filled_input n spans bytes) offset k)
+            ≡ text_front t (part (filled_input n spans bytes) offset found)
+        by_end true is = ap (text_front t) (whole_text offset k wanted found long fits)
+            ∙ front_more t (part (filled_input n spans bytes) offset found)
+            (drop found (part (filled_input n spans bytes) offset wanted)) is
         by_end false is =
             let test : leb (suc found) wanted && true ≡ false = ap (λ b. leb (suc found) wanted && not b) (sym is)
             ∙ uncut in
             let all : found ≡ wanted = grind (arith, nat_tests) in
-            ap (text_front t) (part_whole (filled_input n spans bytes) place k found
-            (all ∙ wanted_is place k wanted long))
+            ap (text_front t) (part_whole (filled_input n spans bytes) offset k found
+            (all ∙ wanted_is offset k wanted long))
 
-  pub parts_text : (b : State) (t : Text) (room : List ℕ) (place wanted found count : ℕ)
-      → wanted ≡ min (length room) (n - place)
-      → found ≤ wanted → take found room ≡ part (filled_input n spans bytes) place found
-      → leb (suc found) wanted && not (is_ended t (take found room)) ≡ false
-      → count ≡ length (text_front t (take found room))
-      → b ≡ parts_state n spans bytes (log ++ span_at place count) missed
-      → Runs (parts_state n spans bytes log missed) b (Ok (take count room))
-      (text_read (filled_input n spans bytes) t place (length room))
-  parts_text b t room place wanted found count long fits copied uncut counts after =
+  pub parts_text : (b : State) (t : Text) (buffer : List ℕ) (offset wanted found count : ℕ)
+      → wanted ≡ min (length buffer) (n - offset)
+      → found ≤ wanted → take found buffer ≡ part (filled_input n spans bytes) offset found
+      → leb (suc found) wanted && not (is_ended t (take found buffer)) ≡ false
+      → count ≡ length (text_front t (take found buffer))
+      → b ≡ parts_state n spans bytes (log ++ span_at offset count) missed
+      → Runs (parts_state n spans bytes log missed) b (Ok (take count buffer))
+      (text_read (filled_input n spans bytes) t offset (length buffer))
+  parts_text b t buffer offset wanted found count long fits copied uncut counts after =
       let d : List ℕ = filled_input n spans bytes in
-      let is : text_part d t place (length room) ≡ text_front t (take found room) =
-      text_is t place (length room) wanted found long fits
+      let is : text_part d t offset (length buffer) ≡ text_front t (take found buffer) =
+      text_is t offset (length buffer) wanted found long fits
       (ap (λ bs. leb (suc found) wanted && not (is_ended t bs)) (sym copied) ∙ uncut)
       ∙ ap (text_front t) (sym copied) in
-      let few : count ≤ found = omega (arith, counts, front_length t (take found room), length-take found room) in
-      let got : take count room ≡ text_front t (take found room) =
-      sym (take-take count found room few) ∙ ap (λ k. take k (take found room)) counts
-      ∙ front_take t (take found room) in
-      answers (text_read d t place (length room)) b (take count room)
-      (after ∙ ap (λ k. parts_state n spans bytes (log ++ span_at place k) missed) (counts ∙ ap length (sym is)))
+      let few : count ≤ found = omega (arith, counts, front_length t (take found buffer), length-take found buffer) in
+      let got : take count buffer ≡ text_front t (take found buffer) =
+      sym (take-take count found buffer few) ∙ ap (λ k. take k (take found buffer)) counts
+      ∙ front_take t (take found buffer) in
+      answers (text_read d t offset (length buffer)) b (take count buffer)
+      (after ∙ ap (λ k. parts_state n spans bytes (log ++ span_at offset k) missed) (counts ∙ ap length (sym is)))
       (ap Ok (is ∙ sym got))
 
-  pub parts_text_missing : (b : State) (t : Text) (room : List ℕ) (place k wanted found : ℕ) (w : Missing)
-      → wanted ≡ min k (n - place) → found ≤ wanted → take found room ≡ part (filled_input n spans bytes) place found
-      → leb (suc found) wanted && not (is_ended t (take found room)) ≡ true → w.start ≡ place + found
-      → w.sure ≡ 1 → b ≡ parts_state n spans bytes (log ++ span_at place found) (Some w)
+  pub parts_text_missing : (b : State) (t : Text) (buffer : List ℕ) (offset k wanted found : ℕ) (w : Missing)
+      → wanted ≡ min k (n - offset) → found ≤ wanted → take found buffer ≡ part (filled_input n spans bytes) offset found
+      → leb (suc found) wanted && not (is_ended t (take found buffer)) ≡ true → w.start ≡ offset + found
+      → w.sure ≡ 1 → b ≡ parts_state n spans bytes (log ++ span_at offset found) (Some w)
       → Runs {X = List ℕ} (parts_state n spans bytes log missed) b (Err Failed)
-      (text_read (filled_input n spans bytes) t place k)
+      (text_read (filled_input n spans bytes) t offset k)
   unfolding text_part
-  parts_text_missing b t room place k wanted found w long fits copied cut at sure after =
+  parts_text_missing b t buffer offset k wanted found w long fits copied cut at sure after =
       let d : List ℕ = filled_input n spans bytes in
-      let bs : List ℕ = part d place found in
-      let short : found < wanted = cut_short (is_ended t (take found room)) cut in
+      let bs : List ℕ = part d offset found in
+      let short : found < wanted = cut_short (is_ended t (take found buffer)) cut in
       let still : is_ended t bs ≡ false = ap (is_ended t) (sym copied)
-      ∙ cut_open (leb (suc found) wanted) (is_ended t (take found room)) cut in
-      let long_bs : length bs ≡ found = part_length d place found
+      ∙ cut_open (leb (suc found) wanted) (is_ended t (take found buffer)) cut in
+      let long_bs : length bs ≡ found = part_length d offset found
       ∙ omega (arith, long, short, length-filled_input n spans bytes) in
-      let more : 0 < length (drop found (part d place wanted)) =
-      omega (arith, length-drop found (part d place wanted), part_long place k wanted long, short) in
-      let behind : found < length (text_front t (part d place k)) =
+      let more : 0 < length (drop found (part d offset wanted)) =
+      omega (arith, length-drop found (part d offset wanted), part_long offset k wanted long, short) in
+      let behind : found < length (text_front t (part d offset k)) =
       omega (
         arith,
-        goes_behind t bs (drop found (part d place wanted)) still more,
+        goes_behind t bs (drop found (part d offset wanted)) still more,
         long_bs,
-        ap (λ xs. length (text_front t xs)) (whole_text place k wanted found long fits),
+        ap (λ xs. length (text_front t xs)) (whole_text offset k wanted found long fits),
       ) in
-      let m : ℕ = length (text_front t (part d place k)) in
-      fails (text_read d t place k) b w place m
-      (after ∙ ap (λ i. parts_state n spans bytes (log ++ span_at place i) (Some w)) (found_before place found w at))
+      let m : ℕ = length (text_front t (part d offset k)) in
+      fails (text_read d t offset k) b w offset m
+      (after ∙ ap (λ i. parts_state n spans bytes (log ++ span_at offset i) (Some w)) (found_before offset found w at))
       refl (omega (arith, behind)) (omega (arith, at)) (omega (arith, at, sure, behind))
     where
       cut_short : (is : Bool) → leb (suc found) wanted && not is ≡ true → found < wanted
@@ -253,12 +253,12 @@ state_is n m spans others bytes content log more missed also told is_spans is_by
     ∙ ap (λ x. parts_state n spans x more also) is_bytes ∙ ap (λ x. parts_state n spans bytes x also) is_log
     ∙ ap (parts_state n spans bytes log) is_missed
 
--- a room whose front was written
+-- a buffer whose front was written
 -- whether the bytes that were found are cut, by how many they are
-pub cut_is : (room : List ℕ) (found wanted place told : ℕ) (cut ended : Bool)
-    → wanted ≡ min (length room) (told - place)
-    → found ≤ wanted → cut ≡ (leb (suc (length (take found room))) wanted && not ended)
+pub cut_is : (buffer : List ℕ) (found wanted offset told : ℕ) (cut ended : Bool)
+    → wanted ≡ min (length buffer) (told - offset)
+    → found ≤ wanted → cut ≡ (leb (suc (length (take found buffer))) wanted && not ended)
     → leb (suc found) wanted && not ended ≡ cut
-cut_is room found wanted place told cut ended long few is =
-    let same : length (take found room) ≡ found = length-take found room ∙ omega (arith, long, few) in
+cut_is buffer found wanted offset told cut ended long few is =
+    let same : length (take found buffer) ≡ found = length-take found buffer ∙ omega (arith, long, few) in
     ap (λ k. leb (suc k) wanted && not ended) (sym same) ∙ sym is

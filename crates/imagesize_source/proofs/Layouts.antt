@@ -62,11 +62,11 @@ pub over-bind : {X Y : Type 0} (d : List ℕ) (t : Layout X) (f : X → Layout Y
     → layout_reads d (bind t f) ≡ and_then (layout_reads d t) (λ x. layout_reads d (f x))
 over-bind d (done x) f = refl
 over-bind d (refuse e) f = refl
-over-bind d (field order place k g) f =
-    onward-and_then (span_of d place k) (number_at d order place k) (λ v. layout_reads d (g v))
+over-bind d (field order offset k g) f =
+    onward-and_then (span_of d offset k) (number_at d order offset k) (λ v. layout_reads d (g v))
     (λ x. layout_reads d (f x)) (λ v. layout_reads d (bind (g v) f)) (λ v. over-bind d (g v) f)
-over-bind d (reading r place g) f =
-    onward-and_then (read_of d r place).marks (read_of d r place).answer (λ bs. layout_reads d (g bs))
+over-bind d (reading r offset g) f =
+    onward-and_then (read_of d r offset).marks (read_of d r offset).answer (λ bs. layout_reads d (g bs))
     (λ x. layout_reads d (f x)) (λ bs. layout_reads d (bind (g bs) f)) (λ bs. over-bind d (g bs) f)
 over-bind d (begin_record t) f = ap (after_records 1) (over-bind d t f)
 
@@ -77,33 +77,33 @@ whole-some : (k : ℕ) (bs : List ℕ) → length bs < k → whole k bs ≡ None
 whole-some k bs short = grind (arith, nat_tests)
 
 -- of a reading: all of the bytes are there, or some are missing
-pub whole_read : {a b : State} (d room : List ℕ) (place n : ℕ) → n ≤ length room
-    → Runs a b (Ok (take n room)) (part_read d place (length room))
-    → Runs a b (Ok (some_where room (eqb n (length room)))) (layout_reads d (if_there place (length room) done))
-whole_read {a} {b} d room place n fits h = by_test (eqb n (length room)) refl where
-  by_test : (all : Bool) → eqb n (length room) ≡ all
-      → Runs a b (Ok (some_where room all)) (layout_reads d (if_there place (length room) done))
+pub whole_read : {a b : State} (d buffer : List ℕ) (offset n : ℕ) → n ≤ length buffer
+    → Runs a b (Ok (take n buffer)) (part_read d offset (length buffer))
+    → Runs a b (Ok (some_where buffer (eqb n (length buffer)))) (layout_reads d (if_there offset (length buffer) done))
+whole_read {a} {b} d buffer offset n fits h = by_test (eqb n (length buffer)) refl where
+  by_test : (all : Bool) → eqb n (length buffer) ≡ all
+      → Runs a b (Ok (some_where buffer all)) (layout_reads d (if_there offset (length buffer) done))
   by_test true is =
-      let same : take n room ≡ room = take_all n room (grind (arith, nat_tests)) in
-      answered (Ok (Some room)) (layout_reads d (if_there place (length room) done)) h (append-nil _)
-      (λ read. ap (λ bs. Ok (whole (length room) bs)) (part_is read ∙ same)
-      ∙ ap Ok (whole-all (length room) room (omega arith)))
+      let same : take n buffer ≡ buffer = take_all n buffer (grind (arith, nat_tests)) in
+      answered (Ok (Some buffer)) (layout_reads d (if_there offset (length buffer) done)) h (append-nil _)
+      (λ read. ap (λ bs. Ok (whole (length buffer) bs)) (part_is read ∙ same)
+      ∙ ap Ok (whole-all (length buffer) buffer (omega arith)))
       refl refl tt
   by_test false is =
-      let short : n < length room = grind (arith, nat_tests) in
-      answered (Ok None) (layout_reads d (if_there place (length room) done)) h (append-nil _)
-      (λ read. ap Ok (whole-some (length room) (part d place (length room))
-      (omega (arith, length-take n room, ap length (part_is read)))))
+      let short : n < length buffer = grind (arith, nat_tests) in
+      answered (Ok None) (layout_reads d (if_there offset (length buffer) done)) h (append-nil _)
+      (λ read. ap Ok (whole-some (length buffer) (part d offset (length buffer))
+      (omega (arith, length-take n buffer, ap length (part_is read)))))
       refl refl tt
 
 -- a reading that was stopped found none
-pub whole_stopped : {X : Type 0} {a b : State} (d : List ℕ) (place k : ℕ) (found : X → Option (List ℕ))
+pub whole_stopped : {X : Type 0} {a b : State} (d : List ℕ) (offset k : ℕ) (found : X → Option (List ℕ))
     (r : Result X Halt) (why : Halt)
-    → r ≡ Err why → Runs {X = List ℕ} a b (Err why) (part_read d place k)
-    → Runs a b (map_answer found r) (layout_reads d (if_there place k done))
-whole_stopped {a = a} {b = b} d place k found r why is h =
-    subst (λ s. Runs a b (map_answer found s) (layout_reads d (if_there place k done))) (sym is)
-    (runs_refused (part_read d place k) (λ bs. gives (whole k bs)) h)
+    → r ≡ Err why → Runs {X = List ℕ} a b (Err why) (part_read d offset k)
+    → Runs a b (map_answer found r) (layout_reads d (if_there offset k done))
+whole_stopped {a = a} {b = b} d offset k found r why is h =
+    subst (λ s. Runs a b (map_answer found s) (layout_reads d (if_there offset k done))) (sym is)
+    (runs_refused (part_read d offset k) (λ bs. gives (whole k bs)) h)
 
 -- readings that are others' where the source is honest
 pub runs_as : {X : Type 0} {a b : State} {r : Result X Halt} {reads : Reads X} (other : Reads X) → Runs a b r reads
@@ -127,12 +127,12 @@ pub by_told : {X : Type 0} {a b : State} {r : Result X Halt} (f : ℕ → Reads 
 by_told {a} f h = runs_as (f (length a.held.input)) h (λ honest. ap (λ n. uncounted (f n)) (h.sound honest).0)
 
 -- behind the end nothing is there
-pub no_part : (d : List ℕ) (place k : ℕ) → length d ≤ place → part d place k ≡ []
+pub no_part : (d : List ℕ) (offset k : ℕ) → length d ≤ offset → part d offset k ≡ []
 unfolding part
-no_part d place k put_behind = ap (take k) (drop_all place d put_behind) ∙ take-nil k
+no_part d offset k put_behind = ap (take k) (drop_all offset d put_behind) ∙ take-nil k
 
-pub no_span : (d : List ℕ) (place k : ℕ) → length d ≤ place → span_of d place k ≡ []
+pub no_span : (d : List ℕ) (offset k : ℕ) → length d ≤ offset → span_of d offset k ≡ []
 unfolding span_of span_at
-no_span d place k put_behind = let none : min k (length d - place) ≡ 0 = omega arith in rw none refl
+no_span d offset k put_behind = let none : min k (length d - offset) ≡ 0 = omega arith in rw none refl
 
 pub ruleset binding = (over-bind)

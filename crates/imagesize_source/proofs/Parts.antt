@@ -4,30 +4,30 @@ use Rattle.std.proofs.lemmas.List.{length-take, length-drop, get_or-take, get_or
 use Rattle.imagesize_source.specs.Input.{part}
 
 -- how many of k bytes there are
-pub part_length : (d : List ℕ) (place k : ℕ) → length (part d place k) ≡ min k (length d - place)
+pub part_length : (d : List ℕ) (offset k : ℕ) → length (part d offset k) ≡ min k (length d - offset)
 unfolding part
-part_length d place k = length-take k (drop place d) ∙ ap (min k) (length-drop place d)
+part_length d offset k = length-take k (drop offset d) ∙ ap (min k) (length-drop offset d)
 
 -- parts of inputs of one length are of one length
-pub parts_long : (d e : List ℕ) (place k : ℕ) → length e ≡ length d → length (part e place k) ≡ length (part d place k)
-parts_long d e place k long = part_length e place k ∙ ap (λ m. min k (m - place)) long ∙ sym (part_length d place k)
+pub parts_long : (d e : List ℕ) (offset k : ℕ) → length e ≡ length d → length (part e offset k) ≡ length (part d offset k)
+parts_long d e offset k long = part_length e offset k ∙ ap (λ m. min k (m - offset)) long ∙ sym (part_length d offset k)
 
-pub part_none : (d : List ℕ) (place : ℕ) → part d place 0 ≡ []
+pub part_none : (d : List ℕ) (offset : ℕ) → part d offset 0 ≡ []
 unfolding part
-part_none d place = refl
+part_none d offset = refl
 
 -- the bytes of a part are those of the input
-pub part_at : (d : List ℕ) (place k i : ℕ) → i < k → get_or (part d place k) i 0 ≡ slice_index d (place + i)
+pub part_at : (d : List ℕ) (offset k i : ℕ) → i < k → get_or (part d offset k) i 0 ≡ slice_index d (offset + i)
 unfolding part
-part_at d place k i below = get_or-take k (drop place d) i 0 below ∙ get_or-drop place d i 0
+part_at d offset k i below = get_or-take k (drop offset d) i 0 below ∙ get_or-drop offset d i 0
 
 -- the first of a part
-pub part_front : (d : List ℕ) (place j k : ℕ) → j ≤ k → take j (part d place k) ≡ part d place j
+pub part_front : (d : List ℕ) (offset j k : ℕ) → j ≤ k → take j (part d offset k) ≡ part d offset j
 unfolding part
-part_front d place j k few = take-take j k (drop place d) few
+part_front d offset j k few = take-take j k (drop offset d) few
 
 -- no more of a part is there than its input has
-pub part_whole : (d : List ℕ) (place k m : ℕ) → m ≡ min k (length d - place) → part d place k ≡ part d place m
+pub part_whole : (d : List ℕ) (offset k m : ℕ) → m ≡ min k (length d - offset) → part d offset k ≡ part d offset m
 unfolding part
-part_whole d place k m is =
-    sym (take_min k (drop place d)) ∙ ap (λ j. take j (drop place d)) (ap (min k) (length-drop place d) ∙ sym is)
+part_whole d offset k m is =
+    sym (take_min k (drop offset d)) ∙ ap (λ j. take j (drop offset d)) (ap (min k) (length-drop offset d) ∙ sym is)

@@ -208,11 +208,11 @@ module _ {C X : Type 0} (c : Chain C X) (adv : (d : List ℕ) → Advances c d) 
   read : a.held.honest ≡ true → next_record c b.held.input t ≡ next_record c a.held.input t
   read honest = ap (λ d. next_record c d t) (same_input h honest)
 
-  -- goes on by a record that tells the place of the next
-  pub walk_on : {end : State} (v : C) (place : ℕ) → Runs b end (Ok (Next v place)) (next_record c b.held.input t)
-      → Reached a end whole (chain_from c a.held.input (record { held = t.held ++ v ∷ []; place = place }))
-  walk_on v place run =
-      reached_step (next_record c a.held.input t) (follows c a.held.input t.held) unfolded (Next v place)
+  -- goes on by a record that tells the offset of the next
+  pub walk_on : {end : State} (v : C) (offset : ℕ) → Runs b end (Ok (Next v offset)) (next_record c b.held.input t)
+      → Reached a end whole (chain_from c a.held.input (record { held = t.held ++ v ∷ []; offset = offset }))
+  walk_on v offset run =
+      reached_step (next_record c a.held.input t) (follows c a.held.input t.held) unfolded (Next v offset)
       (next_record c b.held.input t) run read
 
   -- ends by one that decides

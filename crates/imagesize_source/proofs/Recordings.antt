@@ -19,9 +19,9 @@ past-recording d spans (s ∷ more) home = past-recording d (spans ++ s ∷ []) 
     ∙ ap (λ t. recording_state d t home) (append_assoc spans (s ∷ []) more)
 
 -- the span of a reading, by how many bytes it saw
-span_is : (d : List ℕ) (place k m n : ℕ) → n ≡ min k (length d - place) → m ≡ k → span_at place n ≡ span_of d place m
+span_is : (d : List ℕ) (offset k m n : ℕ) → n ≡ min k (length d - offset) → m ≡ k → span_at offset n ≡ span_of d offset m
 unfolding span_of
-span_is d place k m n count same = ap (span_at place) (count ∙ ap (λ j. min j (length d - place)) (sym same))
+span_is d offset k m n count same = ap (span_at offset) (count ∙ ap (λ j. min j (length d - offset)) (sym same))
 
 same_state : (d e : List ℕ) (spans after : List Span) (home there : ℕ) → e ≡ d → after ≡ spans → there ≡ home
     → recording_state e after there ≡ recording_state d spans home
@@ -40,27 +40,27 @@ recording_runs {X} {reads} d e spans after home there x short bytes name is reco
     ∙ sym (past-recording d spans reads.marks home))
 
 -- a reading of bytes
-pub recording_reads : (d e room old : List ℕ) (spans after : List Span) (home there : ℕ) (place n : ℕ)
-    → length d < 2 ^ 63 → e ≡ d → there ≡ home → n ≡ min (length old) (length d - place)
-    → room ≡ part d place (length old) ++ drop n old → length room ≡ length old → after ≡ spans ++ span_at place n → Runs
-    (recording_state d spans home) (recording_state e after there) (Ok (take n room))
-    (part_read d place (length room))
-recording_reads d e room old spans after home there place n short bytes name count copied kept recorded =
-    recording_runs d e spans after home there (take n room) short bytes name
-    (ap Ok (sym (front_is d room old place n count copied kept)))
-    (recorded ∙ ap (λ s. spans ++ s) (span_is d place (length old) (length room) n count kept))
+pub recording_reads : (d e buffer old : List ℕ) (spans after : List Span) (home there : ℕ) (offset n : ℕ)
+    → length d < 2 ^ 63 → e ≡ d → there ≡ home → n ≡ min (length old) (length d - offset)
+    → buffer ≡ part d offset (length old) ++ drop n old → length buffer ≡ length old → after ≡ spans ++ span_at offset n → Runs
+    (recording_state d spans home) (recording_state e after there) (Ok (take n buffer))
+    (part_read d offset (length buffer))
+recording_reads d e buffer old spans after home there offset n short bytes name count copied kept recorded =
+    recording_runs d e spans after home there (take n buffer) short bytes name
+    (ap Ok (sym (front_is d buffer old offset n count copied kept)))
+    (recorded ∙ ap (λ s. spans ++ s) (span_is d offset (length old) (length buffer) n count kept))
 
 -- a reading of a text
 pub recording_reads_text : (d e old copied found : List ℕ) (t : Text) (spans after : List Span) (home there : ℕ)
-    (place : ℕ) → length d < 2 ^ 63 → e ≡ d → there ≡ home → found ≡ text_part d t place (length old) → length found ≤ length old
-    → copied ≡ found → after ≡ spans ++ span_at place (length found) → Runs (recording_state d spans home)
+    (offset : ℕ) → length d < 2 ^ 63 → e ≡ d → there ≡ home → found ≡ text_part d t offset (length old) → length found ≤ length old
+    → copied ≡ found → after ≡ spans ++ span_at offset (length found) → Runs (recording_state d spans home)
     (recording_state e after there) (Ok (take (length found) (copied ++ drop (length found) old)))
-    (text_read d t place (length (copied ++ drop (length found) old)))
-recording_reads_text d e old copied found t spans after home there place short bytes name is fits same recorded =
-    let front = copied_is d old copied found t place is fits same in
+    (text_read d t offset (length (copied ++ drop (length found) old)))
+recording_reads_text d e old copied found t spans after home there offset short bytes name is fits same recorded =
+    let front = copied_is d old copied found t offset is fits same in
     recording_runs d e spans after home there (take (length found) (copied ++ drop (length found) old)) short bytes name
     (ap Ok (sym (front.0 ∙ front.1)))
-    (recorded ∙ ap (λ bs. spans ++ span_at place (length bs)) front.1)
+    (recorded ∙ ap (λ bs. spans ++ span_at offset (length bs)) front.1)
 
 -- one span more is held
 pub written_on : (buffer spans log : List Span) (s : Span) → log ≡ spans ++ s ∷ [] → Holds buffer (spans ++ s ∷ []) → Holds buffer log

@@ -53,46 +53,46 @@ pub part_is : {xs ys : List ℕ} → ◌≡◌ {A = Result (List ℕ) Halt} (Ok 
 part_is e = cc
 
 -- all of k bytes are there, or not
-all_there : (d : List ℕ) (place k : ℕ) → k ≤ length (part d place k) → leb k (length d - place) ≡ true
-all_there d place k all = let n = part_length d place k in grind (arith, nat_tests)
+all_there : (d : List ℕ) (offset k : ℕ) → k ≤ length (part d offset k) → leb k (length d - offset) ≡ true
+all_there d offset k all = let n = part_length d offset k in grind (arith, nat_tests)
 
-not_there : (d : List ℕ) (place k : ℕ) → length (part d place k) < k → leb k (length d - place) ≡ false
-not_there d place k short = let n = part_length d place k in grind (arith, nat_tests)
+not_there : (d : List ℕ) (offset k : ℕ) → length (part d offset k) < k → leb k (length d - offset) ≡ false
+not_there d offset k short = let n = part_length d offset k in grind (arith, nat_tests)
 
 -- a reading that gave all of its bytes
-pub bytes_there : {a b : State} (d room : List ℕ) (place k n : ℕ)
-    → Runs a b (Ok (take n room)) (part_read d place (length room))
-    → length room ≡ k → k ≤ n → Runs a b (Ok room) (bytes_read d place k)
+pub bytes_there : {a b : State} (d buffer : List ℕ) (offset k n : ℕ)
+    → Runs a b (Ok (take n buffer)) (part_read d offset (length buffer))
+    → length buffer ≡ k → k ≤ n → Runs a b (Ok buffer) (bytes_read d offset k)
 unfolding bytes_at
-bytes_there {a} {b} d room place k n h long all =
-    let same : take n room ≡ room = take_all n room (omega arith) in
-    answered (Ok room) (bytes_read d place k) h (ap (span_of d place) (sym long))
+bytes_there {a} {b} d buffer offset k n h long all =
+    let same : take n buffer ≡ buffer = take_all n buffer (omega arith) in
+    answered (Ok buffer) (bytes_read d offset k) h (ap (span_of d offset) (sym long))
     (λ is.
-    let got : part d place (length room) ≡ room = part_is is ∙ same in
-    let enough : leb k (length d - place) ≡ true = all_there d place k (rw (← long) (omega (arith, ap length got))) in
+    let got : part d offset (length buffer) ≡ buffer = part_is is ∙ same in
+    let enough : leb k (length d - offset) ≡ true = all_there d offset k (rw (← long) (omega (arith, ap length got))) in
     rw enough (ap Ok (rw (← long) got)))
     refl refl tt
 
 -- a reading that gave too few
-pub bytes_missing : {a b : State} (d room : List ℕ) (place k n : ℕ)
-    → Runs a b (Ok (take n room)) (part_read d place (length room))
-    → length room ≡ k → n < k → Runs a b (Err Ended) (bytes_read d place k)
+pub bytes_missing : {a b : State} (d buffer : List ℕ) (offset k n : ℕ)
+    → Runs a b (Ok (take n buffer)) (part_read d offset (length buffer))
+    → length buffer ≡ k → n < k → Runs a b (Err Ended) (bytes_read d offset k)
 unfolding bytes_at
-bytes_missing {a} {b} d room place k n h long short =
-    answered (Err Ended) (bytes_read d place k) h (ap (span_of d place) (sym long))
+bytes_missing {a} {b} d buffer offset k n h long short =
+    answered (Err Ended) (bytes_read d offset k) h (ap (span_of d offset) (sym long))
     (λ is.
-    let got : length (part d place (length room)) ≡ min n (length room) = ap length (part_is is) ∙ length-take n room in
-    let too_few : leb k (length d - place) ≡ false = not_there d place k (rw (← long) (omega arith)) in
+    let got : length (part d offset (length buffer)) ≡ min n (length buffer) = ap length (part_is is) ∙ length-take n buffer in
+    let too_few : leb k (length d - offset) ≡ false = not_there d offset k (rw (← long) (omega arith)) in
     rw too_few refl)
     refl refl (record { budget = λ e. absurd cc; fault = λ e. absurd cc })
 
 -- a reading that was stopped gave none
-pub bytes_stopped : {X : Type 0} {a b : State} (d : List ℕ) (place k : ℕ) (bytes : X → List ℕ) (r : Result X Halt)
+pub bytes_stopped : {X : Type 0} {a b : State} (d : List ℕ) (offset k : ℕ) (bytes : X → List ℕ) (r : Result X Halt)
     (why : Halt)
-    → r ≡ Err why → Runs {X = List ℕ} a b (Err why) (part_read d place k)
-    → Runs a b (map_answer bytes r) (bytes_read d place k)
-bytes_stopped {a = a} {b = b} d place k bytes r why is h =
-    subst (λ s. Runs a b (map_answer bytes s) (bytes_read d place k)) (sym is) (record {
+    → r ≡ Err why → Runs {X = List ℕ} a b (Err why) (part_read d offset k)
+    → Runs a b (map_answer bytes r) (bytes_read d offset k)
+bytes_stopped {a = a} {b = b} d offset k bytes r why is h =
+    subst (λ s. Runs a b (map_answer bytes s) (bytes_read d offset k)) (sym is) (record {
       sound = h.sound;
       sound_after = h.sound_after;
       frame = h.frame;
@@ -106,20 +106,20 @@ bytes_stopped {a = a} {b = b} d place k bytes r why is h =
     })
 
 -- the number of bytes that were read
-pub number_there : {a b : State} (d bs : List ℕ) (order : Endian) (place k v : ℕ)
-    → Runs a b (Ok bs) (bytes_read d place k)
-    → v ≡ number order bs → Runs a b (Ok v) (number_read d order place k)
+pub number_there : {a b : State} (d bs : List ℕ) (order : Endian) (offset k v : ℕ)
+    → Runs a b (Ok bs) (bytes_read d offset k)
+    → v ≡ number order bs → Runs a b (Ok v) (number_read d order offset k)
 unfolding number_at
-number_there {a} {b} d bs order place k v h is =
-    answered (Ok v) (number_read d order place k) h refl
+number_there {a} {b} d bs order offset k v h is =
+    answered (Ok v) (number_read d order offset k) h refl
     (λ read. ap (map_answer (number order)) read ∙ ap Ok (sym is)) refl refl tt
 
 -- a refused reading has no number
-pub number_missing : {a b : State} (d : List ℕ) (order : Endian) (place k : ℕ) (e : Halt)
-    → Runs a b (Err e) (bytes_read d place k)
-    → Runs a b (Err e) (number_read d order place k)
+pub number_missing : {a b : State} (d : List ℕ) (order : Endian) (offset k : ℕ) (e : Halt)
+    → Runs a b (Err e) (bytes_read d offset k)
+    → Runs a b (Err e) (number_read d order offset k)
 unfolding number_at
-number_missing {a} {b} d order place k e h = record {
+number_missing {a} {b} d order offset k e h = record {
   sound = h.sound;
   sound_after = h.sound_after;
   frame = h.frame;

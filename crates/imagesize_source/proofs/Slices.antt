@@ -18,13 +18,13 @@ unfolding state_after
 past-slice d [] = refl
 past-slice d (s ∷ spans) = past-slice d spans
 
-pub front_is : (d room old : List ℕ) (place n : ℕ) → n ≡ min (length old) (length d - place)
-    → room ≡ part d place (length old)
-    ++ drop n old → length room ≡ length old → take n room ≡ part d place (length room)
-front_is d room old place n count copied kept =
-    let same : length (part d place (length old)) ≡ n = part_length d place (length old) ∙ sym count in
-    ap (take n) copied ∙ ap (λ k. take k (part d place (length old) ++ drop n old)) (sym same) ∙ take-append_seam
-    (part d place (length old)) (drop n old) ∙ ap (part d place) (sym kept)
+pub front_is : (d buffer old : List ℕ) (offset n : ℕ) → n ≡ min (length old) (length d - offset)
+    → buffer ≡ part d offset (length old)
+    ++ drop n old → length buffer ≡ length old → take n buffer ≡ part d offset (length buffer)
+front_is d buffer old offset n count copied kept =
+    let same : length (part d offset (length old)) ≡ n = part_length d offset (length old) ∙ sym count in
+    ap (take n) copied ∙ ap (λ k. take k (part d offset (length old) ++ drop n old)) (sym same) ∙ take-append_seam
+    (part d offset (length old)) (drop n old) ∙ ap (part d offset) (sym kept)
 
 -- a reading that was answered, and for which nothing was taken
 pub given_runs : {X : Type 0} {a b : State} {reads : Reads X} (x : X) → IsSound a → IsSound b → b.frame ≡ a.frame
@@ -50,71 +50,71 @@ slice_runs : {reads : Reads (List ℕ)} (d got : List ℕ) → length d < 2 ^ 63
 slice_runs {reads} d got short is = given_runs got (λ honest. (refl, short)) (λ honest. (refl, short)) refl refl is
     (sym (past-slice d reads.marks))
 
--- a reading of a slice, from a place that is the one asked for
-pub slice_reads : (d room old : List ℕ) (place from n : ℕ) → length d < 2 ^ 63 → n ≡ min (length old) (length d - from)
-    → room ≡ part d from (length old) ++ drop n old → length room ≡ length old → from ≡ place
+-- a reading of a slice, from an offset that is the one asked for
+pub slice_reads : (d buffer old : List ℕ) (offset from n : ℕ) → length d < 2 ^ 63 → n ≡ min (length old) (length d - from)
+    → buffer ≡ part d from (length old) ++ drop n old → length buffer ≡ length old → from ≡ offset
     → Runs (slice_state d) (slice_state d)
-    (Ok (take n room)) (part_read d place (length room))
-slice_reads d room old place from n short count copied kept there = slice_runs d (take n room) short
-    (ap Ok (ap (λ p. part d p (length room)) (sym there) ∙ sym (front_is d room old from n count copied kept)))
+    (Ok (take n buffer)) (part_read d offset (length buffer))
+slice_reads d buffer old offset from n short count copied kept there = slice_runs d (take n buffer) short
+    (ap Ok (ap (λ p. part d p (length buffer)) (sym there) ∙ sym (front_is d buffer old from n count copied kept)))
 
--- what is there of the bytes from a place on, by the slices that the code takes
-pub slice_part : (d : List ℕ) (place first k n : ℕ) → first ≡ min place (length d)
+-- what is there of the bytes from an offset on, by the slices that the code takes
+pub slice_part : (d : List ℕ) (offset first k n : ℕ) → first ≡ min offset (length d)
     → n ≡ min (length (take (length d - first) (drop first d))) k
-    → take n (take (length d - first) (drop first d)) ≡ part d place k
+    → take n (take (length d - first) (drop first d)) ≡ part d offset k
 unfolding part
-slice_part d place first k n first_is n_is =
+slice_part d offset first k n first_is n_is =
     let rest : take (length d - first) (drop first d) ≡ drop first d = take_all (length d - first) (drop first d)
     (omega (arith, length-drop first d)) in
-    let same : drop first d ≡ drop place d = drop_min d place first first_is in
-    let long : n ≡ min k (length (drop place d)) = n_is ∙ ap (λ xs. min (length xs) k) (rest ∙ same) ∙ omega arith in
-    ap (λ xs. take n xs) (rest ∙ same) ∙ ap (λ m. take m (drop place d)) long ∙ take_min k (drop place d)
+    let same : drop first d ≡ drop offset d = drop_min d offset first first_is in
+    let long : n ≡ min k (length (drop offset d)) = n_is ∙ ap (λ xs. min (length xs) k) (rest ∙ same) ∙ omega arith in
+    ap (λ xs. take n xs) (rest ∙ same) ∙ ap (λ m. take m (drop offset d)) long ∙ take_min k (drop offset d)
   where
-    drop_min : (d : List ℕ) (place first : ℕ) → first ≡ min place (length d) → drop first d ≡ drop place d
-    drop_min d place first is = elim (cases_lt (length d) place) [
-      | inl beyond ↦ drop_all first d (omega (arith, is, beyond)) ∙ sym (drop_all place d (omega (arith, beyond)))
-      | inr within ↦ (let same : first ≡ place = omega (arith, is, within) in ap (λ n. drop n d) same)
+    drop_min : (d : List ℕ) (offset first : ℕ) → first ≡ min offset (length d) → drop first d ≡ drop offset d
+    drop_min d offset first is = elim (cases_lt (length d) offset) [
+      | inl beyond ↦ drop_all first d (omega (arith, is, beyond)) ∙ sym (drop_all offset d (omega (arith, beyond)))
+      | inr within ↦ (let same : first ≡ offset = omega (arith, is, within) in ap (λ n. drop n d) same)
     ]
 
 -- the text in it
-pub slice_text : (d found : List ℕ) (t : Text) (place from k m : ℕ) → found ≡ part d from k
+pub slice_text : (d found : List ℕ) (t : Text) (offset from k m : ℕ) → found ≡ part d from k
     → m ≡ length (text_front t found)
-    → from ≡ place → take m found ≡ text_part d t place k
+    → from ≡ offset → take m found ≡ text_part d t offset k
 unfolding text_part
-slice_text d found t place from k m found_is m_is there = ap (λ j. take j found) m_is ∙ front_take t found
+slice_text d found t offset from k m found_is m_is there = ap (λ j. take j found) m_is ∙ front_take t found
     ∙ ap (text_front t) (found_is ∙ ap (λ p. part d p k) there)
 
 -- how long it is
-pub slice_text_fits : (d found : List ℕ) (t : Text) (place from k m : ℕ) → found ≡ part d from k
+pub slice_text_fits : (d found : List ℕ) (t : Text) (offset from k m : ℕ) → found ≡ part d from k
     → m ≡ length (text_front t found)
-    → from ≡ place → length (take m found) ≤ k
-slice_text_fits d found t place from k m found_is m_is there =
+    → from ≡ offset → length (take m found) ≤ k
+slice_text_fits d found t offset from k m found_is m_is there =
     omega (
       arith,
       ap length
-          (slice_text d found t place from k m found_is m_is there),
-      text_length d t place k,
-      part_length d place k,
+          (slice_text d found t offset from k m found_is m_is there),
+      text_length d t offset k,
+      part_length d offset k,
     )
 
-pub slice_text_there : (d found : List ℕ) (t : Text) (place from k m : ℕ) → found ≡ part d from k
+pub slice_text_there : (d found : List ℕ) (t : Text) (offset from k m : ℕ) → found ≡ part d from k
     → m ≡ length (text_front t found)
-    → from ≡ place → 0 < length (take m found) → place < length d
-slice_text_there d found t place from k m found_is m_is there some =
+    → from ≡ offset → 0 < length (take m found) → offset < length d
+slice_text_there d found t offset from k m found_is m_is there some =
     omega (
       arith,
       some,
       ap length
-          (slice_text d found t place from k m found_is m_is there),
-      text_length d t place k,
-      part_length d place k,
+          (slice_text d found t offset from k m found_is m_is there),
+      text_length d t offset k,
+      part_length d offset k,
     )
 
 -- what was copied of a text is the text
-pub copied_is : (d old copied found : List ℕ) (t : Text) (place : ℕ) → found ≡ text_part d t place (length old)
+pub copied_is : (d old copied found : List ℕ) (t : Text) (offset : ℕ) → found ≡ text_part d t offset (length old)
     → length found ≤ length old → copied ≡ found → (take (length found) (copied ++ drop (length found) old) ≡ found)
-    × (found ≡ text_part d t place (length (copied ++ drop (length found) old)))
-copied_is d old copied found t place is fits same =
+    × (found ≡ text_part d t offset (length (copied ++ drop (length found) old)))
+copied_is d old copied found t offset is fits same =
     let kept : length (copied ++ drop (length found) old) ≡ length old = omega (
       arith,
       length-append copied (drop (length found) old),
@@ -124,15 +124,15 @@ copied_is d old copied found t place is fits same =
     ) in (
       ap (λ bs. take (length found) (bs ++ drop (length found) old)) same
           ∙ take-append_seam found (drop (length found) old),
-      is ∙ ap (text_part d t place) (sym kept),
+      is ∙ ap (text_part d t offset) (sym kept),
     )
 
 -- the reading of a text of a slice
-pub slice_reads_text : (d old copied found : List ℕ) (t : Text) (place : ℕ) → length d < 2 ^ 63
-    → found ≡ text_part d t place
+pub slice_reads_text : (d old copied found : List ℕ) (t : Text) (offset : ℕ) → length d < 2 ^ 63
+    → found ≡ text_part d t offset
     (length old) → length found ≤ length old → copied ≡ found → Runs (slice_state d) (slice_state d)
     (Ok (take (length found) (copied ++ drop (length found) old)))
-    (text_read d t place (length (copied ++ drop (length found) old)))
-slice_reads_text d old copied found t place short is fits same =
-    let front = copied_is d old copied found t place is fits same in
+    (text_read d t offset (length (copied ++ drop (length found) old)))
+slice_reads_text d old copied found t offset short is fits same =
+    let front = copied_is d old copied found t offset is fits same in
     slice_runs d (take (length found) (copied ++ drop (length found) old)) short (ap Ok (sym (front.0 ∙ front.1)))

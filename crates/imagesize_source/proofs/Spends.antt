@@ -13,12 +13,12 @@ use Rattle.imagesize_source.proofs.Counts.{text_length, total-span_at, total_the
 use Rattle.imagesize_source.proofs.Runs.{part_is, total-append}
 use Rattle.imagesize_source.proofs.Parts.{part_length}
 
--- how many of n bytes are left from a place on, or none where nothing goes on
+-- how many of n bytes are left from an offset on, or none where nothing goes on
 abbrev pub left_of : ℕ → Option ℕ → ℕ
 left_of n None = 0
-left_of n (Some place) = n - place
+left_of n (Some offset) = n - offset
 
--- how many are left behind an answer, from the place where it goes on
+-- how many are left behind an answer, from the offset where it goes on
 abbrev pub left : {X : Type 0} → ℕ → (X → Option ℕ) → Result X Halt → ℕ
 left n to (Ok x) = left_of n (to x)
 left n to (Err e) = 0
@@ -30,9 +30,9 @@ Spends n q to r = total r.marks + left n to r.answer ≤ n - q
 -- nothing goes on, or it does at q or behind it
 abbrev pub NotBefore : ℕ → Option ℕ → Type 0
 NotBefore q None = Unit {0}
-NotBefore q (Some place) = q ≤ place
+NotBefore q (Some offset) = q ≤ offset
 
--- how many places behind its own a reading leads
+-- how many offsets behind its own a reading leads
 abbrev pub passed : Reading → List ℕ → ℕ
 passed (AllOf k) bs = k
 passed (PartOf k) bs = k
@@ -42,36 +42,36 @@ passed (TextOf t k) bs = length bs
 abbrev pub Onto : {X : Type 0} → (X → Option ℕ) → ℕ → Layout X → Type 0
 Onto to q (done x) = NotBefore q (to x)
 Onto to q (refuse e) = Unit {0}
-Onto to q (field order place k f) = (q ≤ place) × ((v : ℕ) → Onto to (place + k) (f v))
-Onto to q (reading r place f) = (q ≤ place) × ((bs : List ℕ) → Onto to (place + passed r bs) (f bs))
+Onto to q (field order offset k f) = (q ≤ offset) × ((v : ℕ) → Onto to (offset + k) (f v))
+Onto to q (reading r offset f) = (q ≤ offset) × ((bs : List ℕ) → Onto to (offset + passed r bs) (f bs))
 Onto to q (begin_record t) = Onto to q t
 
 not_before_left : (n q : ℕ) (next : Option ℕ) → NotBefore q next → left_of n next ≤ n - q
 not_before_left n q None h = omega arith
-not_before_left n q (Some place) h = omega arith
+not_before_left n q (Some offset) h = omega arith
 
--- a reading has no more bytes than there are behind its place
-reading_left : (d : List ℕ) (r : Reading) (place : ℕ) → total (read_of d r place).marks ≤ length d - place
-reading_left d (AllOf k) place = omega (arith, total_there d place k)
-reading_left d (PartOf k) place = omega (arith, total_there d place k)
-reading_left d (TextOf t k) place = omega (
+-- a reading has no more bytes than there are behind its offset
+reading_left : (d : List ℕ) (r : Reading) (offset : ℕ) → total (read_of d r offset).marks ≤ length d - offset
+reading_left d (AllOf k) offset = omega (arith, total_there d offset k)
+reading_left d (PartOf k) offset = omega (arith, total_there d offset k)
+reading_left d (TextOf t k) offset = omega (
   arith,
-  total-span_at place (length (text_part d t place k)),
-  text_length d t place k,
-  part_length d place k,
+  total-span_at offset (length (text_part d t offset k)),
+  text_length d t offset k,
+  part_length d offset k,
 )
 
 -- and leaves those behind them
-reading_spends : (d : List ℕ) (r : Reading) (place : ℕ) (bs : List ℕ) → (read_of d r place).answer ≡ Ok bs
-    → total (read_of d r place).marks + (length d - (place + passed r bs)) ≤ length d - place
-reading_spends d (AllOf k) place bs is = omega (arith, total_there d place k)
-reading_spends d (PartOf k) place bs is = omega (arith, total_there d place k)
-reading_spends d (TextOf t k) place bs is = omega (
+reading_spends : (d : List ℕ) (r : Reading) (offset : ℕ) (bs : List ℕ) → (read_of d r offset).answer ≡ Ok bs
+    → total (read_of d r offset).marks + (length d - (offset + passed r bs)) ≤ length d - offset
+reading_spends d (AllOf k) offset bs is = omega (arith, total_there d offset k)
+reading_spends d (PartOf k) offset bs is = omega (arith, total_there d offset k)
+reading_spends d (TextOf t k) offset bs is = omega (
   arith,
   ap length (part_is is),
-  total-span_at place (length (text_part d t place k)),
-  text_length d t place k,
-  part_length d place k,
+  total-span_at offset (length (text_part d t offset k)),
+  text_length d t offset k,
+  part_length d offset k,
 )
 
 onward_spends : {X Y : Type 0} (n q : ℕ) (to : Y → Option ℕ) (spans : List Span) (r : Result X Halt) (f : X → Reads Y)
@@ -86,49 +86,49 @@ pub spends : {X : Type 0} (d : List ℕ) (to : X → Option ℕ) (q : ℕ) (t : 
     → Spends (length d) q to (layout_reads d t)
 spends d to q (done x) h = omega (arith, not_before_left (length d) q (to x) h)
 spends d to q (refuse e) h = omega arith
-spends d to q (field order place k f) h =
-    onward_spends (length d) q to (span_of d place k) (number_at d order place k) (λ v. layout_reads d (f v))
-    (λ _. place + k)
-    (omega (arith, h.0, total_there d place k)) (λ v _. omega (arith, h.0, total_there d place k))
-    (λ v _. spends d to (place + k) (f v) (h.1 v))
-spends d to q (reading r place f) h =
-    onward_spends (length d) q to (read_of d r place).marks (read_of d r place).answer (λ bs. layout_reads d (f bs))
-    (λ bs. place + passed r bs)
-    (omega (arith, h.0, reading_left d r place)) (λ bs is. omega (arith, h.0, reading_spends d r place bs is))
-    (λ bs _. spends d to (place + passed r bs) (f bs) (h.1 bs))
+spends d to q (field order offset k f) h =
+    onward_spends (length d) q to (span_of d offset k) (number_at d order offset k) (λ v. layout_reads d (f v))
+    (λ _. offset + k)
+    (omega (arith, h.0, total_there d offset k)) (λ v _. omega (arith, h.0, total_there d offset k))
+    (λ v _. spends d to (offset + k) (f v) (h.1 v))
+spends d to q (reading r offset f) h =
+    onward_spends (length d) q to (read_of d r offset).marks (read_of d r offset).answer (λ bs. layout_reads d (f bs))
+    (λ bs. offset + passed r bs)
+    (omega (arith, h.0, reading_left d r offset)) (λ bs is. omega (arith, h.0, reading_spends d r offset bs is))
+    (λ bs _. spends d to (offset + passed r bs) (f bs) (h.1 bs))
 spends d to q (begin_record t) h = spends d to q t h
 
--- readings, and others that go on from the place where they lead
+-- readings, and others that go on from the offset where they lead
 pub spends_then : {X Y : Type 0} (n q : ℕ) (next : X → ℕ) (to : Y → Option ℕ) (r : Reads X) (f : X → Reads Y)
     → Spends n q (λ x. Some (next x)) r → ((x : X) → r.answer ≡ Ok x → Spends n (next x) to (f x))
     → Spends n q to (and_then r f)
 spends_then {X} {Y} n q next to r f first rest = onward_spends n q to r.marks r.answer f next (omega arith)
     (λ x is. let here = ap (left n (λ x. Some (next x))) is in omega arith) rest
 
--- where a chain goes on behind a record: at the place of the next, or where its answer does
+-- where a chain goes on behind a record: at the offset of the next, or where its answer does
 abbrev pub said_to : {C X : Type 0} → (X → Option ℕ) → Said C X → Option ℕ
 said_to to (Decided x) = to x
-said_to to (Next v place) = Some place
+said_to to (Next v offset) = Some offset
 
 verdict_left : {C X : Type 0} (n : ℕ) (to : X → Option ℕ) (said : Result (Said C X) Halt) (r : Result X Halt)
     → verdict said ≡ Some r → left n to r ≡ left n (said_to to) said
 verdict_left n to (Ok (Decided x)) r is = let same : r ≡ Ok x = cc in ap (left n to) same
-verdict_left n to (Ok (Next v place)) r is = absurd cc
+verdict_left n to (Ok (Next v offset)) r is = absurd cc
 verdict_left n to (Err e) r is = let same : r ≡ Err e = cc in ap (left n to) same
 
--- a chain of records that do spends the bytes from its first place on
+-- a chain of records that do spends the bytes from its first offset on
 pub chain_spends : {C X : Type 0} (c : Chain C X) (d : List ℕ) (to : X → Option ℕ) → Advances c d
-    → ((t : Along C) → Spends (length d) t.place (said_to to) (next_record c d t))
+    → ((t : Along C) → Spends (length d) t.offset (said_to to) (next_record c d t))
     → Spends (length d) c.first to (chain_at c d)
-chain_spends {C} {X} c d to adv each = chain_induction c d (λ t. Spends (length d) t.place to (chain_from c d t)) adv
-    (λ t v place is later.
-    let u : Along C = record { held = t.held ++ v ∷ []; place = place } in
-    let next = chain_next c d t v place adv is in
+chain_spends {C} {X} c d to adv each = chain_induction c d (λ t. Spends (length d) t.offset to (chain_from c d t)) adv
+    (λ t v offset is later.
+    let u : Along C = record { held = t.held ++ v ∷ []; offset = offset } in
+    let next = chain_next c d t v offset adv is in
     let all : total (chain_from c d t).marks ≡ total (next_record c d t).marks + total (chain_from c d u).marks =
     ap (λ w. total w.marks) next ∙ total-append (next_record c d t).marks (chain_from c d u).marks in
     let same : left (length d) to (chain_from c d t).answer ≡ left (length d) to (chain_from c d u).answer =
     ap (λ w. left (length d) to w.answer) next in
-    let here : left (length d) (said_to to) (next_record c d t).answer ≡ length d - place =
+    let here : left (length d) (said_to to) (next_record c d t).answer ≡ length d - offset =
     ap (left (length d) (said_to to)) is in
     omega (arith, each t))
     (λ t r is.
@@ -142,7 +142,7 @@ chain_spends {C} {X} c d to adv each = chain_induction c d (λ t. Spends (length
 
 -- by the layouts of its records, which each go forward
 pub chain_onto : {C X : Type 0} (c : Chain C X) (d : List ℕ) (to : X → Option ℕ) → Advances c d
-    → ((held : List C) (place : ℕ) → Onto (said_to to) place (c.said held place))
+    → ((held : List C) (offset : ℕ) → Onto (said_to to) offset (c.said held offset))
     → Spends (length d) c.first to (chain_at c d)
 chain_onto c d to adv each =
-    chain_spends c d to adv (λ t. spends d (said_to to) t.place (c.said t.held t.place) (each t.held t.place))
+    chain_spends c d to adv (λ t. spends d (said_to to) t.offset (c.said t.held t.offset) (each t.held t.offset))

@@ -1,4 +1,4 @@
--- A walk along a chain that can be left and gone on with: what leads to a place leads each input there that shares what was read.
+-- A walk along a chain that can be left and gone on with: what leads to an offset leads each input there that shares what was read.
 use Rattle.std.proofs.Common.{◌≡◌, ℕ, ◌^◌, ◌≤◌, List, [], ◌∷◌, ◌++◌, length, true, false, Some, Result, Ok, Err, refl, ap, ◌∙◌, sym, subst, arith}
 use Rattle.imagesize_source.specs.declared.halt.Halt.{Halt}
 use Rattle.imagesize_source.specs.declared.span.Span.{Span}
@@ -12,21 +12,21 @@ use Rattle.imagesize_source.proofs.Reached.{Reached, reached_start, reached_now,
 use Rattle.imagesize_source.proofs.Runs.{past-held, past-none, past-past, plain_end, without_fault}
 use Rattle.imagesize_source.proofs.Sharing.{leads_on}
 
--- Since a, a walk has come from the record t on to a place; it is in the state b, behind records that hold such a list.
+-- Since a, a walk has come from the record t on to an offset; it is in the state b, behind records that hold such a list.
 pub record Strides {C X : Type 0} (c : Chain C X) (P : List C → Type 0) (a b : State) (t : Along C)
-    (place : ℕ) : Type 0 where
+    (offset : ℕ) : Type 0 where
   pub held : List C
   pub known : P held
   pub reached : Reached a b (chain_from c a.held.input t)
-      (chain_from c a.held.input (record { held = held; place = place }))
+      (chain_from c a.held.input (record { held = held; offset = offset }))
   pub made : List Span
-  pub ahead : a.held.honest ≡ true → t.place ≤ place
+  pub ahead : a.held.honest ≡ true → t.offset ≤ offset
   pub state : a.held.honest ≡ true → b ≡ state_after a made
   pub leads : a.held.honest ≡ true → (d : List ℕ) → Shares d a.held.input made
-      → uncounted (chain_from c d t) ≡ put_behind made (uncounted (chain_from c d (record { held = held; place = place })))
+      → uncounted (chain_from c d t) ≡ put_behind made (uncounted (chain_from c d (record { held = held; offset = offset })))
 
 module _ {C X : Type 0} (c : Chain C X) where
-  pub strides_start : (P : List C → Type 0) (a : State) (t : Along C) → P t.held → Strides c P a a t t.place
+  pub strides_start : (P : List C → Type 0) (a : State) (t : Along C) → P t.held → Strides c P a a t t.offset
   strides_start P a t known = record {
     held = t.held;
     known = known;
@@ -38,16 +38,16 @@ module _ {C X : Type 0} (c : Chain C X) where
   }
 
 module _ {C X : Type 0} (c : Chain C X) (adv : (d : List ℕ) → Advances c d)
-    (P : List C → Type 0) {a b : State} {t : Along C} {place : ℕ}
-    (w : Strides c P a b t place) where
+    (P : List C → Type 0) {a b : State} {t : Along C} {offset : ℕ}
+    (w : Strides c P a b t offset) where
   abbrev here : Along C
-  here = record { held = w.held; place = place }
+  here = record { held = w.held; offset = offset }
 
   read_there : a.held.honest ≡ true → next_record c b.held.input here ≡ next_record c a.held.input here
   read_there honest = ap (λ d. next_record c d here) (same_input w.reached honest)
 
   pub strides_on : {end : State} (Q : List C → Type 0) (v : C) (next : ℕ)
-      → ((held : List C) → P held → Runs b end (Ok (Next v next)) (layout_reads b.held.input (c.said held place)))
+      → ((held : List C) → P held → Runs b end (Ok (Next v next)) (layout_reads b.held.input (c.said held offset)))
       → ((held : List C) → P held → Q (held ++ v ∷ [])) → Strides c Q a end t next
   strides_on Q v next run knows = record {
     held = w.held ++ v ∷ [];
@@ -70,25 +70,25 @@ module _ {C X : Type 0} (c : Chain C X) (adv : (d : List ℕ) → Advances c d)
         leads_on c d a.held.input (adv d) (adv a.held.input) t here w.made v next (w.leads honest d) is
         (subst (λ r. Shares d a.held.input (w.made ++ r.marks)) same shares)
         ∙ ap (λ r. put_behind (w.made ++ r.marks)
-        (uncounted (chain_from c d (record { held = w.held ++ v ∷ []; place = next })))) (sym same);
+        (uncounted (chain_from c d (record { held = w.held ++ v ∷ []; offset = next })))) (sym same);
   } where
     still_held : a.held.honest ≡ true → b.held ≡ a.held
     still_held honest = ap (λ s. s.held) (w.state honest) ∙ past-held a w.made
 
   pub strides_stop : {end : State} (x : X)
-      → ((held : List C) → P held → Runs b end (Ok (Decided x)) (layout_reads b.held.input (c.said held place)))
+      → ((held : List C) → P held → Runs b end (Ok (Decided x)) (layout_reads b.held.input (c.said held offset)))
       → Runs a end (Ok x) (chain_from c a.held.input t)
   strides_stop x run = walk_stop c adv here w.reached x (run w.held w.known)
 
   pub strides_out : {end : State} (e : Halt)
-      → ((held : List C) → P held → Runs b end (Err e) (layout_reads b.held.input (c.said held place)))
+      → ((held : List C) → P held → Runs b end (Err e) (layout_reads b.held.input (c.said held offset)))
       → Runs a end (Err e) (chain_from c a.held.input t)
   strides_out e run = walk_out c adv here w.reached e (run w.held w.known)
 
   -- at an offset beyond every input nothing more is read
-  pub strides_past : (r : Result X Halt) → 2 ^ 63 ≤ place → IsSound b → is_stopped r ≡ false
-      → ((held : List C) (d : List ℕ) → P held → length d ≤ place
-      → uncounted (layout_reads d (c.said held place)) ≡ just (map_answer Decided r) [])
+  pub strides_past : (r : Result X Halt) → 2 ^ 63 ≤ offset → IsSound b → is_stopped r ≡ false
+      → ((held : List C) (d : List ℕ) → P held → length d ≤ offset
+      → uncounted (layout_reads d (c.said held offset)) ≡ just (map_answer Decided r) [])
       → Runs a b r (chain_from c a.held.input t)
   strides_past r far sound goes_on none =
       reached_now w.reached r sound (without_fault r goes_on) (plain_end b r goes_on)
@@ -102,8 +102,8 @@ module _ {C X : Type 0} (c : Chain C X) (adv : (d : List ℕ) → Advances c d)
 
   -- it stands at the record of which a reading failed
   pub strides_stand : {end : State} {e : Halt} (Q : List C → Type 0) → is_faulted {X = X} (Err e) ≡ true
-      → ((held : List C) → P held → Runs b end (Err e) (layout_reads b.held.input (c.said held place)))
-      → ((held : List C) → P held → Q held) → Stood c Q a end t place
+      → ((held : List C) → P held → Runs b end (Err e) (layout_reads b.held.input (c.said held offset)))
+      → ((held : List C) → P held → Q held) → Stood c Q a end t offset
   strides_stand {end} {e} Q faults run knows = record {
     held = w.held;
     known = knows w.held w.known;

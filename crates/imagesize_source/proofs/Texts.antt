@@ -58,7 +58,7 @@ pub line_front : (delimiter : ℕ) (bs : List ℕ)
 unfolding text_front
 line_front delimiter bs = refl
 
--- what stands at a place, as a text whose bytes begin there
+-- what stands at an offset, as a text whose bytes begin there
 cut_at : (p : ℕ → Bool) (n : ℕ) (bs : List ℕ) → List ℕ
 cut_at p n bs = take n bs ++ front_through p (drop n bs)
 

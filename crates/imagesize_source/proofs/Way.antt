@@ -18,7 +18,7 @@ AnswersLast {X} reads = (d x : List ℕ) (v : X) → (reads d).answer ≡ Ok v �
 pub answers_last : {X : Type 0} (reads : List ℕ → Reads X) → Lasts reads → AnswersLast reads
 answers_last reads stays d x v is = ap (λ r. r.answer) (stays d x v is) ∙ is
 
--- Of a format at fixed places, whose type is read from at most `first` bytes: both together are at most `most`.
+-- Of a format at fixed offsets, whose type is read from at most `first` bytes: both together are at most `most`.
 pub record FixedLaws {X : Type 0} (first most : ℕ) (layout : Layout X) : Type 0 where
   pub fits : first ≤ most
   pub few : AtMost (most - first) layout

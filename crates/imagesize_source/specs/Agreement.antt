@@ -5,18 +5,18 @@ use Rattle.imagesize_source.specs.declared.span.Span.{Span}
 use Rattle.imagesize_source.specs.Reading.{Reads}
 
 -- whether the span contains the offset
-abbrev pub has_place : Span → ℕ → Bool
-has_place s place = nat_le s.start place && nat_lt place (s.start + s.len)
+abbrev pub has_offset : Span → ℕ → Bool
+has_offset s offset = nat_le s.start offset && nat_lt offset (s.start + s.len)
 
 -- whether one of the spans contains the offset
 abbrev pub is_covered : List Span → ℕ → Bool
-is_covered [] place = false
-is_covered (s ∷ spans) place = has_place s place || is_covered spans place
+is_covered [] offset = false
+is_covered (s ∷ spans) offset = has_offset s offset || is_covered spans offset
 
 -- e has the length of d, and the same byte at each offset of each span
 pub record Agrees (d e : List ℕ) (spans : List Span) : Type 0 where
   pub as_long : length e ≡ length d
-  pub same_byte : (place : ℕ) → is_covered spans place ≡ true → slice_index e place ≡ slice_index d place
+  pub same_byte : (offset : ℕ) → is_covered spans offset ≡ true → slice_index e offset ≡ slice_index d offset
 
 -- whether one of the spans contains the whole of this one
 abbrev pub has_whole : List Span → Span → Bool
@@ -34,10 +34,10 @@ pub record Parting (texts : Bool) (d e : List ℕ) (s t : List Span) : Type 0 wh
   pub there : t ≡ seen ++ other ∷ others
   pub start : other.start ≡ mark.start
   pub same : texts ≡ false → other ≡ mark
-  pub place : ℕ
-  pub within : has_place mark place ≡ true
-  pub also : has_place other place ≡ true
-  pub differs : slice_index e place ≡ slice_index d place → ⊥
+  pub offset : ℕ
+  pub within : has_offset mark offset ≡ true
+  pub also : has_offset other offset ≡ true
+  pub differs : slice_index e offset ≡ slice_index d offset → ⊥
 
 -- the same result with the same spans, or the two inputs part
 abbrev pub Alike : {X : Type 0} → Bool → List ℕ → List ℕ → Reads X → Reads X → Type 0

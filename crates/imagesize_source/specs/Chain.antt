@@ -22,25 +22,25 @@ pub record Chain (C X : Type 0) : Type 0 where
 -- a position in the sequence: what the records before it hold, and the offset of the next record
 pub record Along (C : Type 0) : Type 0 where
   pub held : List C
-  pub place : ℕ
+  pub offset : ℕ
 
 abbrev pub start : {C X : Type 0} → Chain C X → Along C
-start c = record { held = []; place = c.first }
+start c = record { held = []; offset = c.first }
 
 -- what the next record says, with the spans of its reads
 abbrev pub next_record : {C X : Type 0} → Chain C X → List ℕ → Along C → Reads (Said C X)
-next_record c d t = layout_reads d (c.said t.held t.place)
+next_record c d t = layout_reads d (c.said t.held t.offset)
 
 -- the position after a record, or `None` if the record decides or is rejected
 abbrev pub leads : {C X : Type 0} → List C → Result (Said C X) Halt → Option (Along C)
 leads held (Ok (Decided x)) = None
-leads held (Ok (Next v place)) = Some (record { held = held ++ v ∷ []; place = place })
+leads held (Ok (Next v offset)) = Some (record { held = held ++ v ∷ []; offset = offset })
 leads held (Err e) = None
 
 -- the verdict of a record: its result, or the `Halt` that rejects it
 abbrev pub verdict : {C X : Type 0} → Result (Said C X) Halt → Option (Result X Halt)
 verdict (Ok (Decided x)) = Some (Ok x)
-verdict (Ok (Next v place)) = None
+verdict (Ok (Next v offset)) = None
 verdict (Err e) = Some (Err e)
 
 -- the position of record i, counted from position t; `None` after a verdict
@@ -81,5 +81,5 @@ chain_at c d = chain_from c d (start c)
 
 -- each record's next offset is greater than its own, and each record past the end of the input has a verdict
 abbrev pub Advances : {C X : Type 0} → Chain C X → List ℕ → Type 0
-Advances {C} c d = (t : Along C) (v : C) (place : ℕ) → (next_record c d t).answer ≡ Ok (Next v place)
-    → (t.place < place) × (t.place < length d)
+Advances {C} c d = (t : Along C) (v : C) (offset : ℕ) → (next_record c d t).answer ≡ Ok (Next v offset)
+    → (t.offset < offset) × (t.offset < length d)

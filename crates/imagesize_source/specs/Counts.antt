@@ -7,8 +7,8 @@ use Rattle.imagesize_source.specs.Layout.{Layout, done, refuse, field, reading, 
 use Rattle.imagesize_source.specs.Reading.{Reading, AllOf, PartOf, TextOf, most}
 
 -- how many of the first n offsets the spans cover, each counted once
-abbrev pub places : ℕ → List Span → ℕ
-places n spans = count_by (is_covered spans) (range_with_len 0 n)
+abbrev pub offsets : ℕ → List Span → ℕ
+offsets n spans = count_by (is_covered spans) (range_with_len 0 n)
 
 -- P for a reading of bytes; false for a reading of a text
 abbrev pub IfBytes : Reading → Type 0 → Type 0
@@ -20,8 +20,8 @@ IfBytes (TextOf t k) P = ⊥
 abbrev pub AtMost : {X : Type 0} → ℕ → Layout X → Type 0
 AtMost k (done x) = Unit {0}
 AtMost k (refuse e) = Unit {0}
-AtMost k (field order place n f) = (n ≤ k) × ((v : ℕ) → AtMost (k - n) (f v))
-AtMost k (reading r place f) = IfBytes r ((most r ≤ k) × ((bs : List ℕ) → AtMost (k - most r) (f bs)))
+AtMost k (field order offset n f) = (n ≤ k) × ((v : ℕ) → AtMost (k - n) (f v))
+AtMost k (reading r offset f) = IfBytes r ((most r ≤ k) × ((bs : List ℕ) → AtMost (k - most r) (f bs)))
 AtMost k (begin_record t) = AtMost k t
 
 -- the layout begins a record and requests at most k bytes and no text, or it begins none and requests nothing
@@ -40,6 +40,6 @@ IfRefused (TextOf t k) P Q = ⊥
 abbrev pub CostsBy : {X : Type 0} → (X → ℕ) → ℕ → ℕ → Layout X → Type 0
 CostsBy f e u (done x) = u ≤ f x
 CostsBy f e u (refuse r) = u ≤ e
-CostsBy f e u (field order place n g) = (u + n ≤ e) × ((v : ℕ) → CostsBy f e (u + n) (g v))
-CostsBy f e u (reading r place g) = IfRefused r (u + most r ≤ e) ((bs : List ℕ) → CostsBy f e (u + most r) (g bs))
+CostsBy f e u (field order offset n g) = (u + n ≤ e) × ((v : ℕ) → CostsBy f e (u + n) (g v))
+CostsBy f e u (reading r offset g) = IfRefused r (u + most r ≤ e) ((bs : List ℕ) → CostsBy f e (u + most r) (g bs))
 CostsBy f e u (begin_record t) = CostsBy f e u t

@@ -8,8 +8,8 @@ use Rattle.imagesize_source.specs.Text.{is_ended}
 abbrev pub Never : {X : Type 0} → Layout X → Type 0
 Never (done x) = ⊥
 Never (refuse e) = Unit {0}
-Never (field order place k f) = (v : ℕ) → Never (f v)
-Never (reading r place f) = (bs : List ℕ) → Never (f bs)
+Never (field order offset k f) = (v : ℕ) → Never (f v)
+Never (reading r offset f) = (bs : List ℕ) → Never (f bs)
 Never (begin_record t) = Never t
 
 -- Q, and P too if the input may have ended before the reading got all of its bytes
@@ -22,8 +22,8 @@ WhereCut (TextOf t k) bs P Q = (is_ended t bs ≡ false → length bs < k → P)
 abbrev pub Plain : {X : Type 0} → Layout X → Type 0
 Plain (done x) = Unit {0}
 Plain (refuse e) = Unit {0}
-Plain (field order place k f) = (v : ℕ) → Plain (f v)
-Plain (reading r place f) = (bs : List ℕ) → WhereCut r bs (Never (f bs)) (Plain (f bs))
+Plain (field order offset k f) = (v : ℕ) → Plain (f v)
+Plain (reading r offset f) = (bs : List ℕ) → WhereCut r bs (Never (f bs)) (Plain (f bs))
 Plain (begin_record t) = Plain t
 
 -- appended bytes change neither a value that was returned nor the spans that it depends on

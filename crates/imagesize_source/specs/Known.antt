@@ -15,7 +15,7 @@ length_within n s = min s.len (n - s.start)
 
 -- whether the span contains the offset, in an input of n bytes
 abbrev pub reaches : ℕ → Span → ℕ → Bool
-reaches n s place = nat_le s.start place && nat_lt (place - s.start) (length_within n s)
+reaches n s offset = nat_le s.start offset && nat_lt (offset - s.start) (length_within n s)
 
 abbrev pub byte_of : List ℕ → ℕ → Option ℕ
 byte_of bytes i = if nat_lt i (length bytes) then Some (slice_index bytes i) else None
@@ -23,13 +23,13 @@ byte_of bytes i = if nat_lt i (length bytes) then Some (slice_index bytes i) els
 -- The byte at an offset, from the first part that contains it. `bytes` are those of the parts, one part after
 -- another.
 abbrev pub byte_in_parts : ℕ → List Span → List ℕ → ℕ → Option ℕ
-byte_in_parts n [] bytes place = None
-byte_in_parts n (s ∷ spans) bytes place =
-    if reaches n s place then byte_of bytes (place - s.start) else byte_in_parts n spans (drop (length_within n s) bytes) place
+byte_in_parts n [] bytes offset = None
+byte_in_parts n (s ∷ spans) bytes offset =
+    if reaches n s offset then byte_of bytes (offset - s.start) else byte_in_parts n spans (drop (length_within n s) bytes) offset
 
 -- an input that has the known bytes, and 0 at every other offset
 unfoldable pub filled_input : ℕ → List Span → List ℕ → List ℕ
-filled_input n spans bytes = map (λ place. unwrap_or (byte_in_parts n spans bytes place) 0) (range_with_len 0 n)
+filled_input n spans bytes = map (λ offset. unwrap_or (byte_in_parts n spans bytes offset) 0) (range_with_len 0 n)
 
 -- the bytes of an input in these spans, one span after another
 abbrev pub bytes_of : List ℕ → List Span → List ℕ
@@ -43,7 +43,7 @@ pub record HasParts (d : List ℕ) (n : ℕ) (spans : List Span) (content : List
 
 -- each offset of the seen spans is known
 abbrev pub AllKnown : ℕ → List Span → List ℕ → List Span → Type 0
-AllKnown n spans bytes seen = (place : ℕ) → is_covered seen place ≡ true → is_some (byte_in_parts n spans bytes place) ≡ true
+AllKnown n spans bytes seen = (offset : ℕ) → is_covered seen offset ≡ true → is_some (byte_in_parts n spans bytes offset) ≡ true
 
 -- the missing bytes lie within the input, and the first of them is not known
 abbrev pub Lacks : ℕ → List Span → List ℕ → Missing → Type 0

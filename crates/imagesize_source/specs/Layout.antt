@@ -16,30 +16,30 @@ pub data Layout (X : Type 0) : Type 0 where
 
 -- the next k bytes from an offset on; an error if the input ends earlier
 abbrev pub bytes : {X : Type 0} → ℕ → ℕ → (List ℕ → Layout X) → Layout X
-bytes place k f = reading (AllOf k) place f
+bytes offset k f = reading (AllOf k) offset f
 
 -- at most k bytes from an offset on, as many as the input has
 abbrev pub bytes_there : {X : Type 0} → ℕ → ℕ → (List ℕ → Layout X) → Layout X
-bytes_there place k f = reading (PartOf k) place f
+bytes_there offset k f = reading (PartOf k) offset f
 
 -- a text of at most k bytes
 abbrev pub text : {X : Type 0} → Text → ℕ → ℕ → (List ℕ → Layout X) → Layout X
-text t place k f = reading (TextOf t k) place f
+text t offset k f = reading (TextOf t k) offset f
 
 -- what a layout says about an input
 abbrev pub layout_reads : {X : Type 0} → List ℕ → Layout X → Reads X
 layout_reads d (done x) = gives x
 layout_reads d (refuse e) = refuses e
-layout_reads d (field order place k f) = and_then (number_read d order place k) (λ v. layout_reads d (f v))
-layout_reads d (reading r place f) = and_then (read_of d r place) (λ bs. layout_reads d (f bs))
+layout_reads d (field order offset k f) = and_then (number_read d order offset k) (λ v. layout_reads d (f v))
+layout_reads d (reading r offset f) = and_then (read_of d r offset) (λ bs. layout_reads d (f bs))
 layout_reads d (begin_record t) = after_records 1 (layout_reads d t)
 
 -- a layout, then another that depends on its result
 abbrev pub bind : {X Y : Type 0} → Layout X → (X → Layout Y) → Layout Y
 bind (done x) g = g x
 bind (refuse e) g = refuse e
-bind (field order place k f) g = field order place k (λ v. bind (f v) g)
-bind (reading r place f) g = reading r place (λ bs. bind (f bs) g)
+bind (field order offset k f) g = field order offset k (λ v. bind (f v) g)
+bind (reading r offset f) g = reading r offset (λ bs. bind (f bs) g)
 bind (begin_record t) g = begin_record (bind t g)
 
 -- the layout for a value; an error ends it
@@ -53,7 +53,7 @@ whole k bs = if nat_le k (length bs) then Some bs else None
 
 -- k bytes from an offset on, or `None` if the input ends before the last of them
 abbrev pub if_there : {X : Type 0} → ℕ → ℕ → (Option (List ℕ) → Layout X) → Layout X
-if_there place k f = bytes_there place k (λ bs. f (whole k bs))
+if_there offset k f = bytes_there offset k (λ bs. f (whole k bs))
 
 -- the bytes if the condition is true, else `None`
 abbrev pub some_where : List ℕ → Bool → Option (List ℕ)

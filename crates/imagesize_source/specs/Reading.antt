@@ -62,31 +62,31 @@ map_answer f (Err e) = Err e
 
 -- k bytes from an offset on; an error if the input ends earlier
 unfoldable pub bytes_at : List ℕ → ℕ → ℕ → Result (List ℕ) Halt
-bytes_at d place k = if nat_le k (length d - place) then Ok (part d place k) else Err Ended
+bytes_at d offset k = if nat_le k (length d - offset) then Ok (part d offset k) else Err Ended
 
 -- the number of k bytes from an offset on; an error if the input ends earlier
 unfoldable pub number_at : List ℕ → Endian → ℕ → ℕ → Result ℕ Halt
-number_at d order place k = map_answer (number order) (bytes_at d place k)
+number_at d order offset k = map_answer (number order) (bytes_at d offset k)
 
 -- the read of at most k bytes from an offset on, as many as the input has
 abbrev pub part_read : List ℕ → ℕ → ℕ → Reads (List ℕ)
-part_read d place k = just (Ok (part d place k)) (span_of d place k)
+part_read d offset k = just (Ok (part d offset k)) (span_of d offset k)
 
 -- the read of k bytes
 abbrev pub bytes_read : List ℕ → ℕ → ℕ → Reads (List ℕ)
-bytes_read d place k = just (bytes_at d place k) (span_of d place k)
+bytes_read d offset k = just (bytes_at d offset k) (span_of d offset k)
 
 -- the read of a number of k bytes
 abbrev pub number_read : List ℕ → Endian → ℕ → ℕ → Reads ℕ
-number_read d order place k = just (number_at d order place k) (span_of d place k)
+number_read d order offset k = just (number_at d order offset k) (span_of d offset k)
 
 -- the text from an offset on, of at most k bytes
 unfoldable pub text_part : List ℕ → Text → ℕ → ℕ → List ℕ
-text_part d t place k = text_front t (part d place k)
+text_part d t offset k = text_front t (part d offset k)
 
 -- the read of a text: it sees the bytes of the text, and none after it
 abbrev pub text_read : List ℕ → Text → ℕ → ℕ → Reads (List ℕ)
-text_read d t place k = just (Ok (text_part d t place k)) (span_at place (length (text_part d t place k)))
+text_read d t offset k = just (Ok (text_part d t offset k)) (span_at offset (length (text_part d t offset k)))
 
 -- what is read from an offset on: all of k bytes, as many of k bytes as there are, or a text of at most k bytes
 pub data Reading : Type 0 where
@@ -96,17 +96,17 @@ pub data Reading : Type 0 where
 
 -- what a reading returns, and the spans that it sees
 abbrev pub read_answer : List ℕ → Reading → ℕ → Result (List ℕ) Halt
-read_answer d (AllOf k) place = (bytes_read d place k).answer
-read_answer d (PartOf k) place = (part_read d place k).answer
-read_answer d (TextOf t k) place = (text_read d t place k).answer
+read_answer d (AllOf k) offset = (bytes_read d offset k).answer
+read_answer d (PartOf k) offset = (part_read d offset k).answer
+read_answer d (TextOf t k) offset = (text_read d t offset k).answer
 
 abbrev pub read_marks : List ℕ → Reading → ℕ → List Span
-read_marks d (AllOf k) place = (bytes_read d place k).marks
-read_marks d (PartOf k) place = (part_read d place k).marks
-read_marks d (TextOf t k) place = (text_read d t place k).marks
+read_marks d (AllOf k) offset = (bytes_read d offset k).marks
+read_marks d (PartOf k) offset = (part_read d offset k).marks
+read_marks d (TextOf t k) offset = (text_read d t offset k).marks
 
 abbrev pub read_of : List ℕ → Reading → ℕ → Reads (List ℕ)
-read_of d r place = just (read_answer d r place) (read_marks d r place)
+read_of d r offset = just (read_answer d r offset) (read_marks d r offset)
 
 -- how many bytes it requests
 abbrev pub most : Reading → ℕ

@@ -9,16 +9,16 @@ use Rattle.imagesize_source.specs.State.{State, Missed, state_after}
 -- d is no longer than e, contains each offset of the spans, and has the byte of e there
 pub record Shares (d e : List ℕ) (spans : List Span) : Type 0 where
   pub no_longer : length d ≤ length e
-  pub there : (place : ℕ) → is_covered spans place ≡ true → (place < length d) × (slice_index d place ≡ slice_index e place)
+  pub there : (offset : ℕ) → is_covered spans offset ≡ true → (offset < length d) × (slice_index d offset ≡ slice_index e offset)
 
 -- How far a walk got from position t on before a read failed: the next record is at this offset. Every input that
 -- shares the spans of the reads before (`made`) gets to the same record.
-pub record Stood {C X : Type 0} (c : Chain C X) (P : List C → Type 0) (a b : State) (t : Along C) (place : ℕ) : Type 0 where
+pub record Stood {C X : Type 0} (c : Chain C X) (P : List C → Type 0) (a b : State) (t : Along C) (offset : ℕ) : Type 0 where
   pub held : List C
   pub known : P held
   pub made : List Span
-  pub ahead : a.held.honest ≡ true → t.place ≤ place
+  pub ahead : a.held.honest ≡ true → t.offset ≤ offset
   pub leads : a.held.honest ≡ true → (d : List ℕ) → Shares d a.held.input made
-      → uncounted (chain_from c d t) ≡ put_behind made (uncounted (chain_from c d (record { held = held; place = place })))
+      → uncounted (chain_from c d t) ≡ put_behind made (uncounted (chain_from c d (record { held = held; offset = offset })))
   pub missed : a.held.honest ≡ true
-      → Missed (state_after a made) b (next_record c a.held.input (record { held = held; place = place })).marks
+      → Missed (state_after a made) b (next_record c a.held.input (record { held = held; offset = offset })).marks

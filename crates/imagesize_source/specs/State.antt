@@ -75,11 +75,11 @@ pub record State : Type 0 where
 
 -- how many of n bytes from an offset on lie after the first `front` bytes
 abbrev pub new_bytes : ℕ → ℕ → ℕ → ℕ
-new_bytes front place n = (place + n) - max place front
+new_bytes front offset n = (offset + n) - max offset front
 
 -- how many of its first bytes a source holds after such a read: a read that joins on adds to them, up to `most_held`
 abbrev pub front_after : ℕ → ℕ → ℕ → ℕ
-front_after front place n = if nat_le place front then max front (min most_held (place + n)) else front
+front_after front offset n = if nat_le offset front then max front (min most_held (offset + n)) else front
 
 -- the state after the read of a span
 abbrev pub step : State → Span → State

@@ -9,8 +9,8 @@ use Rattle.imagesize_source.specs.declared.walk.Found.TheVariants as found
 
 -- what a record says that was found at this offset
 abbrev pub said_at : {C X : Type 0} → ℕ → Found C X → Said C X
-said_at place (found.Answer x) = Decided x
-said_at place (found.Other held length) = Next held (place + length)
+said_at offset (found.Answer x) = Decided x
+said_at offset (found.Other held length) = Next held (offset + length)
 
 -- what holds for the records before an offset holds for this record too
 abbrev pub KeepsOn : {C X : Type 0} → (List C → ℕ → Type 0) → List C → Said C X → Type 0
@@ -27,5 +27,5 @@ CanFollow c = (d : List ℕ) → Advances c d
 
 -- From the end of the input on, a record at any offset has this verdict, and reads nothing.
 abbrev pub EndsBy : {C X : Type 0} → (List C → ℕ → Layout (Said C X)) → List C → Result X Halt → Type 0
-EndsBy said held r = (d : List ℕ) (place : ℕ) → length d ≤ place
-    → uncounted (layout_reads d (said held place)) ≡ just (map_answer Decided r) []
+EndsBy said held r = (d : List ℕ) (offset : ℕ) → length d ≤ offset
+    → uncounted (layout_reads d (said held offset)) ≡ just (map_answer Decided r) []

@@ -12,14 +12,14 @@ use crate::{Endian, Halt};
 
 /// Fills the buffer with the bytes from an offset on. Returns `Ended` if the input ends earlier.
 #[inline(always)]
-pub fn read_exact_at<S: Source>(source: &mut S, place: u64, room: &mut [u8]) -> Result<(), Halt>
-    ensures pays { IfOk result (λ _. 0 < length room.new → Paid (S.state source.old) (S.state source.new) place) }
+pub fn read_exact_at<S: Source>(source: &mut S, offset: u64, buffer: &mut [u8]) -> Result<(), Halt>
+    ensures pays { IfOk result (λ _. 0 < length buffer.new → Paid (S.state source.old) (S.state source.new) offset) }
     ensures runs { Runs (S.state source.old) (S.state source.new)
-        (map_answer (λ _. room.new) result)
-        (bytes_read (S.state source.old).held.input place (length room.new)) }
+        (map_answer (λ _. buffer.new) result)
+        (bytes_read (S.state source.old).held.input offset (length buffer.new)) }
 {
-    let count = source.read_at(place, room)?;
-    if count < room.len() {
+    let count = source.read_at(offset, buffer)?;
+    if count < buffer.len() {
         return Err(Halt::Ended);
     }
     Ok(())
@@ -27,71 +27,75 @@ pub fn read_exact_at<S: Source>(source: &mut S, place: u64, room: &mut [u8]) -> 
 
 /// The `N` bytes from an offset on. Returns `Ended` if the input ends earlier.
 #[inline(always)]
-pub fn read_bytes<S: Source, const N: usize>(source: &mut S, place: u64) -> Result<[u8; N], Halt>
-    ensures pays { IfOk result (λ bytes. 0 < N → Paid (S.state source.old) (S.state source.new) place) }
+pub fn read_bytes<S: Source, const N: usize>(source: &mut S, offset: u64) -> Result<[u8; N], Halt>
+    ensures pays { IfOk result (λ bytes. 0 < N → Paid (S.state source.old) (S.state source.new) offset) }
     ensures runs { Runs (S.state source.old) (S.state source.new) result
-        (bytes_read (S.state source.old).held.input place N) }
+        (bytes_read (S.state source.old).held.input offset N) }
 {
-    let mut room = [0u8; N];
-    read_exact_at(source, place, &mut room)?;
-    Ok(room)
+    let mut buffer = [0u8; N];
+    read_exact_at(source, offset, &mut buffer)?;
+    Ok(buffer)
 }
 
-/// The `N` bytes at `place + distance`. An offset above 2^64 - 1 is past the end of every input.
+/// The `N` bytes at `offset + distance`. An offset above 2^64 - 1 is past the end of every input.
 #[inline(always)]
 pub fn read_bytes_behind<S: Source, const N: usize>(
     source: &mut S,
-    place: u64,
+    offset: u64,
     distance: u64,
 ) -> Result<[u8; N], Halt>
     requires { 0 < N }
     ensures { Runs (S.state source.old) (S.state source.new) result
-        (bytes_read (S.state source.old).held.input (place + distance) N) }
+        (bytes_read (S.state source.old).held.input (offset + distance) N) }
 {
-    read_bytes::<S, N>(source, place.saturating_add(distance))
+    read_bytes::<S, N>(source, offset.saturating_add(distance))
 }
 
 /// Fills the buffer with the bytes from an offset on, and returns whether the input has all of them.
 #[inline(always)]
-pub fn read_whole_at<S: Source>(source: &mut S, place: u64, room: &mut [u8]) -> Result<bool, Halt>
-    ensures pays { IfOk result (λ all. all ≡ true → 0 < length room.new → Paid (S.state source.old) (S.state source.new) place) }
+pub fn read_whole_at<S: Source>(
+    source: &mut S,
+    offset: u64,
+    buffer: &mut [u8],
+) -> Result<bool, Halt>
+    ensures pays { IfOk result (λ all. all ≡ true → 0 < length buffer.new → Paid (S.state source.old) (S.state source.new) offset) }
     ensures runs { Runs (S.state source.old) (S.state source.new)
-        (map_answer (some_where room.new) result)
-        (layout_reads (S.state source.old).held.input (if_there place (length room.new) done)) }
+        (map_answer (some_where buffer.new) result)
+        (layout_reads (S.state source.old).held.input (if_there offset (length buffer.new) done)) }
 {
-    let count = source.read_at(place, room)?;
-    Ok(count == room.len())
+    let count = source.read_at(offset, buffer)?;
+    Ok(count == buffer.len())
 }
 
-/// Fills the buffer with the bytes from `place + distance` on, and returns whether the input has all of them. An offset above
+/// Fills the buffer with the bytes from `offset + distance` on, and returns whether the input has all of them. An offset above
 /// 2^64 - 1 is past the end of every input.
 #[inline(always)]
 pub fn read_whole_behind<S: Source>(
     source: &mut S,
-    place: u64,
+    offset: u64,
     distance: u64,
-    room: &mut [u8],
+    buffer: &mut [u8],
 ) -> Result<bool, Halt>
     ensures { Runs (S.state source.old) (S.state source.new)
-        (map_answer (some_where room.new) result)
-        (layout_reads (S.state source.old).held.input (if_there (place + distance) (length room.new) done)) }
+        (map_answer (some_where buffer.new) result)
+        (layout_reads (S.state source.old).held.input (if_there (offset + distance) (length buffer.new) done)) }
 {
-    read_whole_at(source, place.saturating_add(distance), room)
+    read_whole_at(source, offset.saturating_add(distance), buffer)
 }
 
 /// The `N` bytes from an offset on, or `None` if the input ends before the last of them.
 #[inline(always)]
 pub fn read_if_there<S: Source, const N: usize>(
     source: &mut S,
-    place: u64,
+    offset: u64,
 ) -> Result<Option<[u8; N]>, Halt>
-    ensures pays { IfOk result (λ found. IfSome found (λ bytes. 0 < N → Paid (S.state source.old) (S.state source.new) place)) }
+    ensures pays { IfOk result (λ found. IfSome found (λ bytes. 0 < N → Paid (S.state source.old) (S.state source.new) offset)) }
     ensures runs { Runs (S.state source.old) (S.state source.new) result
-        (layout_reads (S.state source.old).held.input (if_there place N done)) }
+        (layout_reads (S.state source.old).held.input (if_there offset N done)) }
 {
-    let mut room = [0u8; N];
-    if read_whole_at(source, place, &mut room)? {
-        return Ok(Some(room));
+    let mut buffer = [0u8; N];
+    if read_whole_at(source, offset, &mut buffer)? {
+        return Ok(Some(buffer));
     }
     Ok(None)
 }
@@ -99,68 +103,68 @@ pub fn read_if_there<S: Source, const N: usize>(
 /// The byte at an offset, as a number.
 #[inline(always)]
 #[tactic(auto, using(crate::proofs::Runs::number_there, crate::proofs::Runs::number_missing, crate::proofs::Numbers::little_1))]
-pub fn read_u8<S: Source>(source: &mut S, place: u64) -> Result<u8, Halt>
+pub fn read_u8<S: Source>(source: &mut S, offset: u64) -> Result<u8, Halt>
     ensures { Runs (S.state source.old) (S.state source.new) result
-        (number_read (S.state source.old).held.input endian.Little place 1) }
+        (number_read (S.state source.old).held.input endian.Little offset 1) }
 {
-    let [byte] = read_bytes::<S, 1>(source, place)?;
+    let [byte] = read_bytes::<S, 1>(source, offset)?;
     Ok(byte)
 }
 
 /// The number that the two bytes from an offset on encode.
 #[inline(always)]
 #[tactic(auto, using(crate::proofs::Runs::number_there, crate::proofs::Runs::number_missing))]
-pub fn read_u16<S: Source>(source: &mut S, place: u64, endian: Endian) -> Result<u16, Halt>
+pub fn read_u16<S: Source>(source: &mut S, offset: u64, endian: Endian) -> Result<u16, Halt>
     ensures { Runs (S.state source.old) (S.state source.new) result
-        (number_read (S.state source.old).held.input endian place 2) }
+        (number_read (S.state source.old).held.input endian offset 2) }
 {
-    let bytes = read_bytes::<S, 2>(source, place)?;
+    let bytes = read_bytes::<S, 2>(source, offset)?;
     Ok(endian.u16(bytes))
 }
 
 /// The number that the three bytes from an offset on encode.
 #[inline(always)]
 #[tactic(auto, using(crate::proofs::Runs::number_there, crate::proofs::Runs::number_missing))]
-pub fn read_u24<S: Source>(source: &mut S, place: u64, endian: Endian) -> Result<u32, Halt>
+pub fn read_u24<S: Source>(source: &mut S, offset: u64, endian: Endian) -> Result<u32, Halt>
     ensures { Runs (S.state source.old) (S.state source.new) result
-        (number_read (S.state source.old).held.input endian place 3) }
+        (number_read (S.state source.old).held.input endian offset 3) }
 {
-    let bytes = read_bytes::<S, 3>(source, place)?;
+    let bytes = read_bytes::<S, 3>(source, offset)?;
     Ok(endian.u24(bytes))
 }
 
 /// The number that the four bytes from an offset on encode.
 #[inline(always)]
 #[tactic(auto, using(crate::proofs::Runs::number_there, crate::proofs::Runs::number_missing))]
-pub fn read_u32<S: Source>(source: &mut S, place: u64, endian: Endian) -> Result<u32, Halt>
+pub fn read_u32<S: Source>(source: &mut S, offset: u64, endian: Endian) -> Result<u32, Halt>
     ensures { Runs (S.state source.old) (S.state source.new) result
-        (number_read (S.state source.old).held.input endian place 4) }
+        (number_read (S.state source.old).held.input endian offset 4) }
 {
-    let bytes = read_bytes::<S, 4>(source, place)?;
+    let bytes = read_bytes::<S, 4>(source, offset)?;
     Ok(endian.u32(bytes))
 }
 
 /// The number that the eight bytes from an offset on encode.
 #[inline(always)]
 #[tactic(auto, using(crate::proofs::Runs::number_there, crate::proofs::Runs::number_missing))]
-pub fn read_u64<S: Source>(source: &mut S, place: u64, endian: Endian) -> Result<u64, Halt>
+pub fn read_u64<S: Source>(source: &mut S, offset: u64, endian: Endian) -> Result<u64, Halt>
     ensures { Runs (S.state source.old) (S.state source.new) result
-        (number_read (S.state source.old).held.input endian place 8) }
+        (number_read (S.state source.old).held.input endian offset 8) }
 {
-    let bytes = read_bytes::<S, 8>(source, place)?;
+    let bytes = read_bytes::<S, 8>(source, offset)?;
     Ok(endian.u64(bytes))
 }
 
-/// The number that the two bytes at `place + distance` encode. An offset above 2^64 - 1 is past the end of every input.
+/// The number that the two bytes at `offset + distance` encode. An offset above 2^64 - 1 is past the end of every input.
 #[inline(always)]
 pub fn read_u16_behind<S: Source>(
     source: &mut S,
-    place: u64,
+    offset: u64,
     distance: u64,
     endian: Endian,
 ) -> Result<u16, Halt>
     ensures { Runs (S.state source.old) (S.state source.new) result
-        (number_read (S.state source.old).held.input endian (place + distance) 2) }
+        (number_read (S.state source.old).held.input endian (offset + distance) 2) }
 {
-    read_u16(source, place.saturating_add(distance), endian)
+    read_u16(source, offset.saturating_add(distance), endian)
 }

@@ -31,24 +31,24 @@ pub trait Source {
         ensures { result ≡ error_by (state self.now).failure (state self.now).frame.budget halt };
 
     /// Reads the bytes from an offset on into the buffer, as far as there are any, and returns how many. Fails with a `Halt`.
-    fn read_at(&mut self, place: u64, room: &mut [u8]) -> Result<usize, Halt>
-        ensures bound { IfOk result (λ n. n ≤ length room.new) }
+    fn read_at(&mut self, offset: u64, buffer: &mut [u8]) -> Result<usize, Halt>
+        ensures bound { IfOk result (λ n. n ≤ length buffer.new) }
 
         // Bytes past the reported length and past the held bytes count against the budget.
-        ensures pays { IfOk result (λ n. 0 < n → Paid (state self.old) (state self.new) place) }
+        ensures pays { IfOk result (λ n. 0 < n → Paid (state self.old) (state self.new) offset) }
         ensures runs { Runs (state self.old) (state self.new)
-            (map_answer (λ n. take n room.new) result)
-            (part_read (state self.old).held.input place (length room.new)) };
+            (map_answer (λ n. take n buffer.new) result)
+            (part_read (state self.old).held.input offset (length buffer.new)) };
 
     /// Reads the text from an offset on into the buffer: the white space before a word, the text, and the byte that ends it.
     /// Returns how many bytes that is, or a `Halt`. It stops at the end of the input or of the buffer, and reads no byte
     /// after the text.
-    fn read_text(&mut self, place: u64, text: Text, room: &mut [u8]) -> Result<usize, Halt>
-        ensures bound { IfOk result (λ n. n ≤ length room.new) }
+    fn read_text(&mut self, offset: u64, text: Text, buffer: &mut [u8]) -> Result<usize, Halt>
+        ensures bound { IfOk result (λ n. n ≤ length buffer.new) }
 
         // Bytes past the reported length and past the held bytes count against the budget.
-        ensures pays { IfOk result (λ n. 0 < n → Paid (state self.old) (state self.new) place) }
+        ensures pays { IfOk result (λ n. 0 < n → Paid (state self.old) (state self.new) offset) }
         ensures runs { Runs (state self.old) (state self.new)
-            (map_answer (λ n. take n room.new) result)
-            (text_read (state self.old).held.input text place (length room.new)) };
+            (map_answer (λ n. take n buffer.new) result)
+            (text_read (state self.old).held.input text offset (length buffer.new)) };
 }

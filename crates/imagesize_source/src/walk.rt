@@ -38,23 +38,23 @@ pub trait Records {
     fn read_record<S: Source>(
         &mut self,
         source: &mut S,
-        place: u64,
+        offset: u64,
     ) -> Result<Found<Self::Held, Self::Answer>, Halt>
-        requires { (held : List Self.Held) × keeps self.now held place }
+        requires { (held : List Self.Held) × keeps self.now held offset }
         ensures same { said self.new ≡ said self.old }
-        ensures nears { IfOk result (λ found. Nears (S.state source.old) (S.state source.new) place (said_at place found)) }
-        ensures keeps { (held : List Self.Held) → keeps self.old held place → IfOk result (λ found. KeepsOn (keeps self.new) held (said_at place found)) }
+        ensures nears { IfOk result (λ found. Nears (S.state source.old) (S.state source.new) offset (said_at offset found)) }
+        ensures keeps { (held : List Self.Held) → keeps self.old held offset → IfOk result (λ found. KeepsOn (keeps self.new) held (said_at offset found)) }
 
         // If the read fails, the same value can read the record again.
-        ensures stays { (held : List Self.Held) → keeps self.old held place → IfErr result (λ _. keeps self.new held place) }
-        ensures runs { (held : List Self.Held) → keeps self.old held place → Runs (S.state source.old) (S.state source.new)
-            (map_answer (said_at place) result)
-            (layout_reads (S.state source.old).held.input (said self.old held place)) };
+        ensures stays { (held : List Self.Held) → keeps self.old held offset → IfErr result (λ _. keeps self.new held offset) }
+        ensures runs { (held : List Self.Held) → keeps self.old held offset → Runs (S.state source.old) (S.state source.new)
+            (map_answer (said_at offset) result)
+            (layout_reads (S.state source.old).held.input (said self.old held offset)) };
 
     /// The result at the end of the input, where no record is left.
     fn at_end(&self) -> Result<Self::Answer, Halt>
         ensures goes_on { is_stopped result ≡ false }
-        ensures ends { (held : List Self.Held) (place : ℕ) → keeps self.now held place → EndsBy (said self.now) held result };
+        ensures ends { (held : List Self.Held) (offset : ℕ) → keeps self.now held offset → EndsBy (said self.now) held result };
 }
 
 /// Walks along the records from the first one, which is at this offset, and returns the result.
@@ -69,32 +69,32 @@ pub fn walk<S: Source, R: Records + Drop>(
     ensures { Runs (S.state source.old) (S.state source.new) result
         (chain_at (chain_of first (R.said records)) (S.state source.old).held.input) }
 {
-    let mut place = first;
-    walk_on(&mut records, &mut place, source)
+    let mut offset = first;
+    walk_on(&mut records, &mut offset, source)
 }
 
 /// Walks on from the record at this offset, and returns the result.
 ///
-/// If a read fails, `records` and `place` are those of the record that it belongs to. The walk can go on from there.
+/// If a read fails, `records` and `offset` are those of the record that it belongs to. The walk can go on from there.
 #[inline(always)]
 pub fn walk_on<S: Source, R: Records>(
     records: &mut R,
-    place: &mut u64,
+    offset: &mut u64,
     source: &mut S,
 ) -> Result<R::Answer, Halt>
     requires follows { CanFollow (chain_of 0 (R.said records.old)) }
-    requires keeps { (held : List R.Held) × R.keeps records.old held place.old }
+    requires keeps { (held : List R.Held) × R.keeps records.old held offset.old }
     ensures same { R.said records.new ≡ R.said records.old }
 
     // For each list of values that the records before may hold:
-    ensures runs { (first : ℕ) (held : List R.Held) → R.keeps records.old held place.old
+    ensures runs { (first : ℕ) (held : List R.Held) → R.keeps records.old held offset.old
         → Runs (S.state source.old) (S.state source.new) result
-        (chain_from (chain_of first (R.said records.old)) (S.state source.old).held.input (record { held = held; place = place.old })) }
-    ensures stands { (first : ℕ) (held : List R.Held) → R.keeps records.old held place.old → is_faulted result ≡ true
-        → Stood (chain_of first (R.said records.old)) (λ behind. R.keeps records.new behind place.new) (S.state source.old) (S.state source.new)
-        (record { held = held; place = place.old }) place.new }
+        (chain_from (chain_of first (R.said records.old)) (S.state source.old).held.input (record { held = held; offset = offset.old })) }
+    ensures stands { (first : ℕ) (held : List R.Held) → R.keeps records.old held offset.old → is_faulted result ≡ true
+        → Stood (chain_of first (R.said records.old)) (λ behind. R.keeps records.new behind offset.new) (S.state source.old) (S.state source.new)
+        (record { held = held; offset = offset.old }) offset.new }
 {
-    let mut at = *place;
+    let mut at = *offset;
     loop {
         match records.read_record(source, at) {
             Ok(Found::Answer(answer)) => return Ok(answer),
@@ -103,7 +103,7 @@ pub fn walk_on<S: Source, R: Records>(
                 None => return records.at_end(),
             },
             Err(halt) => {
-                *place = at;
+                *offset = at;
                 return Err(halt);
             }
         }

@@ -83,17 +83,17 @@ pub leads_as : (depth behind marker : ℕ) → LeadsTo depth marker behind → b
 unfolding LeadsTo
 leads_as depth behind marker leads = leads.0
 
-bytes_none : (d : List ℕ) (place k : ℕ) → length d ≤ place → 0 < k → bytes_at d place k ≡ Err Ended
+bytes_none : (d : List ℕ) (offset k : ℕ) → length d ≤ offset → 0 < k → bytes_at d offset k ≡ Err Ended
 unfolding bytes_at
-bytes_none d place k far some = let test : leb k (length d - place) ≡ false = grind (arith, nat_tests) in rw test refl
+bytes_none d offset k far some = let test : leb k (length d - offset) ≡ false = grind (arith, nat_tests) in rw test refl
 
 -- a layout that reads a number beyond the end of the input is refused there
-pub number_beyond : {X : Type 0} (d : List ℕ) (order : Endian) (place k : ℕ) (f : ℕ → Layout X) → length d ≤ place
+pub number_beyond : {X : Type 0} (d : List ℕ) (order : Endian) (offset k : ℕ) (f : ℕ → Layout X) → length d ≤ offset
     → 0 < k
-    → layout_reads d (field order place k f) ≡ refuses Ended
+    → layout_reads d (field order offset k f) ≡ refuses Ended
 unfolding number_at
-number_beyond d order place k f far some =
-    rw (no_span d place k far, bytes_none d place k far some) refl
+number_beyond d order offset k f far some =
+    rw (no_span d offset k far, bytes_none d offset k far some) refl
 
 -- sizes whose sides are small
 pub small_icon : (largest : Option ImageSize) → IsSmall largest → ForSome largest IsIcon

@@ -42,21 +42,21 @@ size_by front told now size same says d begins =
     ap (λ (r : Reads ImageSize). r.answer) (says.is d (subst (λ k. Begins front k d) same begins))
 
 -- a walk that begins where the first bytes say
-pub opened_came : (room : List ℕ) (passed start told place : ℕ) (next : Awaited) (type : ImageType) → start ≡ 0
-    → passed ≤ length room → IsSteady next place
-    → Says (take passed room) told (λ d. kind_reads d 0) (Ok type)
-    → Says (take passed room) told (λ d. layout_reads d (opening type)) (Ok (opened.Records next place))
-    → Streams 0 awaited_said (λ held. Awaits next held place) start place told passed (take (passed - start) room)
-    (λ d. meaning_reads d 0) (take passed room)
-opened_came room passed start told place next type first within steady says size = record {
+pub opened_came : (buffer : List ℕ) (passed start told offset : ℕ) (next : Awaited) (type : ImageType) → start ≡ 0
+    → passed ≤ length buffer → IsSteady next offset
+    → Says (take passed buffer) told (λ d. kind_reads d 0) (Ok type)
+    → Says (take passed buffer) told (λ d. layout_reads d (opening type)) (Ok (opened.Records next offset))
+    → Streams 0 awaited_said (λ held. Awaits next held offset) start offset told passed (take (passed - start) buffer)
+    (λ d. meaning_reads d 0) (take passed buffer)
+opened_came buffer passed start told offset next type first within steady says size = record {
   held = next ∷ [];
   known = (refl, steady);
-  as_many = omega (arith, length-take passed room, within);
+  as_many = omega (arith, length-take passed buffer, within);
   rest =
       let all : passed - start ≡ passed = omega (arith, first) in
-      ap (λ k. take k room) all ∙ ap (λ k. drop k (take passed room)) (sym first);
+      ap (λ k. take k buffer) all ∙ ap (λ k. drop k (take passed buffer)) (sym first);
   before = says.marks ++ size.marks;
-  resumes = λ d begins. opened_behind (take passed room) told type says (opened.Records next place) size d begins;
+  resumes = λ d begins. opened_behind (take passed buffer) told type says (opened.Records next offset) size d begins;
 }
 
 pub awaiting_all : {P : Type 0} (stage : Stage) → P → IfAwaiting stage P

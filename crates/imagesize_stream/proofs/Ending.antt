@@ -24,15 +24,15 @@ awaiting_none kind (Footer size) none p = p
 awaiting_none kind (Done size) none p = absurd cc
 
 -- as many bytes came as are counted
-pub as_many : (kind : Option ImageType) (stage : Stage) (start place passed told : ℕ) (room front : List ℕ)
+pub as_many : (kind : Option ImageType) (stage : Stage) (start offset passed told : ℕ) (buffer front : List ℕ)
     → stage_answer kind stage ≡ None
-    → 132 ≤ length room → HoldsBy stage start place passed → CameBy stage kind start place passed told room front
+    → 132 ≤ length buffer → HoldsBy stage start offset passed → CameBy stage kind start offset passed told buffer front
     → passed ≡ length front
-as_many kind First start place passed told room front none enough holds came =
-    omega (arith, ap length came.0, length-take passed room, holds.1, enough)
-as_many kind (Records next) start place passed told room front none enough holds came = came.1.as_many
-as_many kind (Footer size) start place passed told room front none enough holds came = came.0
-as_many kind (Done size) start place passed told room front none enough holds came = absurd cc
+as_many kind First start offset passed told buffer front none enough holds came =
+    omega (arith, ap length came.0, length-take passed buffer, holds.1, enough)
+as_many kind (Records next) start offset passed told buffer front none enough holds came = came.1.as_many
+as_many kind (Footer size) start offset passed told buffer front none enough holds came = came.0
+as_many kind (Done size) start offset passed told buffer front none enough holds came = absurd cc
 
 begins_last : (front d : List ℕ) (passed told : ℕ) → passed ≤ told → Begins front passed d → Begins front told d
 begins_last front d passed told within begins =
@@ -44,13 +44,13 @@ type_last front passed told None within says = tt
 type_last front passed told (Some type) within says = λ d begins. says d (begins_last front d passed told within begins)
 
 -- the same where the input is told to end with them
-pub came_last : (kind : Option ImageType) (stage : Stage) (start place passed told : ℕ) (room front : List ℕ)
+pub came_last : (kind : Option ImageType) (stage : Stage) (start offset passed told : ℕ) (buffer front : List ℕ)
     → passed ≤ told
-    → stage_answer kind stage ≡ None → CameBy stage kind start place passed told room front
-    → CameBy stage kind start place passed passed room front
-came_last kind First start place passed told room front within none came =
+    → stage_answer kind stage ≡ None → CameBy stage kind start offset passed told buffer front
+    → CameBy stage kind start offset passed passed buffer front
+came_last kind First start offset passed told buffer front within none came =
     (came.0, type_last front passed told kind within came.1)
-came_last kind (Records next) start place passed told room front within none came = (
+came_last kind (Records next) start offset passed told buffer front within none came = (
   (λ d begins. came.0 d (begins_last front d passed told within begins)),
   record {
     held = came.1.held;
@@ -61,29 +61,29 @@ came_last kind (Records next) start place passed told room front within none cam
     resumes = λ d begins. came.1.resumes d (begins_last front d passed told within begins);
   },
 )
-came_last kind (Footer size) start place passed told room front within none came = (
+came_last kind (Footer size) start offset passed told buffer front within none came = (
   came.0,
   came.1,
   type_last front passed told kind within came.2,
   λ d begins. came.3 d
       (begins_last front d passed told within begins),
 )
-came_last kind (Done size) start place passed told room front within none came = absurd cc
+came_last kind (Done size) start offset passed told buffer front within none came = absurd cc
 
 ok_stated : (r : Result ImageType Halt) → result_ok r ≡ result_ok (stated r)
 ok_stated (Ok x) = refl
 ok_stated (Err e) = refl
 
 -- an answer is that of the input that begins so
-pub tells : (kind : Option ImageType) (stage : Stage) (start place passed told : ℕ) (room front d : List ℕ)
+pub tells : (kind : Option ImageType) (stage : Stage) (start offset passed told : ℕ) (buffer front d : List ℕ)
     (answer : Option ImageType × Result ImageSize ImageError) → Some answer ≡ stage_answer kind stage
-    → CameBy stage kind start place passed told room front
+    → CameBy stage kind start offset passed told buffer front
     → Begins front told d
     → (answer.0 ≡ result_ok (stated (kind_reads d 0).answer)) × (answer.1 ≡ stated (meaning_reads d 0).answer)
-tells kind First start place passed told room front d answer is came begins = absurd cc
-tells kind (Records next) start place passed told room front d answer is came begins = absurd cc
-tells kind (Footer size) start place passed told room front d answer is came begins = absurd cc
-tells kind (Done size) start place passed told room front d answer is came begins =
+tells kind First start offset passed told buffer front d answer is came begins = absurd cc
+tells kind (Records next) start offset passed told buffer front d answer is came begins = absurd cc
+tells kind (Footer size) start offset passed told buffer front d answer is came begins = absurd cc
+tells kind (Done size) start offset passed told buffer front d answer is came begins =
     let same : answer ≡ (kind, stated size) = cc in (
       ap (λ (a : Option ImageType × Result ImageSize ImageError). a.0) same ∙ sym (came.0 d begins)
           ∙ ok_stated (kind_reads d 0).answer,
@@ -117,23 +117,23 @@ pub awaiting_as : (P : Type 0) (stage other : Stage) → stage ≡ other → IfA
 awaiting_as P stage other is p = subst (λ s. IfAwaiting s P) (sym is) p
 
 -- whether or not there is an answer
-pub tells_all : (kind : Option ImageType) (stage : Stage) (start place passed told was : ℕ) (room front : List ℕ)
+pub tells_all : (kind : Option ImageType) (stage : Stage) (start offset passed told was : ℕ) (buffer front : List ℕ)
     (answer : Option (Option ImageType × Result ImageSize ImageError)) → answer ≡ stage_answer kind stage → told ≡ was
-    → CameBy stage kind start place passed told room front
+    → CameBy stage kind start offset passed told buffer front
     → IfSome answer (λ a. (d : List ℕ) → Begins front was d
     → (a.0 ≡ result_ok (stated (kind_reads d 0).answer)) × (a.1 ≡ stated (meaning_reads d 0).answer))
-tells_all kind stage start place passed told was room front None is same came = tt
-tells_all kind stage start place passed told was room front (Some answer) is same came =
-    λ d begins. tells kind stage start place passed told room front d answer is came
+tells_all kind stage start offset passed told was buffer front None is same came = tt
+tells_all kind stage start offset passed told was buffer front (Some answer) is same came =
+    λ d begins. tells kind stage start offset passed told buffer front d answer is came
     (subst (λ k. Begins front k d) (sym same) begins)
 
 -- the answer where no more bytes come
-pub finished : (kind : Option ImageType) (stage : Stage) (start place passed told : ℕ) (room front none : List ℕ)
+pub finished : (kind : Option ImageType) (stage : Stage) (start offset passed told : ℕ) (buffer front none : List ℕ)
     (answer : Option ImageType × Result ImageSize ImageError) → Some answer ≡ stage_answer kind stage
-    → CameBy stage kind start place passed told room (front ++ none) → length none ≡ 0 → length front ≤ told
+    → CameBy stage kind start offset passed told buffer (front ++ none) → length none ≡ 0 → length front ≤ told
     → (answer.0 ≡ result_ok (stated (kind_reads front 0).answer)) × (answer.1 ≡ stated (meaning_reads front 0).answer)
-finished kind stage start place passed told room front none answer is came empty fits =
-    tells kind stage start place passed told room (front ++ none) front answer is came
+finished kind stage start offset passed told buffer front none answer is came empty fits =
+    tells kind stage start offset passed told buffer (front ++ none) front answer is came
     (begins_whole front none told empty fits)
 
 take_both : (n : ℕ) (xs ys : List ℕ) → take n (xs ++ ys) ≡ take n xs ++ take (n - length xs) ys

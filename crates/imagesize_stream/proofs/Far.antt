@@ -45,53 +45,53 @@ use Rattle.imagesize_walked.specs.declared.formats.tiff.Version.TheVariants.{Big
 after_size : {C : Type 0} (low high : ℕ) (on : C → Awaited) (said : Said C ImageSize)
     → Reach low high (after on decides said)
 after_size low high on (Decided size) = tt
-after_size low high on (Next v place) = tt
+after_size low high on (Next v offset) = tt
 
-frame_far : (place : ℕ) → Reach place (place + 1024) (jpeg_frame place)
-frame_far place = (omega arith, omega arith, λ height. (omega arith, omega arith, λ width. tt))
+frame_far : (offset : ℕ) → Reach offset (offset + 1024) (jpeg_frame offset)
+frame_far offset = (omega arith, omega arith, λ height. (omega arith, omega arith, λ width. tt))
 
-other_far : (place marker : ℕ) → Reach place (place + 1024) (jpeg_other place marker)
-other_far place marker = (omega arith, omega arith, λ length. tt)
+other_far : (offset marker : ℕ) → Reach offset (offset + 1024) (jpeg_other offset marker)
+other_far offset marker = (omega arith, omega arith, λ length. tt)
 
-segment_far : (k place : ℕ) → Reach place (place + 1024) (jpeg_segment k place)
-segment_far k place = (
+segment_far : (k offset : ℕ) → Reach offset (offset + 1024) (jpeg_segment k offset)
+segment_far k offset = (
   omega arith,
   omega arith,
-  λ head few. reach_if (eqb (slice_index head 0) 0xFF) place (place + 1024) (jpeg_marked k place (slice_index head 1))
+  λ head few. reach_if (eqb (slice_index head 0) 0xFF) offset (offset + 1024) (jpeg_marked k offset (slice_index head 1))
       (refuse Corrupted)
-      (reach_if (is_own_frame k (slice_index head 1)) place (place + 1024) (jpeg_frame place) _ (frame_far place)
-      (reach_if (is_own_end k (slice_index head 1)) place (place + 1024) (refuse Corrupted)
-      (jpeg_other place (slice_index head 1)) tt
-      (other_far place (slice_index head 1)))) tt,
+      (reach_if (is_own_frame k (slice_index head 1)) offset (offset + 1024) (jpeg_frame offset) _ (frame_far offset)
+      (reach_if (is_own_end k (slice_index head 1)) offset (offset + 1024) (refuse Corrupted)
+      (jpeg_other offset (slice_index head 1)) tt
+      (other_far offset (slice_index head 1)))) tt,
 )
 
-chunk_far : (place : ℕ) → Reach place (place + 1024) (ilbm_chunk place)
-chunk_far place = (
+chunk_far : (offset : ℕ) → Reach offset (offset + 1024) (ilbm_chunk offset)
+chunk_far offset = (
   omega arith,
   omega arith,
-  λ head few. reach_if (is_bitmap_header head) place (place + 1024) (bitmap_header place) _
+  λ head few. reach_if (is_bitmap_header head) offset (offset + 1024) (bitmap_header offset) _
       (omega arith, omega arith, λ width. (omega arith, omega arith, λ height. tt))
-      (reach_if (is_body head) place (place + 1024) (refuse Corrupted)
-      (done (Next tt (place + chunk_bytes (chunk_length head)))) tt tt),
+      (reach_if (is_body head) offset (offset + 1024) (refuse Corrupted)
+      (done (Next tt (offset + chunk_bytes (chunk_length head)))) tt tt),
 )
 
-window_far : (low high place taken : ℕ) (size : Option ImageSize) → Reach low high (exr_window place taken size)
-window_far low high place taken (Some size) = tt
-window_far low high place taken None = tt
+window_far : (low high offset taken : ℕ) (size : Option ImageSize) → Reach low high (exr_window offset taken size)
+window_far low high offset taken (Some size) = tt
+window_far low high offset taken None = tt
 
-value_far : (place taken size : ℕ) (is_window : Bool) → taken ≤ 600
-    → Reach place (place + 1024) (exr_value place taken is_window size)
-value_far place taken size is_window few =
-    reach_if is_window place (place + 1024) (bytes (place + taken) 16 (λ bs. exr_window place taken (window_size bs)))
-    (done (Next tt (place + (taken + size))))
-    (omega arith, omega arith, λ bs _. window_far place (place + 1024) place taken (window_size bs)) tt
+value_far : (offset taken size : ℕ) (is_window : Bool) → taken ≤ 600
+    → Reach offset (offset + 1024) (exr_value offset taken is_window size)
+value_far offset taken size is_window few =
+    reach_if is_window offset (offset + 1024) (bytes (offset + taken) 16 (λ bs. exr_window offset taken (window_size bs)))
+    (done (Next tt (offset + (taken + size))))
+    (omega arith, omega arith, λ bs _. window_far offset (offset + 1024) offset taken (window_size bs)) tt
 
-typed_far : (place : ℕ) (name type_name : List ℕ) → length name ≤ 256 → length type_name ≤ 256
-    → Reach place (place + 1024) (exr_typed place name type_name)
-typed_far place name type_name few also = (
+typed_far : (offset : ℕ) (name type_name : List ℕ) → length name ≤ 256 → length type_name ≤ 256
+    → Reach offset (offset + 1024) (exr_typed offset name type_name)
+typed_far offset name type_name few also = (
   omega arith,
   omega arith,
-  λ size. value_far place (length name + 1 + (length type_name + 1) + 4) size (is_data_window name && is_box type_name)
+  λ size. value_far offset (length name + 1 + (length type_name + 1) + 4) size (is_data_window name && is_box type_name)
       (omega arith),
 )
 
@@ -100,207 +100,207 @@ line_few : (most : ℕ) (bs text : List ℕ) → most ≤ 256 → length bs ≤ 
     → length text ≤ 256
 line_few most bs text few short is = omega (arith, (line_ok 0 most bs text is).0)
 
-named_far : (room place : ℕ) (name : List ℕ) → room ≤ 256 → length name ≤ 256
-    → Reach place (place + 1024) (exr_named room place name)
-named_far room place name few short =
-    reach_if (eqb (length name) 0) place (place + 1024) (refuse DataWindowNotFound)
-    (line_at 0 (place + (length name + 1)) room (exr_typed place name)) tt (
+named_far : (buffer offset : ℕ) (name : List ℕ) → buffer ≤ 256 → length name ≤ 256
+    → Reach offset (offset + 1024) (exr_named buffer offset name)
+named_far buffer offset name few short =
+    reach_if (eqb (length name) 0) offset (offset + 1024) (refuse DataWindowNotFound)
+    (line_at 0 (offset + (length name + 1)) buffer (exr_typed offset name)) tt (
       omega arith,
       omega arith,
-      λ bs most. reach_accept place (place + 1024) (line_text 0 room bs) (exr_typed place name)
-          (λ type_name is. typed_far place name type_name short (line_few room bs type_name few most is)),
+      λ bs most. reach_accept offset (offset + 1024) (line_text 0 buffer bs) (exr_typed offset name)
+          (λ type_name is. typed_far offset name type_name short (line_few buffer bs type_name few most is)),
     )
 
-attribute_far : (room place : ℕ) → room ≤ 256 → Reach place (place + 1024) (exr_attribute room place)
-attribute_far room place few = (
+attribute_far : (buffer offset : ℕ) → buffer ≤ 256 → Reach offset (offset + 1024) (exr_attribute buffer offset)
+attribute_far buffer offset few = (
   omega arith,
   omega arith,
-  λ bs most. reach_accept place (place + 1024) (line_text 0 room bs) (exr_named room place)
-      (λ name is. named_far room place name few (line_few room bs name few most is)),
+  λ bs most. reach_accept offset (offset + 1024) (line_text 0 buffer bs) (exr_named buffer offset)
+      (λ name is. named_far buffer offset name few (line_few buffer bs name few most is)),
 )
 
 names_few : (long : Bool) → names_of long ≤ 256
 names_few true = omega arith
 names_few false = omega arith
 
-hdr_far : (place : ℕ) → Reach place (place + 1024) (line_at 0x0A place 256 (hdr_line place))
-hdr_far place = (
+hdr_far : (offset : ℕ) → Reach offset (offset + 1024) (line_at 0x0A offset 256 (hdr_line offset))
+hdr_far offset = (
   omega arith,
   omega arith,
-  λ bs most. reach_accept place (place + 1024) (line_text 0x0A 256 bs) (hdr_line place)
-      (λ text _. reach_if (is_resolution text) place (place + 1024)
-      (accept (resolution text) (λ size. done (Decided size))) (done (Next tt (place + (length text + 1))))
-      (reach_accept place (place + 1024) (resolution text) (λ size. done (Decided size)) (λ size _. tt)) tt),
+  λ bs most. reach_accept offset (offset + 1024) (line_text 0x0A 256 bs) (hdr_line offset)
+      (λ text _. reach_if (is_resolution text) offset (offset + 1024)
+      (accept (resolution text) (λ size. done (Decided size))) (done (Next tt (offset + (length text + 1))))
+      (reach_accept offset (offset + 1024) (resolution text) (λ size. done (Decided size)) (λ size _. tt)) tt),
 )
 
-accepted_far : (place : ℕ) (r : Result ImageSize Halt) → Reach place (place + 1024) (accept r decides)
-accepted_far place (Ok size) = tt
-accepted_far place (Err e) = tt
+accepted_far : (offset : ℕ) (r : Result ImageSize Halt) → Reach offset (offset + 1024) (accept r decides)
+accepted_far offset (Ok size) = tt
+accepted_far offset (Err e) = tt
 
-height_far : (place : ℕ) (width : Option ℕ) → Reach place (place + 1024) (word place (height_step width))
-height_far place width = (
+height_far : (offset : ℕ) (width : Option ℕ) → Reach offset (offset + 1024) (word offset (height_step width))
+height_far offset width = (
   omega arith,
   omega arith,
-  λ bs most. reach_accept place (place + 1024) (word_text bs) (height_step width)
-      (λ w _. accepted_far place (pnm_size width (number_text (trim w.text)))),
+  λ bs most. reach_accept offset (offset + 1024) (word_text bs) (height_step width)
+      (λ w _. accepted_far offset (pnm_size width (number_text (trim w.text)))),
 )
 
-answer_far : (place : ℕ) (best : Option ImageSize) → Reach place (place + 1024) (icon_answer best)
-answer_far place None = tt
-answer_far place (Some size) = tt
+answer_far : (offset : ℕ) (best : Option ImageSize) → Reach offset (offset + 1024) (icon_answer best)
+answer_far offset None = tt
+answer_far offset (Some size) = tt
 
-icon_far : (count seen : ℕ) (best : Option ImageSize) (place : ℕ)
-    → Reach place (place + 1024) (icon_in count seen best place)
-icon_far count seen best place =
-    reach_if (eqb seen count) place (place + 1024) (icon_answer best)
-    (begin_record (if_there place 2 (icon_entry best place))) (answer_far place best)
+icon_far : (count seen : ℕ) (best : Option ImageSize) (offset : ℕ)
+    → Reach offset (offset + 1024) (icon_in count seen best offset)
+icon_far count seen best offset =
+    reach_if (eqb seen count) offset (offset + 1024) (icon_answer best)
+    (begin_record (if_there offset 2 (icon_entry best offset))) (answer_far offset best)
     (omega arith, omega arith, λ bs few. entry_far (whole 2 bs)) where
-      entry_far : (found : Option (List ℕ)) → Reach place (place + 1024) (icon_entry best place found)
-      entry_far None = answer_far place best
+      entry_far : (found : Option (List ℕ)) → Reach offset (offset + 1024) (icon_entry best offset found)
+      entry_far None = answer_far offset best
       entry_far (Some bytes) = tt
 
 head_few : (version : Version) → (head_bytes version ≤ 12) × (value_bytes version ≤ 8) × (count_bytes version ≤ 8)
 head_few Tiff = (omega arith, omega arith, omega arith)
 head_few BigTiff = (omega arith, omega arith, omega arith)
 
-listed_far : (header : Header) (count seen : ℕ) (width height : Option ℕ) (place : ℕ)
-    → Reach place (place + 1024) (entry_behind header count seen width height place)
+listed_far : (header : Header) (count seen : ℕ) (width height : Option ℕ) (offset : ℕ)
+    → Reach offset (offset + 1024) (entry_behind header count seen width height offset)
 unfolding tiff_entry tiff_head tiff_value
-listed_far header count seen width height place =
+listed_far header count seen width height offset =
     let few = head_few header.version in
-    reach_if (eqb seen count) place (place + 1024) (refuse NoDimensionsInIfd)
-    (bind (tiff_entry header place) (entry_says header width height place)) tt
-    (reach_bind place (place + 1024) (tiff_entry header place) (entry_says header width height place) (
+    reach_if (eqb seen count) offset (offset + 1024) (refuse NoDimensionsInIfd)
+    (bind (tiff_entry header offset) (entry_says header width height offset)) tt
+    (reach_bind offset (offset + 1024) (tiff_entry header offset) (entry_says header width height offset) (
       omega arith,
       omega (arith, few.0),
-      λ head most. reach_accept place (place + 1024)
+      λ head most. reach_accept offset (offset + 1024)
           (field_type_of header.version (field_type_in header.order (take 4 head))) _
-          (λ field_type _. reach_bind place (place + 1024)
-          (tiff_value header.version (place + head_bytes header.version)) _ (
+          (λ field_type _. reach_bind offset (offset + 1024)
+          (tiff_value header.version (offset + head_bytes header.version)) _ (
             omega arith,
             omega (arith, few.0, few.1),
-            λ bs short. reach_accept place (place + 1024) (whole_value (whole (value_bytes header.version) bs)) done
+            λ bs short. reach_accept offset (offset + 1024) (whole_value (whole (value_bytes header.version) bs)) done
                 (λ value _. tt),
           ) (λ value. tt)),
     ) (λ entry. says_far (size_if_known (side_with 0x100 width entry) (side_with 0x101 height entry)) entry)) where
       says_far : (size : Option ImageSize) (entry : tiff.Entry)
-          → Reach place (place + 1024) (done (size_or_next size entry (place + entry_bytes header.version)))
+          → Reach offset (offset + 1024) (done (size_or_next size entry (offset + entry_bytes header.version)))
       says_far None entry = tt
       says_far (Some size) entry = tt
 
-box_far : (tag : List ℕ) (place : ℕ) → Reach place (place + 1024) (searched_box tag place)
-box_far tag place = (
+box_far : (tag : List ℕ) (offset : ℕ) → Reach offset (offset + 1024) (searched_box tag offset)
+box_far tag offset = (
   omega arith,
   omega arith,
-  λ head few. by_searched (Reach place (place + 1024)) tag place head tt tt
+  λ head few. by_searched (Reach offset (offset + 1024)) tag offset head tt tt
       (λ big. tt),
 )
 
-after_box : (place : ℕ) (next : Awaited) (leads : FoundBox → Layout (Said Awaited ImageSize))
-    → ((found : FoundBox) → Reach place (place + 1024) (leads found))
-    → (said : Said (Unit {0}) FoundBox) → Reach place (place + 1024) (after (λ _. next) leads said)
-after_box place next leads far (Decided found) = far found
-after_box place next leads far (Next v q) = tt
+after_box : (offset : ℕ) (next : Awaited) (leads : FoundBox → Layout (Said Awaited ImageSize))
+    → ((found : FoundBox) → Reach offset (offset + 1024) (leads found))
+    → (said : Said (Unit {0}) FoundBox) → Reach offset (offset + 1024) (after (λ _. next) leads said)
+after_box offset next leads far (Decided found) = far found
+after_box offset next leads far (Next v q) = tt
 
-property_far : (g : Gathered) (place : ℕ)
-    → Reach place (place + 1024) (bind (property_at g.left place) (property_step g place))
-property_far g place = (
+property_far : (g : Gathered) (offset : ℕ)
+    → Reach offset (offset + 1024) (bind (property_at g.left offset) (property_step g offset))
+property_far g offset = (
   omega arith,
   omega arith,
-  λ bs few. by_found (λ t. Reach place (place + 1024) (bind t (property_step g place))) g.left place (whole 8 bs)
-      (accepted_far place (gathered_answer g)) tt
+  λ bs few. by_found (λ t. Reach offset (offset + 1024) (bind t (property_step g offset))) g.left offset (whole 8 bs)
+      (accepted_far offset (gathered_answer g)) tt
       (omega arith, omega arith, λ content short. tt) (omega arith, omega arith, λ content short. tt) (λ size big. tt),
 )
 
 -- what a box of a JPEG XL says is no reading
-said_far : (place : ℕ) (said : Said (List ℕ) (List ℕ)) → Reach place (place + 1024) (done said)
-said_far place said = tt
+said_far : (offset : ℕ) (said : Said (List ℕ) (List ℕ)) → Reach offset (offset + 1024) (done said)
+said_far offset said = tt
 
-content_far : (held : List ℕ) (place : ℕ) (head : BoxHead) → head.length ≤ 16
-    → Reach place (place + 1024) (box_content held place head)
-content_far held place head short =
-    by_content (Reach place (place + 1024)) held place head
-    (by_piece (Reach place (place + 1024)) (place + head.length) (min 16 (box_room head))
+content_far : (held : List ℕ) (offset : ℕ) (head : BoxHead) → head.length ≤ 16
+    → Reach offset (offset + 1024) (box_content held offset head)
+content_far held offset head short =
+    by_content (Reach offset (offset + 1024)) held offset head
+    (by_piece (Reach offset (offset + 1024)) (offset + head.length) (min 16 (box_room head))
     (λ front. done (Decided front)) (λ _. tt)
     (λ _. (omega arith, omega (arith, short), λ front few. tt)))
     tt
     (λ _. (
       omega arith,
       omega (arith, short),
-      λ index few. by_piece (Reach place (place + 1024)) (place + (head.length + 4))
+      λ index few. by_piece (Reach offset (offset + 1024)) (offset + (head.length + 4))
           (min (box_room head - 4) (16 - length held))
-          (λ piece. done (partial_said held place head index piece)) (λ _. tt)
+          (λ piece. done (partial_said held offset head index piece)) (λ _. tt)
           (λ _. (omega arith, omega (arith, short), λ piece less. tt)),
     ))
     tt
 
-jxl_far : (held : List ℕ) (place : ℕ) → Reach place (place + 1024) (jxl_box held place)
+jxl_far : (held : List ℕ) (offset : ℕ) → Reach offset (offset + 1024) (jxl_box held offset)
 unfolding box_head
-jxl_far held place = (
+jxl_far held offset = (
   omega arith,
   omega arith,
-  λ front few. by_head (Reach place (place + 1024)) place front (box_content held place) (
+  λ front few. by_head (Reach offset (offset + 1024)) offset front (box_content held offset) (
     omega arith,
     omega arith,
-    λ size. by_checked (Reach place (place + 1024)) place (record { tag = drop 4 front; size = size; length = 16 })
-        (box_content held place) (λ e. tt)
-        (λ _ _. content_far held place (record { tag = drop 4 front; size = size; length = 16 }) (omega arith)),
+    λ size. by_checked (Reach offset (offset + 1024)) offset (record { tag = drop 4 front; size = size; length = 16 })
+        (box_content held offset) (λ e. tt)
+        (λ _ _. content_far held offset (record { tag = drop 4 front; size = size; length = 16 }) (omega arith)),
   )
-      (by_checked (Reach place (place + 1024)) place
+      (by_checked (Reach offset (offset + 1024)) offset
       (record { tag = drop 4 front; size = number Big (take 4 front); length = 8 })
-      (box_content held place) (λ e. tt)
-      (λ _ _. content_far held place (record { tag = drop 4 front; size = number Big (take 4 front); length = 8 })
+      (box_content held offset) (λ e. tt)
+      (λ _ _. content_far held offset (record { tag = drop 4 front; size = number Big (take 4 front); length = 8 })
       (omega arith))),
 )
 
-after_piece : (place : ℕ) (on : List ℕ → Awaited) (said : Said (List ℕ) (List ℕ))
-    → Reach place (place + 1024) (after on jxl_verdict said)
-after_piece place on (Decided front) = accepted_far place (jxl_size front)
-after_piece place on (Next piece q) = tt
+after_piece : (offset : ℕ) (on : List ℕ → Awaited) (said : Said (List ℕ) (List ℕ))
+    → Reach offset (offset + 1024) (after on jxl_verdict said)
+after_piece offset on (Decided front) = accepted_far offset (jxl_size front)
+after_piece offset on (Next piece q) = tt
 
-pub step_far : (next : Awaited) (place : ℕ) → Reach place (place + 1024) (step next place)
-step_far (Segment depth) place = reach_bind place (place + 1024) (jpeg_segment depth place) _ (segment_far depth place)
-    (after_size place (place + 1024) (λ marker. Segment (depth_behind depth marker)))
-step_far Chunk place =
-    reach_bind place (place + 1024) (ilbm_chunk place) _ (chunk_far place)
-    (after_size place (place + 1024) (λ _. Chunk))
-step_far (Attribute long) place =
-    reach_bind place (place + 1024) (exr_attribute (names_of long) place) _
-    (attribute_far (names_of long) place (names_few long))
-    (after_size place (place + 1024) (λ _. Attribute long))
-step_far Line place = reach_bind place (place + 1024) (line_at 0x0A place 256 (hdr_line place)) _ (hdr_far place)
-    (after_size place (place + 1024) (λ _. Line))
-step_far (Icon count seen largest) place =
-    reach_bind place (place + 1024) (icon_in count seen largest place) _ (icon_far count seen largest place)
-    (after_size place (place + 1024) (λ size. Icon count (seen + 1) (later_largest largest size)))
-step_far (Directory header) place = (omega arith, omega (arith, (head_few header.version).2), λ count. tt)
-step_far (Entry l) place =
-    reach_bind place (place + 1024) (entry_behind l.header l.count l.seen l.width l.height place) _
-    (listed_far l.header l.count l.seen l.width l.height place)
-    (after_size place (place + 1024) (λ entry. Entry (listed_with l entry)))
-step_far Meta place =
-    reach_bind place (place + 1024) (searched_box (codes "meta") place) _ (box_far (codes "meta") place)
-    (after_box place Meta (meta_leads place) (λ found. (omega arith, omega arith, λ version few. tt)))
-step_far Iprp place =
-    reach_bind place (place + 1024) (searched_box (codes "iprp") place) _ (box_far (codes "iprp") place)
-    (after_box place Iprp (iprp_leads place) (λ found. tt))
-step_far Ipco place =
-    reach_bind place (place + 1024) (searched_box (codes "ipco") place) _ (box_far (codes "ipco") place)
-    (after_box place Ipco (ipco_leads place) (λ found. tt))
-step_far (Property g) place = property_far g place
-step_far (Box kept) place =
-    reach_bind place (place + 1024) (jxl_box (kept_front kept) place) _ (jxl_far (kept_front kept) place)
-    (after_piece place (λ piece. Box (kept_of (kept_front kept ++ piece))))
-step_far Word place = (
+pub step_far : (next : Awaited) (offset : ℕ) → Reach offset (offset + 1024) (step next offset)
+step_far (Segment depth) offset = reach_bind offset (offset + 1024) (jpeg_segment depth offset) _ (segment_far depth offset)
+    (after_size offset (offset + 1024) (λ marker. Segment (depth_behind depth marker)))
+step_far Chunk offset =
+    reach_bind offset (offset + 1024) (ilbm_chunk offset) _ (chunk_far offset)
+    (after_size offset (offset + 1024) (λ _. Chunk))
+step_far (Attribute long) offset =
+    reach_bind offset (offset + 1024) (exr_attribute (names_of long) offset) _
+    (attribute_far (names_of long) offset (names_few long))
+    (after_size offset (offset + 1024) (λ _. Attribute long))
+step_far Line offset = reach_bind offset (offset + 1024) (line_at 0x0A offset 256 (hdr_line offset)) _ (hdr_far offset)
+    (after_size offset (offset + 1024) (λ _. Line))
+step_far (Icon count seen largest) offset =
+    reach_bind offset (offset + 1024) (icon_in count seen largest offset) _ (icon_far count seen largest offset)
+    (after_size offset (offset + 1024) (λ size. Icon count (seen + 1) (later_largest largest size)))
+step_far (Directory header) offset = (omega arith, omega (arith, (head_few header.version).2), λ count. tt)
+step_far (Entry l) offset =
+    reach_bind offset (offset + 1024) (entry_behind l.header l.count l.seen l.width l.height offset) _
+    (listed_far l.header l.count l.seen l.width l.height offset)
+    (after_size offset (offset + 1024) (λ entry. Entry (listed_with l entry)))
+step_far Meta offset =
+    reach_bind offset (offset + 1024) (searched_box (codes "meta") offset) _ (box_far (codes "meta") offset)
+    (after_box offset Meta (meta_leads offset) (λ found. (omega arith, omega arith, λ version few. tt)))
+step_far Iprp offset =
+    reach_bind offset (offset + 1024) (searched_box (codes "iprp") offset) _ (box_far (codes "iprp") offset)
+    (after_box offset Iprp (iprp_leads offset) (λ found. tt))
+step_far Ipco offset =
+    reach_bind offset (offset + 1024) (searched_box (codes "ipco") offset) _ (box_far (codes "ipco") offset)
+    (after_box offset Ipco (ipco_leads offset) (λ found. tt))
+step_far (Property g) offset = property_far g offset
+step_far (Box kept) offset =
+    reach_bind offset (offset + 1024) (jxl_box (kept_front kept) offset) _ (jxl_far (kept_front kept) offset)
+    (after_piece offset (λ piece. Box (kept_of (kept_front kept ++ piece))))
+step_far Word offset = (
   omega arith,
   omega arith,
-  λ bs most. reach_accept place (place + 1024) (word_text bs) (word_step place)
+  λ bs most. reach_accept offset (offset + 1024) (word_text bs) (word_step offset)
       (λ w _. tt),
 )
-step_far Comment place = (
+step_far Comment offset = (
   omega arith,
   omega arith,
-  λ bs most. reach_accept place (place + 1024) (line_length 0x0A 1024 bs) (λ taken. done (Next Word (place + taken)))
+  λ bs most. reach_accept offset (offset + 1024) (line_length 0x0A 1024 bs) (λ taken. done (Next Word (offset + taken)))
       (λ taken _. tt),
 )
-step_far (Height width) place = height_far place width
+step_far (Height width) offset = height_far offset width

@@ -32,24 +32,24 @@ use Rattle.imagesize_stream.specs.declared.front.First.{First}
 use Rattle.imagesize_stream.specs.declared.front.First.TheVariants as first
 use Rattle.imagesize_types.specs.declared.size.ImageSize.{ImageSize}
 
--- A layout that refuses nothing, and reads no byte from a place on.
+-- A layout that refuses nothing, and reads no byte from an offset on.
 abbrev pub Sure : {X : Type 0} → ℕ → Layout X → Type 0
 Sure n (done x) = Unit {0}
 Sure n (refuse e) = ⊥
-Sure n (field order place k f) = (place + k ≤ n) × ((v : ℕ) → Sure n (f v))
-Sure n (reading (AllOf k) place f) = (place + k ≤ n) × ((bs : List ℕ) → Sure n (f bs))
-Sure n (reading (PartOf k) place f) = ⊥
-Sure n (reading (TextOf t k) place f) = ⊥
+Sure n (field order offset k f) = (offset + k ≤ n) × ((v : ℕ) → Sure n (f v))
+Sure n (reading (AllOf k) offset f) = (offset + k ≤ n) × ((bs : List ℕ) → Sure n (f bs))
+Sure n (reading (PartOf k) offset f) = ⊥
+Sure n (reading (TextOf t k) offset f) = ⊥
 Sure n (begin_record t) = Sure n t
 
-bytes_sure : (d : List ℕ) (place k : ℕ) → place + k ≤ length d → bytes_at d place k ≡ Ok (part d place k)
+bytes_sure : (d : List ℕ) (offset k : ℕ) → offset + k ≤ length d → bytes_at d offset k ≡ Ok (part d offset k)
 unfolding bytes_at
-bytes_sure d place k fits = let all : leb k (length d - place) ≡ true = grind (arith, nat_tests) in rw all refl
+bytes_sure d offset k fits = let all : leb k (length d - offset) ≡ true = grind (arith, nat_tests) in rw all refl
 
-number_sure : (d : List ℕ) (order : Endian) (place k : ℕ) → place + k ≤ length d
-    → (v : ℕ) × (number_at d order place k ≡ Ok v)
+number_sure : (d : List ℕ) (order : Endian) (offset k : ℕ) → offset + k ≤ length d
+    → (v : ℕ) × (number_at d order offset k ≡ Ok v)
 unfolding number_at
-number_sure d order place k fits = rw (bytes_sure d place k fits) (_, refl)
+number_sure d order offset k fits = rw (bytes_sure d offset k fits) (_, refl)
 
 sure_on : {X Y : Type 0} (marks : List Span) (r : Result Y Halt) (f : Y → Reads X) (y : Y) (x : X) → r ≡ Ok y
     → (f y).answer ≡ Ok x
@@ -61,18 +61,18 @@ sure : {X : Type 0} (d : List ℕ) (n : ℕ) (t : Layout X) → n ≤ length d �
     → (x : X) × ((layout_reads d t).answer ≡ Ok x)
 sure d n (done x) enough h = (x, refl)
 sure d n (refuse e) enough h = absurd h
-sure d n (field order place k f) enough h =
-    let v = number_sure d order place k (omega (arith, h.0, enough)) in
+sure d n (field order offset k f) enough h =
+    let v = number_sure d order offset k (omega (arith, h.0, enough)) in
     let rest = sure d n (f v.0) enough (h.1 v.0) in
-    (rest.0, sure_on (span_of d place k) (number_at d order place k) (λ n. layout_reads d (f n)) v.0 rest.0 v.1 rest.1)
-sure d n (reading (AllOf k) place f) enough h =
-    let rest = sure d n (f (part d place k)) enough (h.1 (part d place k)) in (
+    (rest.0, sure_on (span_of d offset k) (number_at d order offset k) (λ n. layout_reads d (f n)) v.0 rest.0 v.1 rest.1)
+sure d n (reading (AllOf k) offset f) enough h =
+    let rest = sure d n (f (part d offset k)) enough (h.1 (part d offset k)) in (
       rest.0,
-      sure_on (span_of d place k) (bytes_at d place k) (λ bs. layout_reads d (f bs)) (part d place k) rest.0
-          (bytes_sure d place k (omega (arith, h.0, enough))) rest.1,
+      sure_on (span_of d offset k) (bytes_at d offset k) (λ bs. layout_reads d (f bs)) (part d offset k) rest.0
+          (bytes_sure d offset k (omega (arith, h.0, enough))) rest.1,
     )
-sure d n (reading (PartOf k) place f) enough h = absurd h
-sure d n (reading (TextOf t k) place f) enough h = absurd h
+sure d n (reading (PartOf k) offset f) enough h = absurd h
+sure d n (reading (TextOf t k) offset f) enough h = absurd h
 sure d n (begin_record t) enough h = sure d n t enough h
 
 -- so it is never refused there
@@ -361,15 +361,15 @@ footer_tells front chunk last told size b long all is by_footer decides within =
   kind_by false = refl
 
 -- the last of the first bytes
-pub last_kept : (room new : List ℕ) (passed skip : ℕ) → passed ≤ length room → 18 ≤ length (take passed room)
+pub last_kept : (buffer new : List ℕ) (passed skip : ℕ) → passed ≤ length buffer → 18 ≤ length (take passed buffer)
     → skip ≡ passed - 18
-    → take (passed + length {A = ℕ} [] - skip) new ≡ drop skip (take passed room ++ [])
-    → (passed ≡ length (take passed room)) × (take 18 new ≡ drop (length (take passed room) - 18) (take passed room))
-last_kept room new passed skip within some is kept =
-    let many : passed ≡ length (take passed room) = omega (arith, length-take passed room, within) in
+    → take (passed + length {A = ℕ} [] - skip) new ≡ drop skip (take passed buffer ++ [])
+    → (passed ≡ length (take passed buffer)) × (take 18 new ≡ drop (length (take passed buffer) - 18) (take passed buffer))
+last_kept buffer new passed skip within some is kept =
+    let many : passed ≡ length (take passed buffer) = omega (arith, length-take passed buffer, within) in
     let all : passed + length {A = ℕ} [] - skip ≡ 18 = omega (arith, is, some, many) in
-    let at : skip ≡ length (take passed room) - 18 = omega (arith, is, many) in (
+    let at : skip ≡ length (take passed buffer) - 18 = omega (arith, is, many) in (
       many,
-      ap (λ k. take k new) (sym all) ∙ kept ∙ ap (drop skip) (append-nil (take passed room))
-          ∙ ap (λ k. drop k (take passed room)) at,
+      ap (λ k. take k new) (sym all) ∙ kept ∙ ap (drop skip) (append-nil (take passed buffer))
+          ∙ ap (λ k. drop k (take passed buffer)) at,
     )

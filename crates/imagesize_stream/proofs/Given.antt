@@ -76,45 +76,45 @@ given_later d bytes offset p before within has =
           drop_all k (take n xs) (omega (arith, few, length-take n xs)) ∙ ap (λ m. take m (drop k xs)) (sym none)
 
 -- those of the last bytes that came, where the last that came are kept
-pub footer_left : (d room : List ℕ) (passed told : ℕ) → length d ≡ told → 18 ≤ passed → passed ≤ told
-    → take 18 room ≡ drop (length (take passed d) - 18) (take passed d)
-    → drop (told - passed) (take 18 room) ≡ drop (told - 18) (take passed d)
-footer_left d room passed told as_long some within is =
+pub footer_left : (d buffer : List ℕ) (passed told : ℕ) → length d ≡ told → 18 ≤ passed → passed ≤ told
+    → take 18 buffer ≡ drop (length (take passed d) - 18) (take passed d)
+    → drop (told - passed) (take 18 buffer) ≡ drop (told - 18) (take passed d)
+footer_left d buffer passed told as_long some within is =
     ap (drop (told - passed)) is ∙ drop-drop (told - passed) (length (take passed d) - 18) (take passed d)
     ∙ ap (λ k. drop k (take passed d)) (omega (arith, length-take passed d, as_long, some, within))
 
 -- with more of them
-pub footer_on : (d room new cut : List ℕ) (passed told count : ℕ) → length d ≡ told → passed + length cut ≤ told
-    → 18 ≤ length room → count ≡ length cut
-    → drop (told - passed) (take 18 room) ≡ drop (told - 18) (take passed d) → cut ≡ part d passed (length cut)
-    → take (18 + length cut - count) new ≡ drop count (take 18 room ++ cut)
+pub footer_on : (d buffer new cut : List ℕ) (passed told count : ℕ) → length d ≡ told → passed + length cut ≤ told
+    → 18 ≤ length buffer → count ≡ length cut
+    → drop (told - passed) (take 18 buffer) ≡ drop (told - 18) (take passed d) → cut ≡ part d passed (length cut)
+    → take (18 + length cut - count) new ≡ drop count (take 18 buffer ++ cut)
     → drop (told - (passed + length cut)) (take 18 new) ≡ drop (told - 18) (take (passed + length cut) d)
-footer_on d room new cut passed told count as_long within enough many is is_part kept =
+footer_on d buffer new cut passed told count as_long within enough many is is_part kept =
     let all : 18 + length cut - count ≡ 18 = omega (arith, many) in
     let at : count + (told - (passed + length cut)) ≡ told - passed = omega (arith, within, many) in
     ap (λ k. drop (told - (passed + length cut)) (take k new)) (sym all)
     ∙ ap (drop (told - (passed + length cut))) kept
-    ∙ drop-drop (told - (passed + length cut)) count (take 18 room ++ cut)
-    ∙ ap (λ k. drop k (take 18 room ++ cut)) at
+    ∙ drop-drop (told - (passed + length cut)) count (take 18 buffer ++ cut)
+    ∙ ap (λ k. drop k (take 18 buffer ++ cut)) at
     ∙ by_cases (cases_lt 18 (told - passed))
     ∙ ap (drop (told - 18)) (first_on d cut passed is_part)
   where
-    first_long : length (take 18 room) ≡ 18
-    first_long = length-take 18 room ∙ omega (arith, enough)
+    first_long : length (take 18 buffer) ≡ 18
+    first_long = length-take 18 buffer ∙ omega (arith, enough)
 
     long : length (take passed d) ≡ passed
     long = length-take passed d ∙ omega (arith, as_long, within)
 
     by_cases : (18 < told - passed) ⊎ (told - passed ≤ 18)
-        → drop (told - passed) (take 18 room ++ cut) ≡ drop (told - 18) (take passed d ++ cut)
+        → drop (told - passed) (take 18 buffer ++ cut) ≡ drop (told - 18) (take passed d ++ cut)
     by_cases (inr near) =
-        drop-append-le (told - passed) (take 18 room) cut (omega (arith, near, first_long))
+        drop-append-le (told - passed) (take 18 buffer) cut (omega (arith, near, first_long))
         ∙ ap (λ xs. xs ++ cut) is
         ∙ sym (drop-append-le (told - 18) (take passed d) cut (omega (arith, near, long)))
     by_cases (inl far) =
-        let here : told - passed ≡ length (take 18 room) + (told - passed - 18) = omega (arith, far, first_long) in
+        let here : told - passed ≡ length (take 18 buffer) + (told - passed - 18) = omega (arith, far, first_long) in
         let there : told - 18 ≡ length (take passed d) + (told - passed - 18) = omega (arith, far, long) in
-        ap (λ k. drop k (take 18 room ++ cut)) here ∙ drop-append-add (take 18 room) cut (told - passed - 18)
+        ap (λ k. drop k (take 18 buffer ++ cut)) here ∙ drop-append-add (take 18 buffer) cut (told - passed - 18)
         ∙ sym (drop-append-add (take passed d) cut (told - passed - 18))
         ∙ ap (λ k. drop k (take passed d ++ cut)) (sym there)
 
@@ -131,20 +131,20 @@ footer_came d new passed told as_long some all is =
     ∙ sym (take_all 18 (drop (length d - 18) d) (omega (arith, length-drop (length d - 18) d, as_long, some)))
 
 -- what a probe knows of an input that begins with the bytes that came
-known_from : (stage : Stage) (kind : Option ImageType) (start place passed told : ℕ) (room front d : List ℕ)
-    → length d ≡ told → passed ≤ told → HoldsBy stage start place passed → Begins front told d
+known_from : (stage : Stage) (kind : Option ImageType) (start offset passed told : ℕ) (buffer front d : List ℕ)
+    → length d ≡ told → passed ≤ told → HoldsBy stage start offset passed → Begins front told d
     → IfAwaiting stage (front ≡ take passed d)
-    → CameBy stage kind start place passed told room front → KnownBy stage kind start place passed told room d
-known_from First kind start place passed told room front d as_long within holds begins is came =
-    subst (λ xs. CameBy First kind start place passed told room xs) is came
-known_from (Records next) kind start place passed told room front d as_long within holds begins is came =
-    subst (λ xs. CameBy (Records next) kind start place passed told room xs) is came
-known_from (Footer size) kind start place passed told room front d as_long within holds begins is came = (
+    → CameBy stage kind start offset passed told buffer front → KnownBy stage kind start offset passed told buffer d
+known_from First kind start offset passed told buffer front d as_long within holds begins is came =
+    subst (λ xs. CameBy First kind start offset passed told buffer xs) is came
+known_from (Records next) kind start offset passed told buffer front d as_long within holds begins is came =
+    subst (λ xs. CameBy (Records next) kind start offset passed told buffer xs) is came
+known_from (Footer size) kind start offset passed told buffer front d as_long within holds begins is came = (
   came.3 d begins,
-  footer_left d room passed told as_long holds within
-      (subst (λ xs. take 18 room ≡ drop (length xs - 18) xs) is came.1),
+  footer_left d buffer passed told as_long holds within
+      (subst (λ xs. take 18 buffer ≡ drop (length xs - 18) xs) is came.1),
 )
-known_from (Done size) kind start place passed told room front d as_long within holds begins is came =
+known_from (Done size) kind start offset passed told buffer front d as_long within holds begins is came =
     (came.0 d begins, came.1 d begins)
 
 awaiting_both : {P Q R : Type 0} (stage : Stage) → (P → Q → R) → IfAwaiting stage P → IfAwaiting stage Q
@@ -154,14 +154,14 @@ awaiting_both (Records next) f p q = f p q
 awaiting_both (Footer size) f p q = f p q
 awaiting_both (Done size) f p q = tt
 
-pub may_be : (stage : Stage) (kind : Option ImageType) (stand : Stand) (room front d : List ℕ) (was : ℕ)
+pub may_be : (stage : Stage) (kind : Option ImageType) (stand : Stand) (buffer front d : List ℕ) (was : ℕ)
     → stand.told ≡ was → length d ≡ was → Begins front was d → HoldsAt stage stand
-    → IfAwaiting stage (front ≡ take stand.passed d) → CameTo stage kind stand room front
-    → IfAwaiting stage (RestsOnMore front was) → RestsOnNext stage stand front was → MayBeAt stage kind stand room d
-may_be stage kind stand room front d was same as_long begins holds is came more marks = record {
+    → IfAwaiting stage (front ≡ take stand.passed d) → CameTo stage kind stand buffer front
+    → IfAwaiting stage (RestsOnMore front was) → RestsOnNext stage stand front was → MayBeAt stage kind stand buffer d
+may_be stage kind stand buffer front d was same as_long begins holds is came more marks = record {
   given = record {
     as_long = as_long ∙ sym same;
-    known = known_from stage kind stand.start stand.place stand.passed stand.told room front d (as_long ∙ sym same)
+    known = known_from stage kind stand.start stand.offset stand.passed stand.told buffer front d (as_long ∙ sym same)
         stand.fits holds
         (subst (λ k. Begins front k d) (sym same) begins) is came;
   };
@@ -172,17 +172,17 @@ may_be stage kind stand room front d was same as_long begins holds is came more 
 }
 
 -- where bytes that are not needed are passed by
-pub known_behind : (stage : Stage) (kind : Option ImageType) (start place passed next end told : ℕ) (room d : List ℕ)
-    → length d ≡ told → next ≡ max passed start → HoldsBy stage start place passed
-    → AheadBy stage start passed end told → KnownBy stage kind start place passed told room d
-    → KnownBy stage kind start place next told room d
-known_behind First kind start place passed next end told room d as_long is holds ahead known =
-    subst (λ k. KnownBy First kind start place k told room d) (omega (arith, is, holds.0)) known
-known_behind (Records awaited) kind start place passed next end told room d as_long is holds ahead known =
+pub known_behind : (stage : Stage) (kind : Option ImageType) (start offset passed next end told : ℕ) (buffer d : List ℕ)
+    → length d ≡ told → next ≡ max passed start → HoldsBy stage start offset passed
+    → AheadBy stage start passed end told → KnownBy stage kind start offset passed told buffer d
+    → KnownBy stage kind start offset next told buffer d
+known_behind First kind start offset passed next end told buffer d as_long is holds ahead known =
+    subst (λ k. KnownBy First kind start offset k told buffer d) (omega (arith, is, holds.0)) known
+known_behind (Records awaited) kind start offset passed next end told buffer d as_long is holds ahead known =
     by_cases (cases_lt passed start) where
-      by_cases : (passed < start) ⊎ (start ≤ passed) → KnownBy (Records awaited) kind start place next told room d
+      by_cases : (passed < start) ⊎ (start ≤ passed) → KnownBy (Records awaited) kind start offset next told buffer d
       by_cases (inr none) =
-          subst (λ k. KnownBy (Records awaited) kind start place k told room d) (omega (arith, is, none)) known
+          subst (λ k. KnownBy (Records awaited) kind start offset k told buffer d) (omega (arith, is, none)) known
       by_cases (inl some) =
           let at : next ≡ start = omega (arith, is, some) in
           let less : passed ≤ next = omega (arith, at, some) in
@@ -194,67 +194,67 @@ known_behind (Records awaited) kind start place passed next end told room d as_l
               held = known.1.held;
               known = known.1.known;
               as_many = many;
-              rest = ap (λ k. take k room) none ∙ sym (drop_all start (take next d) (omega (arith, at, many)));
+              rest = ap (λ k. take k buffer) none ∙ sym (drop_all start (take next d) (omega (arith, at, many)));
               before = known.1.before;
               resumes = λ e begins. known.1.resumes e (begins_less d e told passed next less begins);
             },
           )
-known_behind (Footer size) kind start place passed next end told room d as_long is holds ahead known =
+known_behind (Footer size) kind start offset passed next end told buffer d as_long is holds ahead known =
     by_cases (cases_lt passed start) where
-      by_cases : (passed < start) ⊎ (start ≤ passed) → KnownBy (Footer size) kind start place next told room d
+      by_cases : (passed < start) ⊎ (start ≤ passed) → KnownBy (Footer size) kind start offset next told buffer d
       by_cases (inr none) =
-          subst (λ k. KnownBy (Footer size) kind start place k told room d) (omega (arith, is, none)) known
+          subst (λ k. KnownBy (Footer size) kind start offset k told buffer d) (omega (arith, is, none)) known
       by_cases (inl some) =
           let at : next ≡ start = omega (arith, is, some) in (
             known.0,
-            drop_all (told - next) (take 18 room)
-                (omega (arith, at, length-take 18 room, ahead.1.0, ahead.1.1.0))
+            drop_all (told - next) (take 18 buffer)
+                (omega (arith, at, length-take 18 buffer, ahead.1.0, ahead.1.1.0))
                 ∙ sym (drop_all (told - 18) (take next d)
                 (omega (arith, at, length-take next d, ahead.1.0, ahead.1.1.0))),
           )
-known_behind (Done size) kind start place passed next end told room d as_long is holds ahead known = known
+known_behind (Done size) kind start offset passed next end told buffer d as_long is holds ahead known = known
 
-pub depends_behind : (stage : Stage) (start place passed next end : ℕ) (d : List ℕ) → next ≡ max passed start
-    → HoldsBy stage start place passed → IfAwaiting stage (DependsFrom passed d)
+pub depends_behind : (stage : Stage) (start offset passed next end : ℕ) (d : List ℕ) → next ≡ max passed start
+    → HoldsBy stage start offset passed → IfAwaiting stage (DependsFrom passed d)
     → MarkedBy stage start passed end (meaning_reads d 0).marks → IfAwaiting stage (DependsFrom next d)
-depends_behind First start place passed next end d is holds depends marked =
+depends_behind First start offset passed next end d is holds depends marked =
     subst (λ k. DependsFrom k d) (omega (arith, is, holds.0)) depends
-depends_behind (Records awaited) start place passed next end d is holds depends marked =
+depends_behind (Records awaited) start offset passed next end d is holds depends marked =
     λ below. let early = below marked.0 marked.3 in omega (arith, early, marked.1, is)
-depends_behind (Footer size) start place passed next end d is holds depends marked =
+depends_behind (Footer size) start offset passed next end d is holds depends marked =
     λ below. let early = below marked.0 marked.3 in omega (arith, early, marked.1, is)
-depends_behind (Done size) start place passed next end d is holds depends marked = tt
+depends_behind (Done size) start offset passed next end d is holds depends marked = tt
 
-pub marked_behind : (stage : Stage) (start place passed next end : ℕ) (marks : List Span) → next ≡ max passed start
-    → HoldsBy stage start place passed → MarkedBy stage start passed end marks → MarkedBy stage start next end marks
-marked_behind First start place passed next end marks is holds marked =
+pub marked_behind : (stage : Stage) (start offset passed next end : ℕ) (marks : List Span) → next ≡ max passed start
+    → HoldsBy stage start offset passed → MarkedBy stage start passed end marks → MarkedBy stage start next end marks
+marked_behind First start offset passed next end marks is holds marked =
     subst (λ k. OutOfHeader k → SomeBetween k end marks) (omega (arith, is, holds.0)) marked
-marked_behind (Records awaited) start place passed next end marks is holds marked =
+marked_behind (Records awaited) start offset passed next end marks is holds marked =
     (marked.0, omega (arith, is, marked.1), marked.2, marked.3)
-marked_behind (Footer size) start place passed next end marks is holds marked =
+marked_behind (Footer size) start offset passed next end marks is holds marked =
     (marked.0, omega (arith, is, marked.1), marked.2, marked.3)
-marked_behind (Done size) start place passed next end marks is holds marked = tt
+marked_behind (Done size) start offset passed next end marks is holds marked = tt
 
 -- before any byte came
-pub none_given : (stage : Stage) (kind : Option ImageType) (stand : Stand) (room d : List ℕ)
-    → length d ≡ stand.told → 132 ≤ length room → HoldsAt stage stand → CameTo stage kind stand room []
-    → IsGiven stage kind stand room d
-none_given stage kind stand room d as_long enough holds came = record {
+pub none_given : (stage : Stage) (kind : Option ImageType) (stand : Stand) (buffer d : List ℕ)
+    → length d ≡ stand.told → 132 ≤ length buffer → HoldsAt stage stand → CameTo stage kind stand buffer []
+    → IsGiven stage kind stand buffer d
+none_given stage kind stand buffer d as_long enough holds came = record {
   as_long = as_long;
-  known = known_from stage kind stand.start stand.place stand.passed stand.told room [] d as_long stand.fits holds
+  known = known_from stage kind stand.start stand.offset stand.passed stand.told buffer [] d as_long stand.fits holds
       (record { first = refl; fits = omega (arith, as_long) })
-      (at_first stage stand.start stand.place stand.passed stand.told room enough came holds) came;
+      (at_first stage stand.start stand.offset stand.passed stand.told buffer enough came holds) came;
 } where
-  at_first : (stage : Stage) (start place passed told : ℕ) (room : List ℕ) → 132 ≤ length room
-      → CameBy stage kind start place passed told room [] → HoldsBy stage start place passed
+  at_first : (stage : Stage) (start offset passed told : ℕ) (buffer : List ℕ) → 132 ≤ length buffer
+      → CameBy stage kind start offset passed told buffer [] → HoldsBy stage start offset passed
       → IfAwaiting stage (◌≡◌ {A = List ℕ} [] (take passed d))
-  at_first First start place passed told room enough came holds =
-      let zero : 0 ≡ passed = omega (arith, ap length came.0, length-take passed room, holds.1, enough) in
+  at_first First start offset passed told buffer enough came holds =
+      let zero : 0 ≡ passed = omega (arith, ap length came.0, length-take passed buffer, holds.1, enough) in
       ap (λ k. take k d) zero
-  at_first (Records next) start place passed told room enough came holds =
+  at_first (Records next) start offset passed told buffer enough came holds =
       ap (λ k. take k d) (sym came.1.as_many)
-  at_first (Footer size) start place passed told room enough came holds = ap (λ k. take k d) (sym came.0)
-  at_first (Done size) start place passed told room enough came holds = tt
+  at_first (Footer size) start offset passed told buffer enough came holds = ap (λ k. take k d) (sym came.0)
+  at_first (Done size) start offset passed told buffer enough came holds = tt
 
 -- the footer tells it
 pub footer_known : (d last : List ℕ) (size : ImageSize) (b : Bool) → IsByFooter size d
@@ -279,14 +279,14 @@ unfolding part
 none_has d p = take_all (length d - p) [] (omega arith)
 
 -- with more bytes of the input
-pub given_on : (stage : Stage) (kind : Option ImageType) (stand : Stand) (room d cut : List ℕ) (passed was : ℕ)
+pub given_on : (stage : Stage) (kind : Option ImageType) (stand : Stand) (buffer d cut : List ℕ) (passed was : ℕ)
     → length d ≡ was → cut ≡ part d passed (length cut) → stand.told ≡ was → HoldsAt stage stand
-    → IfAwaiting stage (stand.passed ≡ passed + length cut) → CameTo stage kind stand room (take passed d ++ cut)
+    → IfAwaiting stage (stand.passed ≡ passed + length cut) → CameTo stage kind stand buffer (take passed d ++ cut)
     → IfAwaiting stage (RestsOnMore (take passed d ++ cut) was)
-    → RestsOnNext stage stand (take passed d ++ cut) was → MayBeAt stage kind stand room d
-given_on stage kind stand room d cut passed was as_long is same holds many came more marks =
+    → RestsOnNext stage stand (take passed d ++ cut) was → MayBeAt stage kind stand buffer d
+given_on stage kind stand buffer d cut passed was as_long is same holds many came more marks =
     let front : take passed d ++ cut ≡ take (passed + length cut) d = first_on d cut passed is in
-    may_be stage kind stand room (take passed d ++ cut) d was same as_long
+    may_be stage kind stand buffer (take passed d ++ cut) d was same as_long
     (subst (λ xs. Begins xs was d) (sym front) (begins_first d was (passed + length cut) as_long)) holds
     (awaiting_map stage (λ at. front ∙ ap (λ k. take k d) (sym at)) many) came more marks
 
@@ -321,19 +321,19 @@ marked_none kind (Footer size) start passed end marks none marked out =
 marked_none kind (Done size) start passed end marks none marked out = absurd cc
 
 -- before any byte came the stage is the first one
-pub none_passed : (kind : Option ImageType) (stage : Stage) (start place passed : ℕ) → stage_answer kind stage ≡ None
-    → HoldsBy stage start place passed → passed ≡ 0 → start ≤ 0
-none_passed kind First start place passed none holds is = holds.0
-none_passed kind (Records awaited) start place passed none holds is =
+pub none_passed : (kind : Option ImageType) (stage : Stage) (start offset passed : ℕ) → stage_answer kind stage ≡ None
+    → HoldsBy stage start offset passed → passed ≡ 0 → start ≤ 0
+none_passed kind First start offset passed none holds is = holds.0
+none_passed kind (Records awaited) start offset passed none holds is =
     let some = holds.1.1 in absurd (omega (arith, some, is))
-none_passed kind (Footer size) start place passed none holds is = absurd (omega (arith, holds, is))
-none_passed kind (Done size) start place passed none holds is = absurd cc
+none_passed kind (Footer size) start offset passed none holds is = absurd (omega (arith, holds, is))
+none_passed kind (Done size) start offset passed none holds is = absurd cc
 
-pub first_next : (kind : Option ImageType) (stage : Stage) (start place passed end told : ℕ)
-    → stage_answer kind stage ≡ None → HoldsBy stage start place passed → NextBy stage passed end told → passed ≡ 0
+pub first_next : (kind : Option ImageType) (stage : Stage) (start offset passed end told : ℕ)
+    → stage_answer kind stage ≡ None → HoldsBy stage start offset passed → NextBy stage passed end told → passed ≡ 0
     → min 18 told ≤ end
-first_next kind First start place passed end told none holds next is = next.1.1.1
-first_next kind (Records awaited) start place passed end told none holds next is =
+first_next kind First start offset passed end told none holds next is = next.1.1.1
+first_next kind (Records awaited) start offset passed end told none holds next is =
     let some = holds.1.1 in absurd (omega (arith, some, is))
-first_next kind (Footer size) start place passed end told none holds next is = absurd (omega (arith, holds, is))
-first_next kind (Done size) start place passed end told none holds next is = absurd cc
+first_next kind (Footer size) start offset passed end told none holds next is = absurd (omega (arith, holds, is))
+first_next kind (Done size) start offset passed end told none holds next is = absurd cc

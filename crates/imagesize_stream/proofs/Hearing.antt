@@ -96,27 +96,27 @@ module _ (front : List ℕ) (told : ℕ) where
           ∙ ap (λ r. uncounted (and_then r (opened_rest d))) (is.is d begins));
     }
 
-    pub steady_said : length front ≤ told → (next : Awaited) (place : ℕ)
-        → Says front told (λ d. layout_reads d (opening type)) (Ok (opened.Records next place)) → IsSteady next place
-    steady_said fits next place is =
-        saying OpensSteady front (opening type) (opened.Records next place) (opening_steady type)
+    pub steady_said : length front ≤ told → (next : Awaited) (offset : ℕ)
+        → Says front told (λ d. layout_reads d (opening type)) (Ok (opened.Records next offset)) → IsSteady next offset
+    steady_said fits next offset is =
+        saying OpensSteady front (opening type) (opened.Records next offset) (opening_steady type)
         (ap (λ (r : Reads Opening). r.answer) (is.is front (begins_all front told fits)))
 
   -- a mark of the first readings is one of all
-  pub first_covered : {X Y : Type 0} (marks : List Span) (r : Result X Halt) (f : X → Reads Y) (place : ℕ)
-      → is_covered marks place ≡ true
-      → is_covered (go_on marks r f).marks place ≡ true
-  first_covered marks (Ok x) f place here = covered-left marks (f x).marks place here
-  first_covered marks (Err e) f place here = here
+  pub first_covered : {X Y : Type 0} (marks : List Span) (r : Result X Halt) (f : X → Reads Y) (offset : ℕ)
+      → is_covered marks offset ≡ true
+      → is_covered (go_on marks r f).marks offset ≡ true
+  first_covered marks (Ok x) f offset here = covered-left marks (f x).marks offset here
+  first_covered marks (Err e) f offset here = here
 
-  type_covered : (d : List ℕ) (place : ℕ) → is_covered (layout_reads d first_layout).marks place ≡ true
-      → is_covered (meaning_reads d 0).marks place ≡ true
+  type_covered : (d : List ℕ) (offset : ℕ) → is_covered (layout_reads d first_layout).marks offset ≡ true
+      → is_covered (meaning_reads d 0).marks offset ≡ true
   unfolding meaning_reads
-  type_covered d place here =
-      first_covered (kind_reads d 0).marks (kind_reads d 0).answer (λ found. size_reads found d) place
-      (subst (λ (r : Reads ImageType). is_covered r.marks place ≡ true) (sym (type_by_first d))
+  type_covered d offset here =
+      first_covered (kind_reads d 0).marks (kind_reads d 0).answer (λ found. size_reads found d) offset
+      (subst (λ (r : Reads ImageType). is_covered r.marks offset ≡ true) (sym (type_by_first d))
       (first_covered (layout_reads d first_layout).marks (layout_reads d first_layout).answer
-      (type_behind d) place here))
+      (type_behind d) offset here))
 
   pub first_asked : (low high : ℕ) → ((d : List ℕ) → Begins front told d → length d ≡ told
       → SomeBetween low high (layout_reads d first_layout).marks) → RestsBetween low high front told
@@ -127,18 +127,18 @@ module _ (front : List ℕ) (told : ℕ) where
       → AllBelow (length front) (layout_reads d first_layout).marks → ⊥)
       → RestsOnMore front told
   first_missing none =
-      λ d begins as_long below. none d begins as_long (λ place here. below place (type_covered d place here))
+      λ d begins as_long below. none d begins as_long (λ offset here. below offset (type_covered d offset here))
 
   size_covered : (type : ImageType) (says : Says front told (λ d. kind_reads d 0) (Ok type)) (d : List ℕ)
-      → Begins front told d → (place : ℕ)
-      → is_covered (layout_reads d (opening type)).marks place ≡ true
-      → is_covered (meaning_reads d 0).marks place ≡ true
-  size_covered type says d begins place here =
-      subst (λ (r : Reads ImageSize). is_covered r.marks place ≡ true) (sym (meaning_behind type says d begins))
-      (covered-right says.marks (size_reads type d).marks place
-      (subst (λ (r : Reads ImageSize). is_covered r.marks place ≡ true) (sym (opened_as type d))
+      → Begins front told d → (offset : ℕ)
+      → is_covered (layout_reads d (opening type)).marks offset ≡ true
+      → is_covered (meaning_reads d 0).marks offset ≡ true
+  size_covered type says d begins offset here =
+      subst (λ (r : Reads ImageSize). is_covered r.marks offset ≡ true) (sym (meaning_behind type says d begins))
+      (covered-right says.marks (size_reads type d).marks offset
+      (subst (λ (r : Reads ImageSize). is_covered r.marks offset ≡ true) (sym (opened_as type d))
       (first_covered (layout_reads d (opening type)).marks (layout_reads d (opening type)).answer
-      (opened_rest d) place here)))
+      (opened_rest d) offset here)))
 
   pub size_missing : (type : ImageType) → Says front told (λ d. kind_reads d 0) (Ok type)
       → ((d : List ℕ) → Begins front told d → length d ≡ told
@@ -146,7 +146,7 @@ module _ (front : List ℕ) (told : ℕ) where
       → RestsOnMore front told
   size_missing type says none =
       λ d begins as_long below. none d begins as_long
-      (λ place here. below place (size_covered type says d begins place here))
+      (λ offset here. below offset (size_covered type says d begins offset here))
 
   pub size_asked : (type : ImageType) → Says front told (λ d. kind_reads d 0) (Ok type) → (low high : ℕ)
       → ((d : List ℕ) → Begins front told d → length d ≡ told

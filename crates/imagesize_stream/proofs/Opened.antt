@@ -62,7 +62,7 @@ use Rattle.imagesize_walked.specs.declared.formats.tiff.Header.{Header}
 -- what goes on from the first bytes
 abbrev pub opened_rest : List ℕ → Opening → Reads ImageSize
 opened_rest d (opened.Size size) = gives size
-opened_rest d (opened.Records next place) = run next place d
+opened_rest d (opened.Records next offset) = run next offset d
 
 sized_as : (d : List ℕ) (t : Layout ImageSize) → layout_reads d t ≡ and_then (layout_reads d (sized t)) (opened_rest d)
 sized_as d t =
@@ -71,73 +71,73 @@ sized_as d t =
 
 -- A format each of whose records is read alike.
 alike_as : {C : Type 0} (c : Chain C ImageSize) (next : Awaited) (t : ℕ → Layout (Said C ImageSize))
-    → ((held : List C) (place : ℕ) → c.said held place ≡ t place)
-    → ((place : ℕ) → step next place ≡ bind (t place) (after (λ _. next) decides))
+    → ((held : List C) (offset : ℕ) → c.said held offset ≡ t offset)
+    → ((offset : ℕ) → step next offset ≡ bind (t offset) (after (λ _. next) decides))
     → ((d : List ℕ) → Advances c d) → (d : List ℕ) → run next c.first d ≡ chain_at c d
 alike_as {C} c next t is steps adv d =
     as_awaited {T = Unit {0}} c (λ _. next) (λ _ _. tt) decides (λ _ _. Unit {0})
-    (λ e held x place known. ap (layout_reads e) (steps place) ∙ over-bind e (t place) (after (λ _. next) decides)
+    (λ e held x offset known. ap (layout_reads e) (steps offset) ∙ over-bind e (t offset) (after (λ _. next) decides)
     ∙ ap (λ u. and_then (layout_reads e u) (λ said. layout_reads e (after (λ _. next) decides said)))
-    (sym (is held place)))
-    (λ e held x place v q known got. tt) d (adv d) (start c) tt tt
+    (sym (is held offset)))
+    (λ e held x offset v q known got. tt) d (adv d) (start c) tt tt
     ∙ by_size d (chain_at c d)
 
 -- a segment that ends an image within the image stands in one
 abbrev Inner : ℕ → Said ℕ ImageSize → Type 0
 Inner k (Decided size) = Unit {0}
-Inner k (Next marker place) = marker ≡ 0xD9 → 0 < k
+Inner k (Next marker offset) = marker ≡ 0xD9 → 0 < k
 
-segment_inner : (k place : ℕ) → Saying (Inner k) (jpeg_segment k place)
-segment_inner k place head =
-    on_test (Saying (Inner k)) (eqb (slice_index head 0) 0xFF) (jpeg_marked k place (slice_index head 1))
+segment_inner : (k offset : ℕ) → Saying (Inner k) (jpeg_segment k offset)
+segment_inner k offset head =
+    on_test (Saying (Inner k)) (eqb (slice_index head 0) 0xFF) (jpeg_marked k offset (slice_index head 1))
     (refuse Corrupted)
-    (λ _. on_test (Saying (Inner k)) (is_own_frame k (slice_index head 1)) (jpeg_frame place) _ (λ _ height width. tt)
+    (λ _. on_test (Saying (Inner k)) (is_own_frame k (slice_index head 1)) (jpeg_frame offset) _ (λ _ height width. tt)
     (λ _. on_test (Saying (Inner k)) (is_own_end k (slice_index head 1)) (refuse Corrupted)
-    (jpeg_other place (slice_index head 1)) (λ _. tt)
+    (jpeg_other offset (slice_index head 1)) (λ _. tt)
     (λ none length ends. grind (arith, nat_tests))))
     (λ _. tt)
 
 jpeg_as : (d : List ℕ) → run (Segment 0) 2 d ≡ jpeg d
 jpeg_as d =
     as_awaited jpeg_segments Segment depth_behind decides (λ markers k. Nested k markers)
-    (λ e markers k place known. over-bind e (jpeg_segment k place)
+    (λ e markers k offset known. over-bind e (jpeg_segment k offset)
     (after (λ marker. Segment (depth_behind k marker)) decides)
-    ∙ ap (λ n. and_then (layout_reads e (jpeg_segment n place))
+    ∙ ap (λ n. and_then (layout_reads e (jpeg_segment n offset))
     (λ said. layout_reads e (after (λ marker. Segment (depth_behind k marker)) decides said))) (sym known.is))
-    (λ e markers k place v q known got. nested_on k v markers
-    (saying (Inner k) e (jpeg_segment k place) (Next v q) (segment_inner k place)
-    (subst (λ n. (layout_reads e (jpeg_segment n place)).answer ≡ Ok (Next v q)) known.is got)) known)
+    (λ e markers k offset v q known got. nested_on k v markers
+    (saying (Inner k) e (jpeg_segment k offset) (Next v q) (segment_inner k offset)
+    (subst (λ n. (layout_reads e (jpeg_segment n offset)).answer ≡ Ok (Next v q)) known.is got)) known)
     d (jpeg_advances d) (start jpeg_segments) 0 (record { is = refl; balanced = omega arith })
     ∙ by_size d (jpeg d)
 
 ilbm_as : (d : List ℕ) → run Chunk 12 d ≡ ilbm d
-ilbm_as = alike_as ilbm_chunks Chunk ilbm_chunk (λ held place. refl) (λ place. refl) ilbm_advances
+ilbm_as = alike_as ilbm_chunks Chunk ilbm_chunk (λ held offset. refl) (λ offset. refl) ilbm_advances
 
 pnm_as : (d : List ℕ) → run Word 2 d ≡ pnm d
 pnm_as d =
     as_unrolled {T = Unit {0}} pnm_words (λ _. Word) (λ _ _. tt) decides (λ _ _. Unit {0}) d (pnm_advances d)
-    (λ t x known. word_unrolls d t.place)
+    (λ t x known. word_unrolls d t.offset)
     (λ t x v q known got. tt) (start pnm_words) tt tt
     ∙ by_size d (pnm d)
 
 lines_as : (first : ℕ) (d : List ℕ) → run Line first d ≡ chain_at (hdr_lines first) d
-lines_as first = alike_as (hdr_lines first) Line (λ place. line_at 0x0A place 256 (hdr_line place)) (λ held place. refl)
-    (λ place. refl) (hdr_advances first)
+lines_as first = alike_as (hdr_lines first) Line (λ offset. line_at 0x0A offset 256 (hdr_line offset)) (λ held offset. refl)
+    (λ offset. refl) (hdr_advances first)
 
 attributes_as : (long : Bool) (d : List ℕ) → run (Attribute long) 8 d ≡ chain_at (exr_attributes (names_of long)) d
 attributes_as long = alike_as (exr_attributes (names_of long)) (Attribute long) (exr_attribute (names_of long))
-    (λ held place. refl) (λ place. refl)
+    (λ held offset. refl) (λ offset. refl)
     (attribute_advances (names_of long))
 
-room_as : (version : ℕ) → names_of (ltb 32 (name_room version)) ≡ name_room version
+buffer_as : (version : ℕ) → names_of (ltb 32 (name_room version)) ≡ name_room version
 unfolding name_room
-room_as version = on_test (λ n. names_of (ltb 32 n) ≡ n) (eqb (bit_and version 0x400) 0) 32 256 (λ _. refl) (λ _. refl)
+buffer_as version = on_test (λ n. names_of (ltb 32 n) ≡ n) (eqb (bit_and version 0x400) 0) 32 256 (λ _. refl) (λ _. refl)
 
 exr_as : (d : List ℕ) → exr d ≡ and_then (layout_reads d open_exr) (opened_rest d)
 exr_as d = onward-and_then (span_of d 4 4) (number_at d Little 4 4)
     (λ version. gives (opened.Records (Attribute (ltb 32 (name_room version))) 8)) (opened_rest d)
     (λ version. chain_at (exr_attributes (name_room version)) d)
-    (λ version. ap (λ room. chain_at (exr_attributes room) d) (sym (room_as version))
+    (λ version. ap (λ buffer. chain_at (exr_attributes buffer) d) (sym (buffer_as version))
     ∙ sym (attributes_as (ltb 32 (name_room version)) d))
 
 hdr_as : (d : List ℕ) → hdr d ≡ and_then (layout_reads d open_hdr) (opened_rest d)
@@ -157,15 +157,15 @@ icons_as : (count : ℕ) (d : List ℕ) → run (Icon count 0 None) 6 d ≡ chai
 icons_as count d =
     as_awaited (icon_entries count) (λ (x : ℕ × Option ImageSize). Icon count x.0 x.1)
     (λ x size. (x.0 + 1, later_largest x.1 size)) decides Icons
-    (λ e sizes x place known. over-bind e (icon_in count x.0 x.1 place)
+    (λ e sizes x offset known. over-bind e (icon_in count x.0 x.1 offset)
     (after (λ size. Icon count (x.0 + 1) (later_largest x.1 size)) decides)
-    ∙ ap (λ n. and_then (layout_reads e (icon_in count n x.1 place))
+    ∙ ap (λ n. and_then (layout_reads e (icon_in count n x.1 offset))
     (λ said. layout_reads e (after (λ size. Icon count (x.0 + 1) (later_largest x.1 size)) decides said)))
     (sym known.many)
-    ∙ ap (λ b. and_then (layout_reads e (icon_in count (length sizes) b place))
+    ∙ ap (λ b. and_then (layout_reads e (icon_in count (length sizes) b offset))
     (λ said. layout_reads e (after (λ size. Icon count (x.0 + 1) (later_largest x.1 size)) decides said)))
     (sym known.is))
-    (λ e sizes x place v q known got.
+    (λ e sizes x offset v q known got.
     let on = largest_on x.1 sizes v known.is known.area in
     record { many = length_push sizes v ∙ ap (λ n. n + 1) known.many; is = on.0; area = on.1 })
     d (icon_advances count d) (start (icon_entries count)) (0, None) (record { many = refl; is = refl; area = refl })
@@ -186,13 +186,13 @@ entries_as header count d =
     as_awaited (tiff_entries header count) (λ (x : ℕ × Option ℕ × Option ℕ). Entry (listing header count x))
     (λ x entry. (x.0 + 1, side_with 0x100 x.1 entry, side_with 0x101 x.2 entry)) decides
     (λ entries x. Known x.0 x.1 x.2 entries)
-    (λ e entries x place known.
-    over-bind e (entry_behind header count x.0 x.1 x.2 place)
+    (λ e entries x offset known.
+    over-bind e (entry_behind header count x.0 x.1 x.2 offset)
     (after (λ entry. Entry (listed_with (listing header count x) entry)) decides)
     ∙ ap (λ r. and_then r
     (λ said. layout_reads e (after (λ entry. Entry (listed_with (listing header count x) entry)) decides said)))
-    (sym (entry_as e header count x.0 x.1 x.2 place entries known)))
-    (λ e entries x place v q known got. known_on x.0 x.1 x.2 (side_with 0x100 x.1 v)
+    (sym (entry_as e header count x.0 x.1 x.2 offset entries known)))
+    (λ e entries x offset v q known got. known_on x.0 x.1 x.2 (side_with 0x100 x.1 v)
     (side_with 0x101 x.2 v) entries v refl refl known)
     d (entries_advance header count d) (start (tiff_entries header count)) (0, None, None)
     (record { many = refl; wide = refl; high = refl })
@@ -215,54 +215,54 @@ tiff_as d =
     ∙ ap (λ r. and_then r (opened_rest d))
     (sym (over-bind d tiff_header (λ header. opens (Directory header) header.directory)))
 
--- a search finds a box at its own place
+-- a search finds a box at its own offset
 abbrev AtPlace : ℕ → Said (Unit {0}) FoundBox → Type 0
-AtPlace place (Decided found) = found.place ≡ place
-AtPlace place (Next v q) = Unit {0}
+AtPlace offset (Decided found) = found.offset ≡ offset
+AtPlace offset (Next v q) = Unit {0}
 
-box_placed : (tag : List ℕ) (place : ℕ) → Saying (AtPlace place) (searched_box tag place)
-box_placed tag place head = by_searched (Saying (AtPlace place)) tag place head refl tt (λ big. tt)
+box_placed : (tag : List ℕ) (offset : ℕ) → Saying (AtPlace offset) (searched_box tag offset)
+box_placed tag offset head = by_searched (Saying (AtPlace offset)) tag offset head refl tt (λ big. tt)
 
 -- A search: what goes on after its box.
 search_as : (next : Awaited) (tag : List ℕ) (leads : ℕ → FoundBox → Layout (Said Awaited ImageSize))
-    → ((place : ℕ) → step next place ≡ bind (searched_box tag place) (after (λ _. next) (leads place)))
+    → ((offset : ℕ) → step next offset ≡ bind (searched_box tag offset) (after (λ _. next) (leads offset)))
     → (first : ℕ) (d : List ℕ)
     → run next first d ≡ and_then (chain_at (search_for tag first) d)
-    (λ found. and_then (layout_reads d (leads found.place found)) (goes d))
+    (λ found. and_then (layout_reads d (leads found.offset found)) (goes d))
 search_as next tag leads is first d =
-    as_awaited {T = Unit {0}} (search_for tag first) (λ _. next) (λ _ _. tt) (λ found. leads found.place found)
+    as_awaited {T = Unit {0}} (search_for tag first) (λ _. next) (λ _ _. tt) (λ found. leads found.offset found)
     (λ _ _. Unit {0})
-    (λ e held x place known. ap (layout_reads e) (is place)
-    ∙ over-bind e (searched_box tag place) (after (λ _. next) (leads place))
-    ∙ then_alike (layout_reads e (searched_box tag place))
-    (λ said. layout_reads e (after (λ _. next) (leads place) said))
-    (λ said. layout_reads e (after (λ _. next) (λ found. leads found.place found) said))
-    (led e place))
-    (λ e held x place v q known got. tt) d (search_advances tag first d) (start (search_for tag first)) tt tt
+    (λ e held x offset known. ap (layout_reads e) (is offset)
+    ∙ over-bind e (searched_box tag offset) (after (λ _. next) (leads offset))
+    ∙ then_alike (layout_reads e (searched_box tag offset))
+    (λ said. layout_reads e (after (λ _. next) (leads offset) said))
+    (λ said. layout_reads e (after (λ _. next) (λ found. leads found.offset found) said))
+    (led e offset))
+    (λ e held x offset v q known got. tt) d (search_advances tag first d) (start (search_for tag first)) tt tt
   where
-    led : (e : List ℕ) (place : ℕ) (said : Said (Unit {0}) FoundBox)
-        → (layout_reads e (searched_box tag place)).answer ≡ Ok said
-        → layout_reads e (after (λ _. next) (leads place) said)
-        ≡ layout_reads e (after (λ _. next) (λ found. leads found.place found) said)
-    led e place (Decided found) got =
+    led : (e : List ℕ) (offset : ℕ) (said : Said (Unit {0}) FoundBox)
+        → (layout_reads e (searched_box tag offset)).answer ≡ Ok said
+        → layout_reads e (after (λ _. next) (leads offset) said)
+        ≡ layout_reads e (after (λ _. next) (λ found. leads found.offset found) said)
+    led e offset (Decided found) got =
         ap (λ p. layout_reads e (leads p found))
-        (sym (saying (AtPlace place) e (searched_box tag place) (Decided found) (box_placed tag place) got))
-    led e place (Next v q) got = refl
+        (sym (saying (AtPlace offset) e (searched_box tag offset) (Decided found) (box_placed tag offset) got))
+    led e offset (Next v q) got = refl
 
 properties_as : (all first : ℕ) (d : List ℕ)
     → run (Property (gathered_first all)) first d ≡ chain_at (properties all first) d
 properties_as all first d =
     as_awaited (properties all first) Property gathered_with decides (λ held g. Amounts all g held)
-    (λ e held g place known.
-    over-bind e (property_at g.left place) (property_step g place)
-    ∙ then_then (layout_reads e (property_at g.left place))
-    (λ found. layout_reads e (property_or_answer held place found))
+    (λ e held g offset known.
+    over-bind e (property_at g.left offset) (property_step g offset)
+    ∙ then_then (layout_reads e (property_at g.left offset))
+    (λ found. layout_reads e (property_or_answer held offset found))
     (λ said. layout_reads e (after (λ p. Property (gathered_with g p)) decides said))
-    (λ found. layout_reads e (property_step g place found)) (listed e held g place known)
+    (λ found. layout_reads e (property_step g offset found)) (listed e held g offset known)
     ∙ ap (λ r. and_then r (λ said. layout_reads e (after (λ p. Property (gathered_with g p)) decides said)))
-    (sym (over-bind e (property_at g.left place) (property_or_answer held place))
-    ∙ ap (λ n. layout_reads e (bind (property_at n place) (property_or_answer held place))) (sym known.left)))
-    (λ e held g place v q known got. amounts_on all g held v known)
+    (sym (over-bind e (property_at g.left offset) (property_or_answer held offset))
+    ∙ ap (λ n. layout_reads e (bind (property_at n offset) (property_or_answer held offset))) (sym known.left)))
+    (λ e held g offset v q known got. amounts_on all g held v known)
     d (properties_advance all first d) (start (properties all first)) (gathered_first all) (record {
       left = omega arith;
       best = record { is = refl; first = refl; area = refl; found = λ some. absurd (omega arith) };
@@ -277,43 +277,43 @@ properties_as all first d =
     decided e g (Ok size) = refl
     decided e g (Err halt) = refl
 
-    listed : (e : List ℕ) (held : List heif.Property) (g : Gathered) (place : ℕ) → Amounts all g held
+    listed : (e : List ℕ) (held : List heif.Property) (g : Gathered) (offset : ℕ) → Amounts all g held
         → (found : Option heif.Property)
-        → layout_reads e (property_step g place found) ≡ and_then (layout_reads e (property_or_answer held place found))
+        → layout_reads e (property_step g offset found) ≡ and_then (layout_reads e (property_or_answer held offset found))
         (λ said. layout_reads e (after (λ p. Property (gathered_with g p)) decides said))
-    listed e held g place known None =
+    listed e held g offset known None =
         decided e g (gathered_answer g)
         ∙ ap (λ r. and_then r (λ said. layout_reads e (after (λ p. Property (gathered_with g p)) decides said)))
-        (sym (answers all g held place e known ∙ answer_read e g.best g.turn))
-    listed e held g place known (Some property) = refl
+        (sym (answers all g held offset e known ∙ answer_read e g.best g.turn))
+    listed e held g offset known (Some property) = refl
 
 ipco_as : (first : ℕ) (d : List ℕ) → run Ipco first d
     ≡ and_then (chain_at (search_for (codes "ipco") first) d)
-    (λ ipco. chain_at (properties ipco.size (ipco.place + 8)) d)
+    (λ ipco. chain_at (properties ipco.size (ipco.offset + 8)) d)
 ipco_as first d =
-    search_as Ipco (codes "ipco") ipco_leads (λ place. refl) first d
+    search_as Ipco (codes "ipco") ipco_leads (λ offset. refl) first d
     ∙ then_alike (chain_at (search_for (codes "ipco") first) d) _ _
-    (λ ipco _. properties_as ipco.size (ipco.place + 8) d)
+    (λ ipco _. properties_as ipco.size (ipco.offset + 8) d)
 
 iprp_as : (first : ℕ) (d : List ℕ)
     → run Iprp first d ≡ and_then (chain_at (search_for (codes "iprp") first) d) (λ iprp. heif_in_iprp iprp d)
 iprp_as first d =
-    search_as Iprp (codes "iprp") iprp_leads (λ place. refl) first d
+    search_as Iprp (codes "iprp") iprp_leads (λ offset. refl) first d
     ∙ then_alike (chain_at (search_for (codes "iprp") first) d) _ _
-    (λ iprp _. ipco_as (iprp.place + 8) d)
+    (λ iprp _. ipco_as (iprp.offset + 8) d)
 
 in_meta_as : (meta : FoundBox) (d : List ℕ)
-    → and_then (layout_reads d (meta_leads meta.place meta)) (goes d) ≡ heif_in_meta meta d
+    → and_then (layout_reads d (meta_leads meta.offset meta)) (goes d) ≡ heif_in_meta meta d
 in_meta_as meta d = sym
-    (onward-and_then (span_of d (meta.place + 8) 4) (bytes_at d (meta.place + 8) 4)
-    (λ version. gives (Next Iprp (meta.place + 12))) (goes d)
-    (λ version. and_then (chain_at (search_for (codes "iprp") (meta.place + 12)) d) (λ iprp. heif_in_iprp iprp d))
-    (λ version. sym (iprp_as (meta.place + 12) d)))
+    (onward-and_then (span_of d (meta.offset + 8) 4) (bytes_at d (meta.offset + 8) 4)
+    (λ version. gives (Next Iprp (meta.offset + 12))) (goes d)
+    (λ version. and_then (chain_at (search_for (codes "iprp") (meta.offset + 12)) d) (λ iprp. heif_in_iprp iprp d))
+    (λ version. sym (iprp_as (meta.offset + 12) d)))
 
 meta_as : (first : ℕ) (d : List ℕ)
     → run Meta first d ≡ and_then (chain_at (search_for (codes "meta") first) d) (λ meta. heif_in_meta meta d)
 meta_as first d =
-    search_as Meta (codes "meta") meta_leads (λ place. refl) first d
+    search_as Meta (codes "meta") meta_leads (λ offset. refl) first d
     ∙ then_alike (chain_at (search_for (codes "meta") first) d) _ _ (λ meta _. in_meta_as meta d)
 
 heif_as : (d : List ℕ) → heif_reads d ≡ and_then (layout_reads d open_heif) (opened_rest d)
@@ -333,13 +333,13 @@ boxes_as : (d : List ℕ)
 boxes_as d =
     as_awaited jxl_chain (λ (front : List ℕ). Box (kept_of front)) (λ front piece. front ++ piece) jxl_verdict
     (λ pieces front. concat pieces ≡ front)
-    (λ e pieces front place known.
-    ap (λ held. layout_reads e (bind (jxl_box held place) (after (λ piece. Box (kept_of (held ++ piece))) jxl_verdict)))
+    (λ e pieces front offset known.
+    ap (λ held. layout_reads e (bind (jxl_box held offset) (after (λ piece. Box (kept_of (held ++ piece))) jxl_verdict)))
     (kept_is front)
-    ∙ over-bind e (jxl_box front place) (after (λ piece. Box (kept_of (front ++ piece))) jxl_verdict)
-    ∙ ap (λ held. and_then (layout_reads e (jxl_box held place))
+    ∙ over-bind e (jxl_box front offset) (after (λ piece. Box (kept_of (front ++ piece))) jxl_verdict)
+    ∙ ap (λ held. and_then (layout_reads e (jxl_box held offset))
     (λ said. layout_reads e (after (λ piece. Box (kept_of (front ++ piece))) jxl_verdict said))) (sym known))
-    (λ e pieces front place v q known got. joined pieces front v known) d (jxl_advances d) (start jxl_chain) [] refl
+    (λ e pieces front offset v q known got. joined pieces front v known) d (jxl_advances d) (start jxl_chain) [] refl
     ∙ then_alike (chain_at jxl_chain d)
     (λ front. and_then (layout_reads d (jxl_verdict front)) (goes d))
     (λ front. just (jxl_size front) []) (λ front _. by_verdict (jxl_size front))

@@ -31,7 +31,7 @@ use Rattle.imagesize_texts.specs.Contents.{line_text}
 use Rattle.imagesize_texts.specs.Hdr.{check_identifier, hdr_identifier, is_identifier}
 use Rattle.imagesize_types.specs.declared.size.ImageSize.{ImageSize}
 use Rattle.imagesize_source.specs.declared.endian.Endian.{Endian}
-use Rattle.imagesize_walked.specs.Tiff.{byte_order, directory_at, stated_place, tiff_header, version_of}
+use Rattle.imagesize_walked.specs.Tiff.{byte_order, directory_at, stated_offset, tiff_header, version_of}
 use Rattle.imagesize_walked.specs.declared.formats.tiff.Version.{Version}
 use Rattle.imagesize_walked.specs.declared.formats.tiff.Version.TheVariants.{BigTiff, Tiff as Tiff_version}
 use Rattle.imagesize_fixed.specs.Aseprite.{aseprite}
@@ -92,10 +92,10 @@ identifier_reaches = (
       (λ text _. reach_if (is_identifier text) 0 132 (done (length text + 1)) (refuse InvalidHdrIdentifier) tt tt),
 )
 
-place_reaches : (order : Endian) (version : Version) → Reach 0 132 (stated_place order version)
-unfolding stated_place
-place_reaches order Tiff_version = (omega arith, omega arith, λ place. tt)
-place_reaches order BigTiff = (
+offset_reaches : (order : Endian) (version : Version) → Reach 0 132 (stated_offset order version)
+unfolding stated_offset
+offset_reaches order Tiff_version = (omega arith, omega arith, λ offset. tt)
+offset_reaches order BigTiff = (
   omega arith,
   omega arith,
   λ size. reach_if (eqb size 8) 0 132
@@ -104,7 +104,7 @@ place_reaches order BigTiff = (
         omega arith,
         omega arith,
         λ zeros. reach_if (eqb zeros 0) 0 132 (field order 8 8 done) (refuse InvalidBigTiffHeader)
-            (omega arith, omega arith, λ place. tt) tt,
+            (omega arith, omega arith, λ offset. tt) tt,
       ) tt,
 )
 
@@ -117,8 +117,8 @@ header_reaches = (
     omega arith,
     omega arith,
     λ number. reach_accept 0 132 (version_of number) _
-        (λ version _. reach_bind 0 132 (stated_place order version) _ (place_reaches order version)
-        (λ place. reach_accept 0 132 (directory_at order version place) done (λ header _. tt))),
+        (λ version _. reach_bind 0 132 (stated_offset order version) _ (offset_reaches order version)
+        (λ offset. reach_accept 0 132 (directory_at order version offset) done (λ header _. tt))),
   )),
 )
 

@@ -24,8 +24,8 @@ use Rattle.imagesize_walked.specs.Tiff.{tiff_header}
 abbrev pub Saying : {X : Type 0} → (X → Type 0) → Layout X → Type 0
 Saying P (done x) = P x
 Saying P (refuse e) = Unit {0}
-Saying P (field order place k f) = (v : ℕ) → Saying P (f v)
-Saying P (reading r place f) = (bs : List ℕ) → Saying P (f bs)
+Saying P (field order offset k f) = (v : ℕ) → Saying P (f v)
+Saying P (reading r offset f) = (bs : List ℕ) → Saying P (f bs)
 Saying P (begin_record t) = Saying P t
 
 saying_on : {X Y : Type 0} (P : X → Type 0) (marks : List Span) (r : Result Y Halt) (f : Y → Reads X) (x : X)
@@ -38,11 +38,11 @@ pub saying : {X : Type 0} (P : X → Type 0) (d : List ℕ) (t : Layout X) (x : 
     → (layout_reads d t).answer ≡ Ok x → P x
 saying P d (done y) x h is = let same : y ≡ x = cc in subst P same h
 saying P d (refuse e) x h is = absurd cc
-saying P d (field order place k f) x h is =
-    saying_on P (span_of d place k) (number_at d order place k) (λ n. layout_reads d (f n)) x is
+saying P d (field order offset k f) x h is =
+    saying_on P (span_of d offset k) (number_at d order offset k) (λ n. layout_reads d (f n)) x is
     (λ n got. saying P d (f n) x (h n) got)
-saying P d (reading r place f) x h is =
-    saying_on P (read_of d r place).marks (read_of d r place).answer (λ bs. layout_reads d (f bs)) x is
+saying P d (reading r offset f) x h is =
+    saying_on P (read_of d r offset).marks (read_of d r offset).answer (λ bs. layout_reads d (f bs)) x is
     (λ bs got. saying P d (f bs) x (h bs) got)
 saying P d (begin_record t) x h is = saying P d t x h is
 
@@ -51,14 +51,14 @@ pub saying_bind : {X Y : Type 0} (P : Y → Type 0) (t : Layout X) (g : X → La
     → Saying P (bind t g)
 saying_bind P (done x) g each = each x
 saying_bind P (refuse e) g each = tt
-saying_bind P (field order place k f) g each = λ v. saying_bind P (f v) g each
-saying_bind P (reading r place f) g each = λ bs. saying_bind P (f bs) g each
+saying_bind P (field order offset k f) g each = λ v. saying_bind P (f v) g each
+saying_bind P (reading r offset f) g each = λ bs. saying_bind P (f bs) g each
 saying_bind P (begin_record t) g each = saying_bind P t g each
 
 -- the record that the first bytes tell stands well
 abbrev pub OpensSteady : Opening → Type 0
 OpensSteady (opened.Size size) = Unit {0}
-OpensSteady (opened.Records next place) = IsSteady next place
+OpensSteady (opened.Records next offset) = IsSteady next offset
 
 steady_sized : (t : Layout ImageSize) → Saying OpensSteady (sized t)
 steady_sized t = saying_bind OpensSteady t (λ size. done (opened.Size size)) (λ size. tt)

@@ -34,32 +34,32 @@ module _ (d : List ℕ) where
   mine said = and_then (layout_reads d (after (λ _. Word) decides said)) (goes d)
 
   -- the rest of a comment
-  comment_as : (place taken : ℕ) → run Comment (place + taken) d
-      ≡ and_then (layout_reads d (passed_line 0x0A (place + taken) 1024 (λ rest. pnm_passed place (taken + rest)))) mine
-  comment_as place taken =
-      let bs : List ℕ = text_part d (Line 0x0A) (place + taken) 1024 in
-      let marks : List Span = span_at (place + taken) (length bs) in
-      run_unfolds d Comment (place + taken)
+  comment_as : (offset taken : ℕ) → run Comment (offset + taken) d
+      ≡ and_then (layout_reads d (passed_line 0x0A (offset + taken) 1024 (λ rest. pnm_passed offset (taken + rest)))) mine
+  comment_as offset taken =
+      let bs : List ℕ = text_part d (Line 0x0A) (offset + taken) 1024 in
+      let marks : List Span = span_at (offset + taken) (length bs) in
+      run_unfolds d Comment (offset + taken)
       ∙ behind_text marks (layout_reads d
-      (accept (line_length 0x0A 1024 bs) (λ rest. done (Next Word (place + taken + rest))))) (goes d)
+      (accept (line_length 0x0A 1024 bs) (λ rest. done (Next Word (offset + taken + rest))))) (goes d)
       ∙ ap (put_behind marks) (by_length (line_length 0x0A 1024 bs))
       ∙ sym (behind_text marks
-      (layout_reads d (accept (line_length 0x0A 1024 bs) (λ rest. pnm_passed place (taken + rest)))) mine)
+      (layout_reads d (accept (line_length 0x0A 1024 bs) (λ rest. pnm_passed offset (taken + rest)))) mine)
     where
       by_length : (r : Result ℕ Halt)
-          → and_then (layout_reads d (accept r (λ rest. done (Next Word (place + taken + rest))))) (goes d)
-          ≡ and_then (layout_reads d (accept r (λ rest. pnm_passed place (taken + rest)))) mine
+          → and_then (layout_reads d (accept r (λ rest. done (Next Word (offset + taken + rest))))) (goes d)
+          ≡ and_then (layout_reads d (accept r (λ rest. pnm_passed offset (taken + rest)))) mine
       by_length (Ok rest) =
-          ap (λ q. run Word q d) (let e : place + taken + rest ≡ place + (taken + rest) = omega arith in e)
+          ap (λ q. run Word q d) (let e : offset + taken + rest ≡ offset + (taken + rest) = omega arith in e)
       by_length (Err e) = refl
 
   -- the height after the width
-  height_as : (place : ℕ) (w : WordRead)
-      → run (Height (number_text w.text)) (place + w.taken) d ≡ and_then (layout_reads d (pnm_height place w)) mine
-  height_as place w =
-      let bs : List ℕ = text_part d word_text_of (place + w.taken) word_room in
-      let marks : List Span = span_at (place + w.taken) (length bs) in
-      run_unfolds d (Height (number_text w.text)) (place + w.taken)
+  height_as : (offset : ℕ) (w : WordRead)
+      → run (Height (number_text w.text)) (offset + w.taken) d ≡ and_then (layout_reads d (pnm_height offset w)) mine
+  height_as offset w =
+      let bs : List ℕ = text_part d word_text_of (offset + w.taken) word_room in
+      let marks : List Span = span_at (offset + w.taken) (length bs) in
+      run_unfolds d (Height (number_text w.text)) (offset + w.taken)
       ∙ behind_text marks (layout_reads d (accept (word_text bs) (height_step (number_text w.text)))) (goes d)
       ∙ ap (put_behind marks) (by_word (word_text bs))
       ∙ sym (behind_text marks (layout_reads d (accept (word_text bs)
@@ -80,33 +80,33 @@ module _ (d : List ℕ) where
       by_word (Err e) = refl
 
   -- a word
-  word_as : (place : ℕ) (w : WordRead)
-      → and_then (layout_reads d (word_step place w)) (goes d) ≡ and_then (layout_reads d (pnm_word place w)) mine
-  word_as place w = by_tests (is_comment w.text) (eqb w.ended_by 0x0A) (is_blank w.text) where
+  word_as : (offset : ℕ) (w : WordRead)
+      → and_then (layout_reads d (word_step offset w)) (goes d) ≡ and_then (layout_reads d (pnm_word offset w)) mine
+  word_as offset w = by_tests (is_comment w.text) (eqb w.ended_by 0x0A) (is_blank w.text) where
     by_tests : (comment line blank : Bool)
         → run (cond comment (cond line Word Comment) (cond blank Word (Height (number_text w.text))))
-        (place + w.taken) d
+        (offset + w.taken) d
         ≡ and_then (layout_reads d
-        (cond comment (cond line (pnm_passed place w.taken) (passed_line 0x0A (place + w.taken) 1024
-        (λ rest. pnm_passed place (w.taken + rest))))
-        (cond blank (pnm_passed place w.taken) (pnm_height place w)))) mine
+        (cond comment (cond line (pnm_passed offset w.taken) (passed_line 0x0A (offset + w.taken) 1024
+        (λ rest. pnm_passed offset (w.taken + rest))))
+        (cond blank (pnm_passed offset w.taken) (pnm_height offset w)))) mine
     by_tests true true blank = refl
-    by_tests true false blank = comment_as place w.taken
+    by_tests true false blank = comment_as offset w.taken
     by_tests false line true = refl
-    by_tests false line false = height_as place w
+    by_tests false line false = height_as offset w
 
   -- what is awaited reads as the record of the chain, and what is after it
-  pub word_unrolls : (place : ℕ) → run Word place d ≡ and_then (layout_reads d (word place (pnm_word place))) mine
-  word_unrolls place =
-      let bs : List ℕ = text_part d word_text_of place word_room in
-      let marks : List Span = span_at place (length bs) in
-      run_unfolds d Word place
-      ∙ behind_text marks (layout_reads d (accept (word_text bs) (word_step place))) (goes d)
+  pub word_unrolls : (offset : ℕ) → run Word offset d ≡ and_then (layout_reads d (word offset (pnm_word offset))) mine
+  word_unrolls offset =
+      let bs : List ℕ = text_part d word_text_of offset word_room in
+      let marks : List Span = span_at offset (length bs) in
+      run_unfolds d Word offset
+      ∙ behind_text marks (layout_reads d (accept (word_text bs) (word_step offset))) (goes d)
       ∙ ap (put_behind marks) (by_word (word_text bs))
-      ∙ sym (behind_text marks (layout_reads d (accept (word_text bs) (pnm_word place))) mine)
+      ∙ sym (behind_text marks (layout_reads d (accept (word_text bs) (pnm_word offset))) mine)
     where
       by_word : (r : Result WordRead Halt)
-          → and_then (layout_reads d (accept r (word_step place))) (goes d)
-          ≡ and_then (layout_reads d (accept r (pnm_word place))) mine
-      by_word (Ok w) = word_as place w
+          → and_then (layout_reads d (accept r (word_step offset))) (goes d)
+          ≡ and_then (layout_reads d (accept r (pnm_word offset))) mine
+      by_word (Ok w) = word_as offset w
       by_word (Err e) = refl

@@ -18,11 +18,11 @@ HasPart d offset bytes = take (length d - offset) bytes ≡ part d offset (lengt
 -- What is known of the input, by the stage. The first bytes came, except those that are not needed. For a footer, the buffer has
 -- those of the last 18 bytes that came.
 abbrev pub KnownBy : Stage → Option ImageType → ℕ → ℕ → ℕ → ℕ → List ℕ → List ℕ → Type 0
-KnownBy First kind start place passed told room d = CameBy First kind start place passed told room (take passed d)
-KnownBy (Records next) kind start place passed told room d = CameBy (Records next) kind start place passed told room (take passed d)
-KnownBy (Footer size) kind start place passed told room d =
-    IsByFooter size d × (drop (told - passed) (take 18 room) ≡ drop (told - 18) (take passed d))
-KnownBy (Done size) kind start place passed told room d =
+KnownBy First kind start offset passed told buffer d = CameBy First kind start offset passed told buffer (take passed d)
+KnownBy (Records next) kind start offset passed told buffer d = CameBy (Records next) kind start offset passed told buffer (take passed d)
+KnownBy (Footer size) kind start offset passed told buffer d =
+    IsByFooter size d × (drop (told - passed) (take 18 buffer) ≡ drop (told - 18) (take passed d))
+KnownBy (Done size) kind start offset passed told buffer d =
     (result_ok (kind_reads d 0).answer ≡ kind) × ((meaning_reads d 0).answer ≡ size)
 
 -- the size depends on a byte at this offset or after it
@@ -30,12 +30,12 @@ abbrev pub DependsFrom : ℕ → List ℕ → Type 0
 DependsFrom offset d = AllBelow offset (meaning_reads d 0).marks → ⊥
 
 -- the input may be this one, by its length and the parts that were given
-pub record IsGiven (stage : Stage) (kind : Option ImageType) (stand : Stand) (room d : List ℕ) : Type 0 where
+pub record IsGiven (stage : Stage) (kind : Option ImageType) (stand : Stand) (buffer d : List ℕ) : Type 0 where
   pub as_long : length d ≡ stand.told
-  pub known : KnownBy stage kind stand.start stand.place stand.passed stand.told room d
+  pub known : KnownBy stage kind stand.start stand.offset stand.passed stand.told buffer d
 
 -- and depends on more, while there is no answer
-pub record MayBeAt (stage : Stage) (kind : Option ImageType) (stand : Stand) (room d : List ℕ) : Type 0 where
-  pub given : IsGiven stage kind stand room d
+pub record MayBeAt (stage : Stage) (kind : Option ImageType) (stand : Stand) (buffer d : List ℕ) : Type 0 where
+  pub given : IsGiven stage kind stand buffer d
   pub depends : IfAwaiting stage (DependsFrom stand.passed d)
   pub marked : MarkedBy stage stand.start stand.passed stand.end (meaning_reads d 0).marks

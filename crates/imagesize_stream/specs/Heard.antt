@@ -51,21 +51,21 @@ Hears front told (Missing image end) =
     RestsOnMore front told × IfSome image (λ type. Says front told (λ d. kind_reads d 0) (Ok type))
     × (OutOfHeader (length front) → RestsBetween (length front) (min end 132) front told)
 Hears front told (Answer image size) = TypeIs front told image × SizeIs front told size
-Hears front told (Records image next place) =
-    IsSteady next place × Says front told (λ d. kind_reads d 0) (Ok image)
-    × Says front told (λ d. layout_reads d (opening image)) (Ok (opened.Records next place)) × (12 ≤ length front)
+Hears front told (Records image next offset) =
+    IsSteady next offset × Says front told (λ d. kind_reads d 0) (Ok image)
+    × Says front told (λ d. layout_reads d (opening image)) (Ok (opened.Records next offset)) × (12 ≤ length front)
 Hears front told (Footer size) = (18 ≤ length front) × ((d : List ℕ) → Begins front told d → IsByFooter size d)
 
 -- P, if bytes are missing
 abbrev pub IfMissing : Heard → Type 0 → Type 0
 IfMissing (Missing image end) P = P
 IfMissing (Answer image size) P = Unit {0}
-IfMissing (Records image next place) P = Unit {0}
+IfMissing (Records image next offset) P = Unit {0}
 IfMissing (Footer size) P = Unit {0}
 
 -- the read that missed a byte requests more than these bytes, and none past the end
 abbrev pub EndsBehind : List ℕ → ℕ → Heard → Type 0
 EndsBehind front told (Missing image end) = (length front < end) × (end ≤ told)
 EndsBehind front told (Answer image size) = Unit {0}
-EndsBehind front told (Records image next place) = Unit {0}
+EndsBehind front told (Records image next offset) = Unit {0}
 EndsBehind front told (Footer size) = Unit {0}

@@ -15,7 +15,7 @@ use Rattle.imagesize_types.specs.declared.size.ImageSize.{ImageSize}
 
 -- the input may be this one, by the parts that were given
 abbrev pub MayBe : PartsProbe → List ℕ → Type 0
-MayBe parts d = MayBeAt parts.probe.stage parts.probe.kind parts.probe.stand parts.probe.room d
+MayBe parts d = MayBeAt parts.probe.stage parts.probe.kind parts.probe.stand parts.probe.buffer d
 
 -- how many bytes the input has
 abbrev pub total_of : PartsProbe → ℕ
@@ -36,4 +36,4 @@ IfWanted (Wanted w) Holds = Holds w
 
 -- the result of this input depends on a byte of the span
 abbrev pub HasMarked : Span → List ℕ → Type 0
-HasMarked w d = (place : ℕ) × (w.start ≤ place) × (place < w.start + w.len) × (is_covered (meaning d 0).marks place ≡ true)
+HasMarked w d = (offset : ℕ) × (w.start ≤ offset) × (offset < w.start + w.len) × (is_covered (meaning d 0).marks offset ≡ true)

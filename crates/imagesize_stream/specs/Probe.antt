@@ -18,33 +18,33 @@ TypeSays front told kind = IfSome kind (λ type. TypeIs front told (Some type))
 -- These bytes arrived. By the stage, the buffer holds all of them, those from the position of the walk on, or the last
 -- 18; or the result is known.
 abbrev pub CameBy : Stage → Option ImageType → ℕ → ℕ → ℕ → ℕ → List ℕ → List ℕ → Type 0
-CameBy First kind start place passed told room front = (take passed room ≡ front) × TypeSays front told kind
-CameBy (Records next) kind start place passed told room front =
-    TypeIs front told kind × Streams 0 awaited_said (λ held. Awaits next held place) start place told passed (take (passed - start) room)
+CameBy First kind start offset passed told buffer front = (take passed buffer ≡ front) × TypeSays front told kind
+CameBy (Records next) kind start offset passed told buffer front =
+    TypeIs front told kind × Streams 0 awaited_said (λ held. Awaits next held offset) start offset told passed (take (passed - start) buffer)
     (λ d. meaning_reads d 0) front
-CameBy (Footer size) kind start place passed told room front =
-    (passed ≡ length front) × (take 18 room ≡ drop (length front - 18) front) × TypeSays front told kind
+CameBy (Footer size) kind start offset passed told buffer front =
+    (passed ≡ length front) × (take 18 buffer ≡ drop (length front - 18) front) × TypeSays front told kind
     × ((d : List ℕ) → Begins front told d → IsByFooter size d)
-CameBy (Done size) kind start place passed told room front = TypeIs front told kind × SizeIs front told size × (length front ≤ told)
+CameBy (Done size) kind start offset passed told buffer front = TypeIs front told kind × SizeIs front told size × (length front ≤ told)
 
 abbrev pub CameTo : Stage → Option ImageType → Stand → List ℕ → List ℕ → Type 0
-CameTo stage kind stand room front = CameBy stage kind stand.start stand.place stand.passed stand.told room front
+CameTo stage kind stand buffer front = CameBy stage kind stand.start stand.offset stand.passed stand.told buffer front
 
 -- what always holds at a stage
 abbrev pub HoldsBy : Stage → ℕ → ℕ → ℕ → Type 0
-HoldsBy First start place passed = (start ≤ 0) × (passed < 132)
-HoldsBy (Records next) start place passed = IsSteady next place × ((passed - start ≤ 1023) × (12 ≤ passed))
-HoldsBy (Footer size) start place passed = 18 ≤ passed
-HoldsBy (Done size) start place passed = Unit {0}
+HoldsBy First start offset passed = (start ≤ 0) × (passed < 132)
+HoldsBy (Records next) start offset passed = IsSteady next offset × ((passed - start ≤ 1023) × (12 ≤ passed))
+HoldsBy (Footer size) start offset passed = 18 ≤ passed
+HoldsBy (Done size) start offset passed = Unit {0}
 
-pub holds_prop : (stage : Stage) (start place passed : ℕ) → IsProp (HoldsBy stage start place passed)
-holds_prop First start place passed = ×_prop le_prop le_prop
-holds_prop (Records next) start place passed = ×_prop (steady_prop next place) (×_prop le_prop le_prop)
-holds_prop (Footer size) start place passed = le_prop
-holds_prop (Done size) start place passed = Unit-prop
+pub holds_prop : (stage : Stage) (start offset passed : ℕ) → IsProp (HoldsBy stage start offset passed)
+holds_prop First start offset passed = ×_prop le_prop le_prop
+holds_prop (Records next) start offset passed = ×_prop (steady_prop next offset) (×_prop le_prop le_prop)
+holds_prop (Footer size) start offset passed = le_prop
+holds_prop (Done size) start offset passed = Unit-prop
 
 abbrev pub HoldsAt : Stage → Stand → Type 0
-HoldsAt stage stand = HoldsBy stage stand.start stand.place stand.passed
+HoldsAt stage stand = HoldsBy stage stand.start stand.offset stand.passed
 
 -- P, if there is no result yet
 abbrev pub IfAwaiting : Stage → Type 0 → Type 0

@@ -11,7 +11,7 @@ use Rattle.imagesize_types.specs.declared.size.ImageSize.{ImageSize}
 
 -- these bytes arrived
 abbrev pub Came : StreamProbe → List ℕ → Type 0
-Came probe front = CameTo probe.stage probe.kind probe.stand probe.room front
+Came probe front = CameTo probe.stage probe.kind probe.stand probe.buffer front
 
 -- how many bytes the input has at most
 abbrev pub told_of : StreamProbe → ℕ

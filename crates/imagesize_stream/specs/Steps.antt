@@ -36,7 +36,7 @@ use Rattle.imagesize_walked.specs.Walks.{depth_behind}
 -- what follows from what a format's record says: its verdict, or the next record
 abbrev pub after : {C Y : Type 0} → (C → Awaited) → (Y → Layout (Said Awaited ImageSize)) → Said C Y → Layout (Said Awaited ImageSize)
 after on verdict (Decided y) = verdict y
-after on verdict (Next v place) = done (Next (on v) place)
+after on verdict (Next v offset) = done (Next (on v) offset)
 
 abbrev pub decides : ImageSize → Layout (Said Awaited ImageSize)
 decides size = done (Decided size)
@@ -51,7 +51,7 @@ abbrev pub word_leads : WordRead → Awaited
 word_leads w = if is_comment w.text then (if w.ended_by == 0x0A then Word else Comment) else if is_blank w.text then Word else Height (number_text w.text)
 
 abbrev pub word_step : ℕ → WordRead → Layout (Said Awaited ImageSize)
-word_step place w = done (Next (word_leads w) (place + w.taken))
+word_step offset w = done (Next (word_leads w) (offset + w.taken))
 
 -- the word after the width is the height
 abbrev pub height_step : Option ℕ → WordRead → Layout (Said Awaited ImageSize)
@@ -74,49 +74,49 @@ jxl_verdict front = accept (jxl_size front) decides
 
 -- what follows the boxes of a HEIF that were found
 abbrev pub meta_leads : ℕ → FoundBox → Layout (Said Awaited ImageSize)
-meta_leads place meta = bytes (place + 8) 4 (λ version. done (Next Iprp (place + 12)))
+meta_leads offset meta = bytes (offset + 8) 4 (λ version. done (Next Iprp (offset + 12)))
 
 abbrev pub iprp_leads : ℕ → FoundBox → Layout (Said Awaited ImageSize)
-iprp_leads place iprp = done (Next Ipco (place + 8))
+iprp_leads offset iprp = done (Next Ipco (offset + 8))
 
 abbrev pub gathered_first : ℕ → Gathered
 gathered_first all = record { left = all; best = None; turn = None }
 
 abbrev pub ipco_leads : ℕ → FoundBox → Layout (Said Awaited ImageSize)
-ipco_leads place ipco = done (Next (Property (gathered_first ipco.size)) (place + 8))
+ipco_leads offset ipco = done (Next (Property (gathered_first ipco.size)) (offset + 8))
 
 -- what follows a property of a HEIF, after those that add up to g
 abbrev pub property_step : Gathered → ℕ → Option heif.Property → Layout (Said Awaited ImageSize)
-property_step g place None = accept (gathered_answer g) decides
-property_step g place (Some property) = done (Next (Property (gathered_with g property)) (place + property_bytes property))
+property_step g offset None = accept (gathered_answer g) decides
+property_step g offset (Some property) = done (Next (Property (gathered_with g property)) (offset + property_bytes property))
 
 -- the layout of the next record, at an offset
 abbrev pub step : Awaited → ℕ → Layout (Said Awaited ImageSize)
-step (Segment depth) place = bind (jpeg_segment depth place) (after (λ marker. Segment (depth_behind depth marker)) decides)
-step Chunk place = bind (ilbm_chunk place) (after (λ _. Chunk) decides)
-step (Attribute long) place = bind (exr_attribute (names_of long) place) (after (λ _. Attribute long) decides)
-step Line place = bind (line_at 0x0A place 256 (hdr_line place)) (after (λ _. Line) decides)
-step Word place = word place (word_step place)
-step Comment place = passed_line 0x0A place 1024 (λ taken. done (Next Word (place + taken)))
-step (Height width) place = word place (height_step width)
-step (Icon count seen largest) place =
-    bind (icon_in count seen largest place) (after (λ size. Icon count (seen + 1) (later_largest largest size)) decides)
-step (Directory header) place = field header.order place (count_bytes header.version)
-    (λ count. done (Next (Entry (record { header = header; count = count; seen = 0; width = None; height = None })) (place + count_bytes header.version)))
-step (Entry l) place = bind (entry_behind l.header l.count l.seen l.width l.height place) (after (λ entry. Entry (listed_with l entry)) decides)
-step Meta place = bind (searched_box (codes "meta") place) (after (λ _. Meta) (meta_leads place))
-step Iprp place = bind (searched_box (codes "iprp") place) (after (λ _. Iprp) (iprp_leads place))
-step Ipco place = bind (searched_box (codes "ipco") place) (after (λ _. Ipco) (ipco_leads place))
-step (Property g) place = bind (property_at g.left place) (property_step g place)
-step (Box kept) place =
-    bind (jxl_box (kept_front kept) place) (after (λ piece. Box (kept_of (kept_front kept ++ piece))) jxl_verdict)
+step (Segment depth) offset = bind (jpeg_segment depth offset) (after (λ marker. Segment (depth_behind depth marker)) decides)
+step Chunk offset = bind (ilbm_chunk offset) (after (λ _. Chunk) decides)
+step (Attribute long) offset = bind (exr_attribute (names_of long) offset) (after (λ _. Attribute long) decides)
+step Line offset = bind (line_at 0x0A offset 256 (hdr_line offset)) (after (λ _. Line) decides)
+step Word offset = word offset (word_step offset)
+step Comment offset = passed_line 0x0A offset 1024 (λ taken. done (Next Word (offset + taken)))
+step (Height width) offset = word offset (height_step width)
+step (Icon count seen largest) offset =
+    bind (icon_in count seen largest offset) (after (λ size. Icon count (seen + 1) (later_largest largest size)) decides)
+step (Directory header) offset = field header.order offset (count_bytes header.version)
+    (λ count. done (Next (Entry (record { header = header; count = count; seen = 0; width = None; height = None })) (offset + count_bytes header.version)))
+step (Entry l) offset = bind (entry_behind l.header l.count l.seen l.width l.height offset) (after (λ entry. Entry (listed_with l entry)) decides)
+step Meta offset = bind (searched_box (codes "meta") offset) (after (λ _. Meta) (meta_leads offset))
+step Iprp offset = bind (searched_box (codes "iprp") offset) (after (λ _. Iprp) (iprp_leads offset))
+step Ipco offset = bind (searched_box (codes "ipco") offset) (after (λ _. Ipco) (ipco_leads offset))
+step (Property g) offset = bind (property_at g.left offset) (property_step g offset)
+step (Box kept) offset =
+    bind (jxl_box (kept_front kept) offset) (after (λ piece. Box (kept_of (kept_front kept ++ piece))) jxl_verdict)
 
 -- a record holds the record after it
 abbrev pub last_awaited : List Awaited → Awaited
 last_awaited held = unwrap_or (last_or None held) Chunk
 
 abbrev pub awaited_said : List Awaited → ℕ → Layout (Said Awaited ImageSize)
-awaited_said held place = step (last_awaited held) place
+awaited_said held offset = step (last_awaited held) offset
 
 abbrev pub awaited_chain : Chain Awaited ImageSize
 awaited_chain = chain_of 0 awaited_said
@@ -150,44 +150,44 @@ small_prop (Some size) = ×_prop le_prop le_prop
 
 -- what always holds of the next record at an offset
 abbrev pub IsSteady : Awaited → ℕ → Type 0
-IsSteady (Segment depth) place = depth < place
-IsSteady Chunk place = Unit {0}
-IsSteady (Attribute long) place = Unit {0}
-IsSteady Line place = Unit {0}
-IsSteady Word place = Unit {0}
-IsSteady Comment place = Unit {0}
-IsSteady (Height width) place = Unit {0}
-IsSteady (Icon count seen largest) place = (seen ≤ count) × IsSmall largest
-IsSteady (Directory header) place = Unit {0}
-IsSteady (Entry l) place = l.seen ≤ l.count
-IsSteady Meta place = Unit {0}
-IsSteady Iprp place = Unit {0}
-IsSteady Ipco place = Unit {0}
-IsSteady (Property g) place = Unit {0}
-IsSteady (Box kept) place = kept.len ≤ 16
+IsSteady (Segment depth) offset = depth < offset
+IsSteady Chunk offset = Unit {0}
+IsSteady (Attribute long) offset = Unit {0}
+IsSteady Line offset = Unit {0}
+IsSteady Word offset = Unit {0}
+IsSteady Comment offset = Unit {0}
+IsSteady (Height width) offset = Unit {0}
+IsSteady (Icon count seen largest) offset = (seen ≤ count) × IsSmall largest
+IsSteady (Directory header) offset = Unit {0}
+IsSteady (Entry l) offset = l.seen ≤ l.count
+IsSteady Meta offset = Unit {0}
+IsSteady Iprp offset = Unit {0}
+IsSteady Ipco offset = Unit {0}
+IsSteady (Property g) offset = Unit {0}
+IsSteady (Box kept) offset = kept.len ≤ 16
 
-pub steady_prop : (next : Awaited) (place : ℕ) → IsProp (IsSteady next place)
-steady_prop (Segment depth) place = le_prop
-steady_prop Chunk place = Unit-prop
-steady_prop (Attribute long) place = Unit-prop
-steady_prop Line place = Unit-prop
-steady_prop Word place = Unit-prop
-steady_prop Comment place = Unit-prop
-steady_prop (Height width) place = Unit-prop
-steady_prop (Icon count seen largest) place = ×_prop le_prop (small_prop largest)
-steady_prop (Directory header) place = Unit-prop
-steady_prop (Entry l) place = le_prop
-steady_prop Meta place = Unit-prop
-steady_prop Iprp place = Unit-prop
-steady_prop Ipco place = Unit-prop
-steady_prop (Property g) place = Unit-prop
-steady_prop (Box kept) place = le_prop
+pub steady_prop : (next : Awaited) (offset : ℕ) → IsProp (IsSteady next offset)
+steady_prop (Segment depth) offset = le_prop
+steady_prop Chunk offset = Unit-prop
+steady_prop (Attribute long) offset = Unit-prop
+steady_prop Line offset = Unit-prop
+steady_prop Word offset = Unit-prop
+steady_prop Comment offset = Unit-prop
+steady_prop (Height width) offset = Unit-prop
+steady_prop (Icon count seen largest) offset = ×_prop le_prop (small_prop largest)
+steady_prop (Directory header) offset = Unit-prop
+steady_prop (Entry l) offset = le_prop
+steady_prop Meta offset = Unit-prop
+steady_prop Iprp offset = Unit-prop
+steady_prop Ipco offset = Unit-prop
+steady_prop (Property g) offset = Unit-prop
+steady_prop (Box kept) offset = le_prop
 
 -- what then holds of the record after it
 abbrev pub StaysSteady : Said Awaited ImageSize → Type 0
 StaysSteady (Decided size) = Unit {0}
-StaysSteady (Next next place) = IsSteady next place
+StaysSteady (Next next offset) = IsSteady next offset
 
 -- `next` is the record after those that hold these
 abbrev pub Awaits : Awaited → List Awaited → ℕ → Type 0
-Awaits next held place = (last_awaited held ≡ next) × IsSteady next place
+Awaits next held offset = (last_awaited held ≡ next) × IsSteady next offset

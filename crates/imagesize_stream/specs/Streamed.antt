@@ -42,7 +42,7 @@ abbrev pub sized : Layout ImageSize → Layout Opening
 sized layout = bind layout (λ size. done (opened.Size size))
 
 abbrev pub opens : Awaited → ℕ → Layout Opening
-opens next place = done (opened.Records next place)
+opens next offset = done (opened.Records next offset)
 
 -- the version of an EXR, which says whether its names may be long
 abbrev pub open_exr : Layout Opening

@@ -97,33 +97,33 @@ impl Awaited {
     pub(crate) fn read<S: Source>(
         self,
         source: &mut S,
-        place: u64,
+        offset: u64,
     ) -> Result<Found<Awaited, ImageSize>, Halt>
-        requires { IsSteady self place }
-        ensures nears { IfOk result (λ found. Nears (S.state source.old) (S.state source.new) place (said_at place found)) }
-        ensures steady { IfOk result (λ found. StaysSteady (said_at place found)) }
-        ensures runs { Follows (S.state source.old) (S.state source.new) (map_answer (said_at place) result) (step self place) }
+        requires { IsSteady self offset }
+        ensures nears { IfOk result (λ found. Nears (S.state source.old) (S.state source.new) offset (said_at offset found)) }
+        ensures steady { IfOk result (λ found. StaysSteady (said_at offset found)) }
+        ensures runs { Follows (S.state source.old) (S.state source.new) (map_answer (said_at offset) result) (step self offset) }
     {
         match self {
-            Awaited::Segment { depth } => read_segment(source, place, depth),
-            Awaited::Chunk => read_same(&mut Chunks, source, place, Awaited::Chunk),
-            Awaited::Attribute { long } => read_attribute(source, place, long),
-            Awaited::Line => read_line(source, place),
-            Awaited::Word => read_word(source, place),
-            Awaited::Comment => read_comment(source, place),
-            Awaited::Height { width } => read_height(source, place, width),
+            Awaited::Segment { depth } => read_segment(source, offset, depth),
+            Awaited::Chunk => read_same(&mut Chunks, source, offset, Awaited::Chunk),
+            Awaited::Attribute { long } => read_attribute(source, offset, long),
+            Awaited::Line => read_line(source, offset),
+            Awaited::Word => read_word(source, offset),
+            Awaited::Comment => read_comment(source, offset),
+            Awaited::Height { width } => read_height(source, offset, width),
             Awaited::Icon {
                 count,
                 seen,
                 largest,
-            } => read_icon(source, place, count, seen, largest),
-            Awaited::Directory { header } => read_directory(source, place, header),
-            Awaited::Entry(listed) => read_entry(source, place, listed),
-            Awaited::Meta => read_meta(source, place),
-            Awaited::Iprp => read_iprp(source, place),
-            Awaited::Ipco => read_ipco(source, place),
-            Awaited::Property(gathered) => read_listed(source, place, gathered),
-            Awaited::Box(kept) => read_jxl_box(source, place, kept),
+            } => read_icon(source, offset, count, seen, largest),
+            Awaited::Directory { header } => read_directory(source, offset, header),
+            Awaited::Entry(listed) => read_entry(source, offset, listed),
+            Awaited::Meta => read_meta(source, offset),
+            Awaited::Iprp => read_iprp(source, offset),
+            Awaited::Ipco => read_ipco(source, offset),
+            Awaited::Property(gathered) => read_listed(source, offset, gathered),
+            Awaited::Box(kept) => read_jxl_box(source, offset, kept),
         }
     }
 
@@ -146,17 +146,17 @@ impl Awaited {
 fn read_same<R: Records<Held = (), Answer = ImageSize>, S: Source>(
     records: &mut R,
     source: &mut S,
-    place: u64,
+    offset: u64,
     next: Awaited,
 ) -> Result<Found<Awaited, ImageSize>, Halt>
-    requires keeps { R.keeps records.old [] place }
+    requires keeps { R.keeps records.old [] offset }
     requires steady { (q : ℕ) → IsSteady next q }
-    ensures nears { IfOk result (λ found. Nears (S.state source.old) (S.state source.new) place (said_at place found)) }
-    ensures steady { IfOk result (λ found. StaysSteady (said_at place found)) }
-    ensures runs { Follows (S.state source.old) (S.state source.new) (map_answer (said_at place) result)
-        (bind (R.said records.old [] place) (after (λ _. next) decides)) }
+    ensures nears { IfOk result (λ found. Nears (S.state source.old) (S.state source.new) offset (said_at offset found)) }
+    ensures steady { IfOk result (λ found. StaysSteady (said_at offset found)) }
+    ensures runs { Follows (S.state source.old) (S.state source.new) (map_answer (said_at offset) result)
+        (bind (R.said records.old [] offset) (after (λ _. next) decides)) }
 {
-    match records.read_record(source, place)? {
+    match records.read_record(source, offset)? {
         Found::Answer(size) => Ok(Found::Answer(size)),
         Found::Other { length, .. } => Ok(Found::Other { held: next, length }),
     }
@@ -164,16 +164,16 @@ fn read_same<R: Records<Held = (), Answer = ImageSize>, S: Source>(
 
 fn read_segment<S: Source>(
     source: &mut S,
-    place: u64,
+    offset: u64,
     depth: u64,
 ) -> Result<Found<Awaited, ImageSize>, Halt>
-    requires { depth < place }
-    ensures nears { IfOk result (λ found. Nears (S.state source.old) (S.state source.new) place (said_at place found)) }
-    ensures steady { IfOk result (λ found. StaysSteady (said_at place found)) }
-    ensures runs { Follows (S.state source.old) (S.state source.new) (map_answer (said_at place) result) (step (awaited.Segment depth) place) }
+    requires { depth < offset }
+    ensures nears { IfOk result (λ found. Nears (S.state source.old) (S.state source.new) offset (said_at offset found)) }
+    ensures steady { IfOk result (λ found. StaysSteady (said_at offset found)) }
+    ensures runs { Follows (S.state source.old) (S.state source.new) (map_answer (said_at offset) result) (step (awaited.Segment depth) offset) }
 {
     let mut segments = Segments { depth };
-    match segments.read_segment(source, place)? {
+    match segments.read_segment(source, offset)? {
         Found::Answer(size) => Ok(Found::Answer(size)),
         Found::Other { length, .. } => {
             let held = Awaited::Segment {
@@ -186,18 +186,18 @@ fn read_segment<S: Source>(
 
 fn read_attribute<S: Source>(
     source: &mut S,
-    place: u64,
+    offset: u64,
     long: bool,
 ) -> Result<Found<Awaited, ImageSize>, Halt>
-    ensures nears { IfOk result (λ found. Nears (S.state source.old) (S.state source.new) place (said_at place found)) }
-    ensures steady { IfOk result (λ found. StaysSteady (said_at place found)) }
-    ensures runs { Follows (S.state source.old) (S.state source.new) (map_answer (said_at place) result) (step (awaited.Attribute long) place) }
+    ensures nears { IfOk result (λ found. Nears (S.state source.old) (S.state source.new) offset (said_at offset found)) }
+    ensures steady { IfOk result (λ found. StaysSteady (said_at offset found)) }
+    ensures runs { Follows (S.state source.old) (S.state source.new) (map_answer (said_at offset) result) (step (awaited.Attribute long) offset) }
 {
     let mut attributes = Attributes {
         names: names_of(long),
-        room: [0; 256],
+        buffer: [0; 256],
     };
-    read_same(&mut attributes, source, place, Awaited::Attribute { long })
+    read_same(&mut attributes, source, offset, Awaited::Attribute { long })
 }
 
 fn names_of(long: bool) -> usize
@@ -206,25 +206,25 @@ fn names_of(long: bool) -> usize
     if long { 256 } else { 32 }
 }
 
-fn read_line<S: Source>(source: &mut S, place: u64) -> Result<Found<Awaited, ImageSize>, Halt>
-    ensures nears { IfOk result (λ found. Nears (S.state source.old) (S.state source.new) place (said_at place found)) }
-    ensures steady { IfOk result (λ found. StaysSteady (said_at place found)) }
-    ensures runs { Follows (S.state source.old) (S.state source.new) (map_answer (said_at place) result) (step awaited.Line place) }
+fn read_line<S: Source>(source: &mut S, offset: u64) -> Result<Found<Awaited, ImageSize>, Halt>
+    ensures nears { IfOk result (λ found. Nears (S.state source.old) (S.state source.new) offset (said_at offset found)) }
+    ensures steady { IfOk result (λ found. StaysSteady (said_at offset found)) }
+    ensures runs { Follows (S.state source.old) (S.state source.new) (map_answer (said_at offset) result) (step awaited.Line offset) }
 {
     let mut lines = Lines {
-        room: [0; LINE_ROOM],
+        buffer: [0; LINE_ROOM],
     };
-    read_same(&mut lines, source, place, Awaited::Line)
+    read_same(&mut lines, source, offset, Awaited::Line)
 }
 
 #[tactic(auto, using(imagesize_source::proofs::Runs::steps))]
-fn read_word<S: Source>(source: &mut S, place: u64) -> Result<Found<Awaited, ImageSize>, Halt>
-    ensures nears { IfOk result (λ found. Nears (S.state source.old) (S.state source.new) place (said_at place found)) }
-    ensures steady { IfOk result (λ found. StaysSteady (said_at place found)) }
-    ensures runs { Follows (S.state source.old) (S.state source.new) (map_answer (said_at place) result) (step awaited.Word place) }
+fn read_word<S: Source>(source: &mut S, offset: u64) -> Result<Found<Awaited, ImageSize>, Halt>
+    ensures nears { IfOk result (λ found. Nears (S.state source.old) (S.state source.new) offset (said_at offset found)) }
+    ensures steady { IfOk result (λ found. StaysSteady (said_at offset found)) }
+    ensures runs { Follows (S.state source.old) (S.state source.new) (map_answer (said_at offset) result) (step awaited.Word offset) }
 {
-    let mut room = [0u8; WORD_ROOM];
-    let word = util::read_word(source, place, &mut room)?;
+    let mut buffer = [0u8; WORD_ROOM];
+    let word = util::read_word(source, offset, &mut buffer)?;
     Ok(Found::Other {
         held: behind_word(&word),
         length: word.taken as u64,
@@ -252,13 +252,13 @@ fn behind_word(word: &Word<'_>) -> Awaited
 }
 
 #[tactic(auto, using(imagesize_source::proofs::Runs::steps))]
-fn read_comment<S: Source>(source: &mut S, place: u64) -> Result<Found<Awaited, ImageSize>, Halt>
-    ensures nears { IfOk result (λ found. Nears (S.state source.old) (S.state source.new) place (said_at place found)) }
-    ensures steady { IfOk result (λ found. StaysSteady (said_at place found)) }
-    ensures runs { Follows (S.state source.old) (S.state source.new) (map_answer (said_at place) result) (step awaited.Comment place) }
+fn read_comment<S: Source>(source: &mut S, offset: u64) -> Result<Found<Awaited, ImageSize>, Halt>
+    ensures nears { IfOk result (λ found. Nears (S.state source.old) (S.state source.new) offset (said_at offset found)) }
+    ensures steady { IfOk result (λ found. StaysSteady (said_at offset found)) }
+    ensures runs { Follows (S.state source.old) (S.state source.new) (map_answer (said_at offset) result) (step awaited.Comment offset) }
 {
-    let mut room = [0u8; WORD_ROOM];
-    let taken = util::pass_line_capped(source, place, b'\n', &mut room)?;
+    let mut buffer = [0u8; WORD_ROOM];
+    let taken = util::pass_line_capped(source, offset, b'\n', &mut buffer)?;
     Ok(Found::Other {
         held: Awaited::Word,
         length: taken as u64,
@@ -268,15 +268,15 @@ fn read_comment<S: Source>(source: &mut S, place: u64) -> Result<Found<Awaited, 
 #[tactic(auto, using(imagesize_source::proofs::Runs::steps))]
 fn read_height<S: Source>(
     source: &mut S,
-    place: u64,
+    offset: u64,
     width: Option<usize>,
 ) -> Result<Found<Awaited, ImageSize>, Halt>
-    ensures nears { IfOk result (λ found. Nears (S.state source.old) (S.state source.new) place (said_at place found)) }
-    ensures steady { IfOk result (λ found. StaysSteady (said_at place found)) }
-    ensures runs { Follows (S.state source.old) (S.state source.new) (map_answer (said_at place) result) (step (awaited.Height width) place) }
+    ensures nears { IfOk result (λ found. Nears (S.state source.old) (S.state source.new) offset (said_at offset found)) }
+    ensures steady { IfOk result (λ found. StaysSteady (said_at offset found)) }
+    ensures runs { Follows (S.state source.old) (S.state source.new) (map_answer (said_at offset) result) (step (awaited.Height width) offset) }
 {
-    let mut room = [0u8; WORD_ROOM];
-    let word = util::read_word(source, place, &mut room)?;
+    let mut buffer = [0u8; WORD_ROOM];
+    let word = util::read_word(source, offset, &mut buffer)?;
     let size = size_if_known(width, util::number(word.text.trim()));
     let size = size.ok_or(Halt::PnmDimensionsNotFound)?;
     Ok(Found::Answer(size))
@@ -284,23 +284,23 @@ fn read_height<S: Source>(
 
 fn read_icon<S: Source>(
     source: &mut S,
-    place: u64,
+    offset: u64,
     count: u16,
     seen: u16,
     largest: Option<ImageSize>,
 ) -> Result<Found<Awaited, ImageSize>, Halt>
     requires seen { seen ≤ count }
     requires small { IsSmall largest }
-    ensures nears { IfOk result (λ found. Nears (S.state source.old) (S.state source.new) place (said_at place found)) }
-    ensures steady { IfOk result (λ found. StaysSteady (said_at place found)) }
-    ensures runs { Follows (S.state source.old) (S.state source.new) (map_answer (said_at place) result) (step (awaited.Icon count seen largest) place) }
+    ensures nears { IfOk result (λ found. Nears (S.state source.old) (S.state source.new) offset (said_at offset found)) }
+    ensures steady { IfOk result (λ found. StaysSteady (said_at offset found)) }
+    ensures runs { Follows (S.state source.old) (S.state source.new) (map_answer (said_at offset) result) (step (awaited.Icon count seen largest) offset) }
 {
     let mut icons = Icons {
         count,
         seen,
         largest,
     };
-    match icons.read_icon(source, place)? {
+    match icons.read_icon(source, offset)? {
         Found::Answer(size) => Ok(Found::Answer(size)),
         Found::Other { length, .. } => {
             let held = Awaited::Icon {
@@ -316,16 +316,16 @@ fn read_icon<S: Source>(
 #[tactic(auto, using(imagesize_source::proofs::Runs::steps))]
 fn read_directory<S: Source>(
     source: &mut S,
-    place: u64,
+    offset: u64,
     header: Header,
 ) -> Result<Found<Awaited, ImageSize>, Halt>
-    ensures nears { IfOk result (λ found. Nears (S.state source.old) (S.state source.new) place (said_at place found)) }
-    ensures steady { IfOk result (λ found. StaysSteady (said_at place found)) }
-    ensures runs { Follows (S.state source.old) (S.state source.new) (map_answer (said_at place) result) (step (awaited.Directory header) place) }
+    ensures nears { IfOk result (λ found. Nears (S.state source.old) (S.state source.new) offset (said_at offset found)) }
+    ensures steady { IfOk result (λ found. StaysSteady (said_at offset found)) }
+    ensures runs { Follows (S.state source.old) (S.state source.new) (map_answer (said_at offset) result) (step (awaited.Directory header) offset) }
 {
     let count = match header.version {
-        Version::Tiff => read_short(source, place, header.order)?,
-        Version::BigTiff => read_long(source, place, header.order)?,
+        Version::Tiff => read_short(source, offset, header.order)?,
+        Version::BigTiff => read_long(source, offset, header.order)?,
     };
     let held = Awaited::Entry(Listed {
         header,
@@ -342,52 +342,52 @@ fn read_directory<S: Source>(
 
 // A number of two bytes.
 #[tactic(auto, using(imagesize_source::proofs::Runs::number_there, imagesize_source::proofs::Runs::number_missing))]
-fn read_short<S: Source>(source: &mut S, place: u64, order: Endian) -> Result<u64, Halt>
-    ensures pays { IfOk result (λ _. Paid (S.state source.old) (S.state source.new) place) }
-    ensures runs { Runs (S.state source.old) (S.state source.new) result (number_read (S.state source.old).held.input order place 2) }
+fn read_short<S: Source>(source: &mut S, offset: u64, order: Endian) -> Result<u64, Halt>
+    ensures pays { IfOk result (λ _. Paid (S.state source.old) (S.state source.new) offset) }
+    ensures runs { Runs (S.state source.old) (S.state source.new) result (number_read (S.state source.old).held.input order offset 2) }
 {
-    let bytes = read_bytes::<S, 2>(source, place)?;
+    let bytes = read_bytes::<S, 2>(source, offset)?;
     Ok(order.u16(bytes) as u64)
 }
 
 // A number of eight bytes.
 #[tactic(auto, using(imagesize_source::proofs::Runs::number_there, imagesize_source::proofs::Runs::number_missing))]
-fn read_long<S: Source>(source: &mut S, place: u64, order: Endian) -> Result<u64, Halt>
-    ensures pays { IfOk result (λ _. Paid (S.state source.old) (S.state source.new) place) }
-    ensures runs { Runs (S.state source.old) (S.state source.new) result (number_read (S.state source.old).held.input order place 8) }
+fn read_long<S: Source>(source: &mut S, offset: u64, order: Endian) -> Result<u64, Halt>
+    ensures pays { IfOk result (λ _. Paid (S.state source.old) (S.state source.new) offset) }
+    ensures runs { Runs (S.state source.old) (S.state source.new) result (number_read (S.state source.old).held.input order offset 8) }
 {
-    let bytes = read_bytes::<S, 8>(source, place)?;
+    let bytes = read_bytes::<S, 8>(source, offset)?;
     Ok(order.u64(bytes))
 }
 
 fn read_entry<S: Source>(
     source: &mut S,
-    place: u64,
+    offset: u64,
     listed: Listed,
 ) -> Result<Found<Awaited, ImageSize>, Halt>
     requires { listed.seen ≤ listed.count }
-    ensures nears { IfOk result (λ found. Nears (S.state source.old) (S.state source.new) place (said_at place found)) }
-    ensures steady { IfOk result (λ found. StaysSteady (said_at place found)) }
-    ensures runs { Follows (S.state source.old) (S.state source.new) (map_answer (said_at place) result) (step (awaited.Entry listed) place) }
+    ensures nears { IfOk result (λ found. Nears (S.state source.old) (S.state source.new) offset (said_at offset found)) }
+    ensures steady { IfOk result (λ found. StaysSteady (said_at offset found)) }
+    ensures runs { Follows (S.state source.old) (S.state source.new) (map_answer (said_at offset) result) (step (awaited.Entry listed) offset) }
 {
     match listed.header.version {
-        Version::Tiff => read_entry_of::<S, 8, 4>(source, place, listed),
-        Version::BigTiff => read_entry_of::<S, 12, 8>(source, place, listed),
+        Version::Tiff => read_entry_of::<S, 8, 4>(source, offset, listed),
+        Version::BigTiff => read_entry_of::<S, 12, 8>(source, offset, listed),
     }
 }
 
 // Reads an entry with a head of `HEAD` bytes and a value of `VALUE` bytes.
 fn read_entry_of<S: Source, const HEAD: usize, const VALUE: usize>(
     source: &mut S,
-    place: u64,
+    offset: u64,
     listed: Listed,
 ) -> Result<Found<Awaited, ImageSize>, Halt>
     requires few { listed.seen ≤ listed.count }
     requires head { HEAD ≡ head_bytes listed.header.version }
     requires value { VALUE ≡ value_bytes listed.header.version }
-    ensures nears { IfOk result (λ found. Nears (S.state source.old) (S.state source.new) place (said_at place found)) }
-    ensures steady { IfOk result (λ found. StaysSteady (said_at place found)) }
-    ensures runs { Follows (S.state source.old) (S.state source.new) (map_answer (said_at place) result) (step (awaited.Entry listed) place) }
+    ensures nears { IfOk result (λ found. Nears (S.state source.old) (S.state source.new) offset (said_at offset found)) }
+    ensures steady { IfOk result (λ found. StaysSteady (said_at offset found)) }
+    ensures runs { Follows (S.state source.old) (S.state source.new) (map_answer (said_at offset) result) (step (awaited.Entry listed) offset) }
 {
     let Listed {
         header,
@@ -403,7 +403,7 @@ fn read_entry_of<S: Source, const HEAD: usize, const VALUE: usize>(
         width,
         height,
     };
-    match entries.read_next(source, place)? {
+    match entries.read_next(source, offset)? {
         Found::Answer(size) => Ok(Found::Answer(size)),
         Found::Other { length, .. } => {
             let held = Awaited::Entry(Listed {
@@ -419,14 +419,14 @@ fn read_entry_of<S: Source, const HEAD: usize, const VALUE: usize>(
 }
 
 #[tactic(auto, using(imagesize_source::proofs::Runs::steps, imagesize_source::proofs::Runs::missed_before, imagesize_source::proofs::Layouts::binding))]
-fn read_meta<S: Source>(source: &mut S, place: u64) -> Result<Found<Awaited, ImageSize>, Halt>
-    ensures nears { IfOk result (λ found. Nears (S.state source.old) (S.state source.new) place (said_at place found)) }
-    ensures steady { IfOk result (λ found. StaysSteady (said_at place found)) }
-    ensures runs { Follows (S.state source.old) (S.state source.new) (map_answer (said_at place) result) (step awaited.Meta place) }
+fn read_meta<S: Source>(source: &mut S, offset: u64) -> Result<Found<Awaited, ImageSize>, Halt>
+    ensures nears { IfOk result (λ found. Nears (S.state source.old) (S.state source.new) offset (said_at offset found)) }
+    ensures steady { IfOk result (λ found. StaysSteady (said_at offset found)) }
+    ensures runs { Follows (S.state source.old) (S.state source.new) (map_answer (said_at offset) result) (step awaited.Meta offset) }
 {
-    match read_box(source, place, b"meta")? {
+    match read_box(source, offset, b"meta")? {
         Found::Answer(_) => {
-            heif::read_content::<S, 4>(source, place)?;
+            heif::read_content::<S, 4>(source, offset)?;
             Ok(Found::Other {
                 held: Awaited::Iprp,
                 length: 12,
@@ -440,12 +440,12 @@ fn read_meta<S: Source>(source: &mut S, place: u64) -> Result<Found<Awaited, Ima
 }
 
 #[tactic(auto, using(imagesize_source::proofs::Runs::steps, imagesize_source::proofs::Runs::missed_before, imagesize_source::proofs::Layouts::binding))]
-fn read_iprp<S: Source>(source: &mut S, place: u64) -> Result<Found<Awaited, ImageSize>, Halt>
-    ensures nears { IfOk result (λ found. Nears (S.state source.old) (S.state source.new) place (said_at place found)) }
-    ensures steady { IfOk result (λ found. StaysSteady (said_at place found)) }
-    ensures runs { Follows (S.state source.old) (S.state source.new) (map_answer (said_at place) result) (step awaited.Iprp place) }
+fn read_iprp<S: Source>(source: &mut S, offset: u64) -> Result<Found<Awaited, ImageSize>, Halt>
+    ensures nears { IfOk result (λ found. Nears (S.state source.old) (S.state source.new) offset (said_at offset found)) }
+    ensures steady { IfOk result (λ found. StaysSteady (said_at offset found)) }
+    ensures runs { Follows (S.state source.old) (S.state source.new) (map_answer (said_at offset) result) (step awaited.Iprp offset) }
 {
-    match read_box(source, place, b"iprp")? {
+    match read_box(source, offset, b"iprp")? {
         Found::Answer(_) => Ok(Found::Other {
             held: Awaited::Ipco,
             length: 8,
@@ -458,12 +458,12 @@ fn read_iprp<S: Source>(source: &mut S, place: u64) -> Result<Found<Awaited, Ima
 }
 
 #[tactic(auto, using(imagesize_source::proofs::Runs::steps, imagesize_source::proofs::Runs::missed_before, imagesize_source::proofs::Layouts::binding))]
-fn read_ipco<S: Source>(source: &mut S, place: u64) -> Result<Found<Awaited, ImageSize>, Halt>
-    ensures nears { IfOk result (λ found. Nears (S.state source.old) (S.state source.new) place (said_at place found)) }
-    ensures steady { IfOk result (λ found. StaysSteady (said_at place found)) }
-    ensures runs { Follows (S.state source.old) (S.state source.new) (map_answer (said_at place) result) (step awaited.Ipco place) }
+fn read_ipco<S: Source>(source: &mut S, offset: u64) -> Result<Found<Awaited, ImageSize>, Halt>
+    ensures nears { IfOk result (λ found. Nears (S.state source.old) (S.state source.new) offset (said_at offset found)) }
+    ensures steady { IfOk result (λ found. StaysSteady (said_at offset found)) }
+    ensures runs { Follows (S.state source.old) (S.state source.new) (map_answer (said_at offset) result) (step awaited.Ipco offset) }
 {
-    match read_box(source, place, b"ipco")? {
+    match read_box(source, offset, b"ipco")? {
         Found::Answer(ipco) => {
             let gathered = Gathered {
                 left: ipco.size,
@@ -485,14 +485,14 @@ fn read_ipco<S: Source>(source: &mut S, place: u64) -> Result<Found<Awaited, Ima
 #[tactic(auto, using(imagesize_source::proofs::Runs::steps, imagesize_source::proofs::Layouts::binding))]
 fn read_listed<S: Source>(
     source: &mut S,
-    place: u64,
+    offset: u64,
     gathered: Gathered,
 ) -> Result<Found<Awaited, ImageSize>, Halt>
-    ensures nears { IfOk result (λ found. Nears (S.state source.old) (S.state source.new) place (said_at place found)) }
-    ensures steady { IfOk result (λ found. StaysSteady (said_at place found)) }
-    ensures runs { Follows (S.state source.old) (S.state source.new) (map_answer (said_at place) result) (step (awaited.Property gathered) place) }
+    ensures nears { IfOk result (λ found. Nears (S.state source.old) (S.state source.new) offset (said_at offset found)) }
+    ensures steady { IfOk result (λ found. StaysSteady (said_at offset found)) }
+    ensures runs { Follows (S.state source.old) (S.state source.new) (map_answer (said_at offset) result) (step (awaited.Property gathered) offset) }
 {
-    let Some(property) = heif::read_property(source, place, gathered.left)? else {
+    let Some(property) = heif::read_property(source, offset, gathered.left)? else {
         return Ok(Found::Answer(heif::answer(gathered)?));
     };
     Ok(Found::Other {
@@ -514,16 +514,16 @@ pub(crate) fn keep(front: &Front) -> Kept
 
 fn read_jxl_box<S: Source>(
     source: &mut S,
-    place: u64,
+    offset: u64,
     kept: Kept,
 ) -> Result<Found<Awaited, ImageSize>, Halt>
     requires { kept.len ≤ 16 }
-    ensures nears { IfOk result (λ found. Nears (S.state source.old) (S.state source.new) place (said_at place found)) }
-    ensures steady { IfOk result (λ found. StaysSteady (said_at place found)) }
-    ensures runs { Follows (S.state source.old) (S.state source.new) (map_answer (said_at place) result) (step (awaited.Box kept) place) }
+    ensures nears { IfOk result (λ found. Nears (S.state source.old) (S.state source.new) offset (said_at offset found)) }
+    ensures steady { IfOk result (λ found. StaysSteady (said_at offset found)) }
+    ensures runs { Follows (S.state source.old) (S.state source.new) (map_answer (said_at offset) result) (step (awaited.Box kept) offset) }
 {
     let mut front = Front::of(kept.bytes, kept.len);
-    match jxl::boxes::read_box(source, place, &front)? {
+    match jxl::boxes::read_box(source, offset, &front)? {
         Found::Answer(whole) => {
             let size = whole.size()?;
             Ok(Found::Answer(size))

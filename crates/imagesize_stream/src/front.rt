@@ -61,7 +61,7 @@ pub(crate) enum Opening {
     /// The size.
     Size(ImageSize),
     /// The size is in records. `next` is the first, at this offset.
-    Records { next: Awaited, place: u64 },
+    Records { next: Awaited, offset: u64 },
 }
 
 /// The size of an image of this type, from the first bytes.
@@ -157,12 +157,12 @@ fn fixed_size<S: Source>(source: &mut S, image: ImageType) -> Result<ImageSize, 
 // The records of a format that begin at a fixed offset.
 #[inline(always)]
 #[tactic(auto, using(imagesize_source::proofs::Runs::steps))]
-fn open_at<S: Source>(source: &mut S, next: Awaited, place: u64) -> Result<Opening, Halt>
-    ensures { Follows (S.state source.old) (S.state source.new) result (opens next place) }
+fn open_at<S: Source>(source: &mut S, next: Awaited, offset: u64) -> Result<Opening, Halt>
+    ensures { Follows (S.state source.old) (S.state source.new) result (opens next offset) }
 {
     // The proof needs that the length is below 2^63.
     let _told = source.told();
-    Ok(Opening::Records { next, place })
+    Ok(Opening::Records { next, offset })
 }
 
 #[tactic(auto, using(imagesize_source::proofs::Runs::steps))]
@@ -173,7 +173,7 @@ fn open_exr<S: Source>(source: &mut S) -> Result<Opening, Halt>
     let long = name_room(version) > 32;
     Ok(Opening::Records {
         next: Awaited::Attribute { long },
-        place: 8,
+        offset: 8,
     })
 }
 
@@ -181,10 +181,10 @@ fn open_exr<S: Source>(source: &mut S) -> Result<Opening, Halt>
 fn open_hdr<S: Source>(source: &mut S) -> Result<Opening, Halt>
     ensures { Follows (S.state source.old) (S.state source.new) result open_hdr }
 {
-    let place = read_identifier(source)?;
+    let offset = read_identifier(source)?;
     Ok(Opening::Records {
         next: Awaited::Line,
-        place,
+        offset,
     })
 }
 
@@ -199,7 +199,7 @@ fn open_ico<S: Source>(source: &mut S) -> Result<Opening, Halt>
             seen: 0,
             largest: None,
         },
-        place: 6,
+        offset: 6,
     })
 }
 
@@ -210,7 +210,7 @@ fn open_tiff<S: Source>(source: &mut S) -> Result<Opening, Halt>
     let header = read_header(source)?;
     Ok(Opening::Records {
         next: Awaited::Directory { header },
-        place: header.directory,
+        offset: header.directory,
     })
 }
 
@@ -221,7 +221,7 @@ fn open_heif<S: Source>(source: &mut S) -> Result<Opening, Halt>
     let first = read_u32(source, 0, Endian::Big)?;
     Ok(Opening::Records {
         next: Awaited::Meta,
-        place: first as u64,
+        offset: first as u64,
     })
 }
 
@@ -236,7 +236,7 @@ fn open_jxl<S: Source>(source: &mut S) -> Result<Opening, Halt>
         }
         None => Ok(Opening::Records {
             next: Awaited::Box(keep(&Front::new())),
-            place: 12,
+            offset: 12,
         }),
     }
 }

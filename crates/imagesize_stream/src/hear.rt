@@ -35,7 +35,7 @@ pub(crate) enum Heard {
     Records {
         image: ImageType,
         next: Awaited,
-        place: u64,
+        offset: u64,
     },
     /// The last bytes of the input decide whether it is a TGA of this size.
     Footer {
@@ -102,7 +102,11 @@ fn hear_size(image: ImageType, bytes: &[u8], told: u64) -> Heard
             image: Some(image),
             size: Ok(size),
         },
-        Opening::Records { next, place } => Heard::Records { image, next, place },
+        Opening::Records { next, offset } => Heard::Records {
+            image,
+            next,
+            offset,
+        },
     }
 }
 

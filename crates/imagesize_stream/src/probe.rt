@@ -10,7 +10,7 @@ ghost use Rattle.imagesize_stream.specs.Probe.{HoldsAt, IfAwaiting, IsAhead, IsN
 
 use crate::stage::{ROOM, Stage, begin, wait, walk};
 use imagesize::{ImageResult, ImageType};
-use imagesize_pieces::room::front_of;
+use imagesize_pieces::buffer::front_of;
 use imagesize_pieces::stand::Stand;
 use imagesize_source::{Halt, Reason};
 use imagesize_types::size::ImageSize;
@@ -44,10 +44,10 @@ const MOST: u64 = (1 << 63) - 1;
 #[derive(Drop)]
 pub struct StreamProbe {
     pub(crate) stand: Stand,
-    room: [u8; ROOM],
+    buffer: [u8; ROOM],
     kind: Option<ImageType>,
     stage: Stage,
-    ghost holds: { HoldsAt stage stand } by { holds_prop stage stand.start stand.place stand.passed },
+    ghost holds: { HoldsAt stage stand } by { holds_prop stage stand.start stand.offset stand.passed },
 }
 
 impl StreamProbe {
@@ -61,12 +61,12 @@ impl StreamProbe {
         StreamProbe {
             stand: Stand {
                 start: 0,
-                place: 0,
+                offset: 0,
                 passed: 0,
                 end: 0,
                 told: total.unwrap_or(MOST).min(MOST),
             },
-            room: [0; ROOM],
+            buffer: [0; ROOM],
             kind: None,
             stage: Stage::First,
         }
@@ -138,18 +138,18 @@ impl StreamProbe {
         ensures whole { IfAwaiting self.new.stage ((front : List ℕ) → Came self.old front → told_of self.old ≤ length front + length chunk.now → ⊥) }
 
         // Of each input with these parts:
-        ensures parts { (d : List ℕ) → IsGiven self.old.stage self.old.kind self.old.stand self.old.room d
-            → HasPart d self.old.stand.passed chunk.now → MayBeAt self.new.stage self.new.kind self.new.stand self.new.room d }
+        ensures parts { (d : List ℕ) → IsGiven self.old.stage self.old.kind self.old.stand self.old.buffer d
+            → HasPart d self.old.stand.passed chunk.now → MayBeAt self.new.stage self.new.kind self.new.stand self.new.buffer d }
     {
         let chunk = front_of(chunk, self.stand.told - self.stand.passed);
         self.stage = match self.stage {
-            Stage::First => begin(&mut self.kind, &mut self.stand, &mut self.room, chunk),
-            Stage::Records { next } => walk(next, &mut self.stand, &mut self.room, chunk),
+            Stage::First => begin(&mut self.kind, &mut self.stand, &mut self.buffer, chunk),
+            Stage::Records { next } => walk(next, &mut self.stand, &mut self.buffer, chunk),
             Stage::Footer { size } => wait(
                 size,
                 &mut self.kind,
                 &mut self.stand,
-                &mut self.room,
+                &mut self.buffer,
                 chunk,
             ),
             Stage::Done { .. } => self.stage,
@@ -164,8 +164,8 @@ impl StreamProbe {
         ensures next { IsNext self.new.stage self.new.stand }
         ensures later { self.old.stand.passed ≤ self.new.stand.passed }
         ensures passed { IfAwaiting self.new.stage (self.new.stand.passed ≡ max self.old.stand.passed self.old.stand.start) }
-        ensures parts { (d : List ℕ) → MayBeAt self.old.stage self.old.kind self.old.stand self.old.room d
-            → MayBeAt self.new.stage self.new.kind self.new.stand self.new.room d }
+        ensures parts { (d : List ℕ) → MayBeAt self.old.stage self.old.kind self.old.stand self.old.buffer d
+            → MayBeAt self.new.stage self.new.kind self.new.stand self.new.buffer d }
     {
         if let Stage::Done { .. } = self.stage {
             return;

@@ -18,17 +18,17 @@ impl Records for Sizes {
 
     type Answer = ImageSize;
 
-    ghost said = { λ _ held place. awaited_said held place };
+    ghost said = { λ _ held offset. awaited_said held offset };
 
-    ghost keeps = { λ sizes held place. Awaits sizes.next held place };
+    ghost keeps = { λ sizes held offset. Awaits sizes.next held offset };
 
     #[inline(always)]
     fn read_record<S: Source>(
         &mut self,
         source: &mut S,
-        place: u64,
+        offset: u64,
     ) -> Result<Found<Awaited, ImageSize>, Halt> {
-        match self.next.read(source, place)? {
+        match self.next.read(source, offset)? {
             Found::Answer(size) => Ok(Found::Answer(size)),
             Found::Other { held, length } => {
                 self.next = held;

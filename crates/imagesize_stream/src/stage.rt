@@ -13,7 +13,7 @@ use crate::hear::{Heard, hear};
 use crate::sizes::Sizes;
 use imagesize::ImageType;
 use imagesize_fixed::formats::tga::is_footer;
-use imagesize_pieces::room::{bytes_behind, front_of, keep_behind};
+use imagesize_pieces::buffer::{bytes_behind, front_of, keep_behind};
 use imagesize_pieces::stand::Stand;
 use imagesize_pieces::walk::read_on;
 use imagesize_source::Halt;
@@ -45,8 +45,8 @@ pub(crate) enum Stage {
 }
 
 /// Continues the walk along the records with the next chunk.
-pub(crate) fn walk(next: Awaited, stand: &mut Stand, room: &mut [u8; ROOM], chunk: &[u8]) -> Stage
-    requires steady { IsSteady next stand.old.place }
+pub(crate) fn walk(next: Awaited, stand: &mut Stand, buffer: &mut [u8; ROOM], chunk: &[u8]) -> Stage
+    requires steady { IsSteady next stand.old.offset }
     requires few { stand.old.passed - stand.old.start ≤ 1023 }
     requires typed { 12 ≤ stand.old.passed }
     requires fits { stand.old.passed + length chunk.now ≤ stand.old.told }
@@ -56,16 +56,16 @@ pub(crate) fn walk(next: Awaited, stand: &mut Stand, room: &mut [u8; ROOM], chun
     ensures passed { IfAwaiting result (stand.new.passed ≡ stand.old.passed + length chunk.now) }
 
     // For each list of bytes that may have arrived before:
-    ensures goes_on { (kind : Option ImageType) (front : List ℕ) → CameTo (stage.Records next) kind stand.old room.old front
-        → CameTo result kind stand.new room.new (front ++ chunk.now) }
-    ensures complete { IfAwaiting result ((kind : Option ImageType) (front : List ℕ) → CameTo (stage.Records next) kind stand.old room.old front
+    ensures goes_on { (kind : Option ImageType) (front : List ℕ) → CameTo (stage.Records next) kind stand.old buffer.old front
+        → CameTo result kind stand.new buffer.new (front ++ chunk.now) }
+    ensures complete { IfAwaiting result ((kind : Option ImageType) (front : List ℕ) → CameTo (stage.Records next) kind stand.old buffer.old front
         → RestsOnMore (front ++ chunk.now) stand.old.told) }
-    ensures marked { (kind : Option ImageType) (front : List ℕ) → CameTo (stage.Records next) kind stand.old room.old front
+    ensures marked { (kind : Option ImageType) (front : List ℕ) → CameTo (stage.Records next) kind stand.old buffer.old front
         → RestsOnNext result stand.new (front ++ chunk.now) stand.old.told }
     ensures whole { IfAwaiting result (stand.old.told ≤ stand.old.passed + length chunk.now → ⊥) }
 {
     let mut sizes = Sizes { next };
-    match read_on(&mut sizes, stand, room, chunk) {
+    match read_on(&mut sizes, stand, buffer, chunk) {
         Some(size) => Stage::Done { size },
         None => {
             stand.end = stand.end.min(stand.start + RECORD);
@@ -79,7 +79,7 @@ pub(crate) fn wait(
     size: ImageSize,
     kind: &mut Option<ImageType>,
     stand: &mut Stand,
-    room: &mut [u8; ROOM],
+    buffer: &mut [u8; ROOM],
     chunk: &[u8],
 ) -> Stage
     requires some { 18 ≤ stand.old.passed }
@@ -88,29 +88,29 @@ pub(crate) fn wait(
     ensures holds { HoldsAt result stand.new }
     ensures ahead { IsAhead result stand.new }
     ensures passed { IfAwaiting result (stand.new.passed ≡ stand.old.passed + length chunk.now) }
-    ensures goes_on { (front : List ℕ) → CameTo (stage.Footer size) kind.old stand.old room.old front
-        → CameTo result kind.new stand.new room.new (front ++ chunk.now) }
-    ensures complete { IfAwaiting result ((front : List ℕ) → CameTo (stage.Footer size) kind.old stand.old room.old front
+    ensures goes_on { (front : List ℕ) → CameTo (stage.Footer size) kind.old stand.old buffer.old front
+        → CameTo result kind.new stand.new buffer.new (front ++ chunk.now) }
+    ensures complete { IfAwaiting result ((front : List ℕ) → CameTo (stage.Footer size) kind.old stand.old buffer.old front
         → RestsOnMore (front ++ chunk.now) stand.old.told) }
-    ensures marked { (front : List ℕ) → CameTo (stage.Footer size) kind.old stand.old room.old front
+    ensures marked { (front : List ℕ) → CameTo (stage.Footer size) kind.old stand.old buffer.old front
         → RestsOnNext result stand.new (front ++ chunk.now) stand.old.told }
     ensures whole { IfAwaiting result (stand.old.told ≤ stand.old.passed + length chunk.now → ⊥) }
 
     // Of each input with these parts:
-    ensures parts { (d : List ℕ) → IsGiven (stage.Footer size) kind.old stand.old room.old d
-        → chunk.now ≡ part d stand.old.passed (length chunk.now) → MayBeAt result kind.new stand.new room.new d }
+    ensures parts { (d : List ℕ) → IsGiven (stage.Footer size) kind.old stand.old buffer.old d
+        → chunk.now ≡ part d stand.old.passed (length chunk.now) → MayBeAt result kind.new stand.new buffer.new d }
 {
     let count = chunk.len() as u64;
-    keep_behind(room, 18, chunk, count);
+    keep_behind(buffer, 18, chunk, count);
     stand.passed += count;
     if stand.passed < stand.told {
         stand.start = stand.told - 18;
-        stand.place = stand.start;
+        stand.offset = stand.start;
         stand.end = stand.told;
         return Stage::Footer { size };
     }
     let mut last = [0u8; 18];
-    last.copy_from_slice(&room[..18]);
+    last.copy_from_slice(&buffer[..18]);
     if is_footer(&last) {
         *kind = Some(ImageType::Tga);
         return Stage::Done { size: Ok(size) };
@@ -125,7 +125,7 @@ pub(crate) fn wait(
 pub(crate) fn begin(
     kind: &mut Option<ImageType>,
     stand: &mut Stand,
-    room: &mut [u8; ROOM],
+    buffer: &mut [u8; ROOM],
     chunk: &[u8],
 ) -> Stage
     requires first { stand.old.start ≡ 0 }
@@ -135,27 +135,27 @@ pub(crate) fn begin(
     ensures holds { HoldsAt result stand.new }
     ensures ahead { IsAhead result stand.new }
     ensures passed { IfAwaiting result (stand.new.passed ≡ stand.old.passed + length chunk.now) }
-    ensures goes_on { (front : List ℕ) → CameTo stage.First kind.old stand.old room.old front
-        → CameTo result kind.new stand.new room.new (front ++ chunk.now) }
-    ensures complete { IfAwaiting result ((front : List ℕ) → CameTo stage.First kind.old stand.old room.old front
+    ensures goes_on { (front : List ℕ) → CameTo stage.First kind.old stand.old buffer.old front
+        → CameTo result kind.new stand.new buffer.new (front ++ chunk.now) }
+    ensures complete { IfAwaiting result ((front : List ℕ) → CameTo stage.First kind.old stand.old buffer.old front
         → RestsOnMore (front ++ chunk.now) stand.old.told) }
-    ensures marked { (front : List ℕ) → CameTo stage.First kind.old stand.old room.old front
+    ensures marked { (front : List ℕ) → CameTo stage.First kind.old stand.old buffer.old front
         → RestsOnNext result stand.new (front ++ chunk.now) stand.old.told }
     ensures whole { IfAwaiting result (stand.old.told ≤ stand.old.passed + length chunk.now → ⊥) }
 {
     let left = FIRST - stand.passed;
     let more = front_of(chunk, left);
     let rest = bytes_behind(chunk, left);
-    keep_behind(room, stand.passed as usize, more, 0);
+    keep_behind(buffer, stand.passed as usize, more, 0);
     stand.passed += more.len() as u64;
-    begun(kind, stand, room, rest)
+    begun(kind, stand, buffer, rest)
 }
 
 // Continues from the first bytes, which are all in the buffer, with the rest of the chunk.
 fn begun(
     kind: &mut Option<ImageType>,
     stand: &mut Stand,
-    room: &mut [u8; ROOM],
+    buffer: &mut [u8; ROOM],
     chunk: &[u8],
 ) -> Stage
     requires first { stand.old.start ≡ 0 }
@@ -166,13 +166,13 @@ fn begun(
     ensures holds { HoldsAt result stand.new }
     ensures ahead { IsAhead result stand.new }
     ensures passed { IfAwaiting result (stand.new.passed ≡ stand.old.passed + length chunk.now) }
-    ensures goes_on { CameTo result kind.new stand.new room.new (take stand.old.passed room.old ++ chunk.now) }
-    ensures complete { IfAwaiting result (RestsOnMore (take stand.old.passed room.old ++ chunk.now) stand.old.told) }
-    ensures marked { RestsOnNext result stand.new (take stand.old.passed room.old ++ chunk.now) stand.old.told }
+    ensures goes_on { CameTo result kind.new stand.new buffer.new (take stand.old.passed buffer.old ++ chunk.now) }
+    ensures complete { IfAwaiting result (RestsOnMore (take stand.old.passed buffer.old ++ chunk.now) stand.old.told) }
+    ensures marked { RestsOnNext result stand.new (take stand.old.passed buffer.old ++ chunk.now) stand.old.told }
     ensures whole { IfAwaiting result (stand.old.told ≤ stand.old.passed + length chunk.now → ⊥) }
 {
     let passed = stand.passed as usize;
-    match hear(&room[..passed], stand.told) {
+    match hear(&buffer[..passed], stand.told) {
         Heard::Missing { image, end } => {
             *kind = image;
             stand.end = end.min(FIRST).max(HEADER).min(stand.told);
@@ -182,15 +182,19 @@ fn begun(
             *kind = image;
             Stage::Done { size }
         }
-        Heard::Records { image, next, place } => {
+        Heard::Records {
+            image,
+            next,
+            offset,
+        } => {
             *kind = Some(image);
-            stand.place = place;
-            walk(next, stand, room, chunk)
+            stand.offset = offset;
+            walk(next, stand, buffer, chunk)
         }
         Heard::Footer { size } => {
             *kind = None;
-            keep_behind(room, passed, &[], stand.passed - 18);
-            wait(size, kind, stand, room, chunk)
+            keep_behind(buffer, passed, &[], stand.passed - 18);
+            wait(size, kind, stand, buffer, chunk)
         }
     }
 }

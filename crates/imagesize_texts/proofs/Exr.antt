@@ -31,118 +31,118 @@ use Rattle.imagesize_texts.specs.Texts.{line_at}
 use Rattle.imagesize_texts.proofs.Texts.{line_total, line_onto, line_plain, line_tells, line_begins, line_beyond, lasts_then, number_lasts}
 
 -- the four bytes of a number
-four_bytes : (bs : List ℕ) (place : ℕ) → place + 4 ≤ length bs
-    → slice_index_or bs place 0 ∷ slice_index_or bs (place + 1) 0
-    ∷ slice_index_or bs (place + 2) 0 ∷ slice_index_or bs (place + 3) 0 ∷ [] ≡ four_at place bs
-four_bytes bs place all =
+four_bytes : (bs : List ℕ) (offset : ℕ) → offset + 4 ≤ length bs
+    → slice_index_or bs offset 0 ∷ slice_index_or bs (offset + 1) 0
+    ∷ slice_index_or bs (offset + 2) 0 ∷ slice_index_or bs (offset + 3) 0 ∷ [] ≡ four_at offset bs
+four_bytes bs offset all =
     let at : ℕ → ℕ = λ i. slice_index_or bs i 0 in
-    let one : suc place ≡ place + 1 = omega arith in
-    let two : suc (suc place) ≡ place + 2 = omega arith in
-    let three : suc (suc (suc place)) ≡ place + 3 = omega arith in
-    let first = drop-cons bs place 0 (omega arith) in
-    let second = drop-cons bs (suc place) 0 (omega arith) in
-    let third = drop-cons bs (suc (suc place)) 0 (omega arith) in
-    let fourth = drop-cons bs (suc (suc (suc place))) 0 (omega arith) in
-    sym (ap (take 4) (first ∙ ap (λ rest. at place ∷ rest) (second ∙ ap (λ rest. at (suc place) ∷ rest)
-    (third ∙ ap (λ rest. at (suc (suc place)) ∷ rest) fourth)))
-    ∙ ap (λ i. at place ∷ at i ∷ at (suc (suc place)) ∷ at (suc (suc (suc place))) ∷ []) one
-    ∙ ap (λ i. at place ∷ at (place + 1) ∷ at i ∷ at (suc (suc (suc place))) ∷ []) two
-    ∙ ap (λ i. at place ∷ at (place + 1) ∷ at (place + 2) ∷ at i ∷ []) three)
+    let one : suc offset ≡ offset + 1 = omega arith in
+    let two : suc (suc offset) ≡ offset + 2 = omega arith in
+    let three : suc (suc (suc offset)) ≡ offset + 3 = omega arith in
+    let first = drop-cons bs offset 0 (omega arith) in
+    let second = drop-cons bs (suc offset) 0 (omega arith) in
+    let third = drop-cons bs (suc (suc offset)) 0 (omega arith) in
+    let fourth = drop-cons bs (suc (suc (suc offset))) 0 (omega arith) in
+    sym (ap (take 4) (first ∙ ap (λ rest. at offset ∷ rest) (second ∙ ap (λ rest. at (suc offset) ∷ rest)
+    (third ∙ ap (λ rest. at (suc (suc offset)) ∷ rest) fourth)))
+    ∙ ap (λ i. at offset ∷ at i ∷ at (suc (suc offset)) ∷ at (suc (suc (suc offset))) ∷ []) one
+    ∙ ap (λ i. at offset ∷ at (offset + 1) ∷ at i ∷ at (suc (suc (suc offset))) ∷ []) two
+    ∙ ap (λ i. at offset ∷ at (offset + 1) ∷ at (offset + 2) ∷ at i ∷ []) three)
 
-pub signed_four : (bs : List ℕ) (place : ℕ) → length bs ≡ 16 → place ≤ 12
+pub signed_four : (bs : List ℕ) (offset : ℕ) → length bs ≡ 16 → offset ≤ 12
     → cast_signed w32 (from_le_bytes w32
-    (slice_index_or bs place 0 ∷ slice_index_or bs (place + 1) 0 ∷ slice_index_or bs (place + 2) 0
-    ∷ slice_index_or bs (place + 3) 0 ∷ [])) ≡ signed_at place bs
-signed_four bs place long inside =
+    (slice_index_or bs offset 0 ∷ slice_index_or bs (offset + 1) 0 ∷ slice_index_or bs (offset + 2) 0
+    ∷ slice_index_or bs (offset + 3) 0 ∷ [])) ≡ signed_at offset bs
+signed_four bs offset long inside =
     ap (cast_signed w32)
-    (little_4 (slice_index_or bs place 0 ∷ slice_index_or bs (place + 1) 0 ∷ slice_index_or bs (place + 2) 0
-    ∷ slice_index_or bs (place + 3) 0 ∷ []) refl ∙ ap (number Little) (four_bytes bs place (omega arith)))
+    (little_4 (slice_index_or bs offset 0 ∷ slice_index_or bs (offset + 1) 0 ∷ slice_index_or bs (offset + 2) 0
+    ∷ slice_index_or bs (offset + 3) 0 ∷ []) refl ∙ ap (number Little) (four_bytes bs offset (omega arith)))
 
-room_few : (version : ℕ) → name_room version ≤ 256
+buffer_few : (version : ℕ) → name_room version ≤ 256
 unfolding name_room
-room_few version = on_test (λ n. n ≤ 256) _ 32 256 (λ _. omega arith) (λ _. omega arith)
+buffer_few version = on_test (λ n. n ≤ 256) _ 32 256 (λ _. omega arith) (λ _. omega arith)
 
 -- what holds of each window
-by_window : (P : Layout (Said (Unit {0}) ImageSize) → Type 0) (place taken : ℕ) (size : Option ImageSize)
-    → ((size : ImageSize) → P (done (Decided size))) → P (done (Next tt (place + (taken + 16))))
-    → P (exr_window place taken size)
-by_window P place taken (Some size) decided reversed = decided size
-by_window P place taken None decided reversed = reversed
+by_window : (P : Layout (Said (Unit {0}) ImageSize) → Type 0) (offset taken : ℕ) (size : Option ImageSize)
+    → ((size : ImageSize) → P (done (Decided size))) → P (done (Next tt (offset + (taken + 16))))
+    → P (exr_window offset taken size)
+by_window P offset taken (Some size) decided reversed = decided size
+by_window P offset taken None decided reversed = reversed
 
 -- and of each value
-by_value : (P : Layout (Said (Unit {0}) ImageSize) → Type 0) (place taken : ℕ) (is_window : Bool) (size : ℕ)
-    → P (bytes (place + taken) 16 (λ bs. exr_window place taken (window_size bs)))
-    → P (done (Next tt (place + (taken + size))))
-    → P (exr_value place taken is_window size)
-by_value P place taken is_window size window other =
-    on_test P is_window (bytes (place + taken) 16 (λ bs. exr_window place taken (window_size bs)))
-    (done (Next tt (place + (taken + size)))) (λ _. window) (λ _. other)
+by_value : (P : Layout (Said (Unit {0}) ImageSize) → Type 0) (offset taken : ℕ) (is_window : Bool) (size : ℕ)
+    → P (bytes (offset + taken) 16 (λ bs. exr_window offset taken (window_size bs)))
+    → P (done (Next tt (offset + (taken + size))))
+    → P (exr_value offset taken is_window size)
+by_value P offset taken is_window size window other =
+    on_test P is_window (bytes (offset + taken) 16 (λ bs. exr_window offset taken (window_size bs)))
+    (done (Next tt (offset + (taken + size)))) (λ _. window) (λ _. other)
 
 -- and of each name
-by_name : (P : Layout (Said (Unit {0}) ImageSize) → Type 0) (room place : ℕ) (name : List ℕ)
+by_name : (P : Layout (Said (Unit {0}) ImageSize) → Type 0) (buffer offset : ℕ) (name : List ℕ)
     → P (refuse DataWindowNotFound)
-    → P (line_at 0 (place + (length name + 1)) room (exr_typed place name)) → P (exr_named room place name)
-by_name P room place name none typed =
-    on_test P (eqb (length name) 0) (refuse DataWindowNotFound) (line_at 0 (place + (length name + 1)) room
-    (exr_typed place name)) (λ _. none) (λ _. typed)
+    → P (line_at 0 (offset + (length name + 1)) buffer (exr_typed offset name)) → P (exr_named buffer offset name)
+by_name P buffer offset name none typed =
+    on_test P (eqb (length name) 0) (refuse DataWindowNotFound) (line_at 0 (offset + (length name + 1)) buffer
+    (exr_typed offset name)) (λ _. none) (λ _. typed)
 
--- how far behind an attribute's place its value stands
+-- how far behind an attribute's offset its value stands
 abbrev value_behind : List ℕ → List ℕ → ℕ
 value_behind name type_name = length name + 1 + (length type_name + 1) + 4
 
--- an attribute tells a place behind its own
-pub attribute_tells : (room place : ℕ) → Tells (λ p. place < p) (exr_attribute room place)
-attribute_tells room place = line_tells 0 place room (exr_named room place) (λ p. place < p)
-    (λ name. by_name (Tells (λ p. place < p)) room place name tt
-    (line_tells 0 (place + (length name + 1)) room (exr_typed place name) (λ p. place < p)
-    (λ type_name size. by_value (Tells (λ p. place < p)) place (value_behind name type_name)
+-- an attribute tells an offset behind its own
+pub attribute_tells : (buffer offset : ℕ) → Tells (λ p. offset < p) (exr_attribute buffer offset)
+attribute_tells buffer offset = line_tells 0 offset buffer (exr_named buffer offset) (λ p. offset < p)
+    (λ name. by_name (Tells (λ p. offset < p)) buffer offset name tt
+    (line_tells 0 (offset + (length name + 1)) buffer (exr_typed offset name) (λ p. offset < p)
+    (λ type_name size. by_value (Tells (λ p. offset < p)) offset (value_behind name type_name)
     (is_data_window name && is_box type_name) size
-    (λ bs. by_window (Tells (λ p. place < p)) place (value_behind name type_name) (window_size bs) (λ size. tt)
+    (λ bs. by_window (Tells (λ p. offset < p)) offset (value_behind name type_name) (window_size bs) (λ size. tt)
     (omega arith))
     (omega arith))))
 
-pub attribute_begins : (room place : ℕ) → Begins place (exr_attribute room place)
-attribute_begins room place = line_begins 0 place room (exr_named room place) place (omega arith)
+pub attribute_begins : (buffer offset : ℕ) → Begins offset (exr_attribute buffer offset)
+attribute_begins buffer offset = line_begins 0 offset buffer (exr_named buffer offset) offset (omega arith)
 
-pub attribute_advances : (room : ℕ) (d : List ℕ) → Advances (exr_attributes room) d
-attribute_advances room =
-    advances (exr_attributes room) (λ passed place. attribute_tells room place)
-    (λ passed place. attribute_begins room place)
+pub attribute_advances : (buffer : ℕ) (d : List ℕ) → Advances (exr_attributes buffer) d
+attribute_advances buffer =
+    advances (exr_attributes buffer) (λ passed offset. attribute_tells buffer offset)
+    (λ passed offset. attribute_begins buffer offset)
 
 pub exr_local : IsLocal true exr
 exr_local = local_then (λ d. number_read d Little 4 4) (λ version d. chain_at (exr_attributes (name_room version)) d)
     (local_number Little 4 4)
     (λ version. local_chain (exr_attributes (name_room version)) (attribute_advances (name_room version))
-    (λ passed place. with_texts ((exr_attributes (name_room version)).said passed place)))
+    (λ passed offset. with_texts ((exr_attributes (name_room version)).said passed offset)))
 
 -- bytes behind an EXR change no answer that was given, nor its marks
 pub exr_keeps : Lasts exr
 exr_keeps = lasts_then (λ d. number_read d Little 4 4) (λ version d. chain_at (exr_attributes (name_room version)) d)
     (number_lasts Little 4 4)
     (λ version. lasts_chain (exr_attributes (name_room version)) (attribute_advances (name_room version))
-    (λ passed place. line_plain 0 place (name_room version) (exr_named (name_room version) place)
-    (λ name. by_name Plain (name_room version) place name tt
-    (line_plain 0 (place + (length name + 1)) (name_room version) (exr_typed place name)
-    (λ type_name size. by_value Plain place (value_behind name type_name) (is_data_window name && is_box type_name) size
-    (λ bs. by_window Plain place (value_behind name type_name) (window_size bs) (λ size. tt) tt) tt)))))
+    (λ passed offset. line_plain 0 offset (name_room version) (exr_named (name_room version) offset)
+    (λ name. by_name Plain (name_room version) offset name tt
+    (line_plain 0 (offset + (length name + 1)) (name_room version) (exr_typed offset name)
+    (λ type_name size. by_value Plain offset (value_behind name type_name) (is_data_window name && is_box type_name) size
+    (λ bs. by_window Plain offset (value_behind name type_name) (window_size bs) (λ size. tt) tt) tt)))))
 
 pub exr_lasts : (d x : List ℕ) (size : ImageSize) → (exr d).answer ≡ Ok size → (exr (d ++ x)).answer ≡ Ok size
 exr_lasts d x size is = ap (λ r. r.answer) (exr_keeps d x size is) ∙ is
 
-attributes_within : (room : ℕ) (d : List ℕ) → total (chain_at (exr_attributes room) d).marks ≤ length d
-attributes_within room d =
-    let most = chain_ahead (exr_attributes room) d (attribute_advances room d)
-    (λ passed place. line_onto 0 place room (exr_named room place) (said_to (λ _. None)) place (omega arith)
-    (λ name. by_name (Ahead (place + (length name + 1))) room place name tt
-    (line_onto 0 (place + (length name + 1)) room (exr_typed place name) (said_to (λ _. None))
-    (place + (length name + 1)) (omega arith)
+attributes_within : (buffer : ℕ) (d : List ℕ) → total (chain_at (exr_attributes buffer) d).marks ≤ length d
+attributes_within buffer d =
+    let most = chain_ahead (exr_attributes buffer) d (attribute_advances buffer d)
+    (λ passed offset. line_onto 0 offset buffer (exr_named buffer offset) (said_to (λ _. None)) offset (omega arith)
+    (λ name. by_name (Ahead (offset + (length name + 1))) buffer offset name tt
+    (line_onto 0 (offset + (length name + 1)) buffer (exr_typed offset name) (said_to (λ _. None))
+    (offset + (length name + 1)) (omega arith)
     (λ type_name. (
       omega arith,
-      λ size. by_value (Ahead (place + (length name + 1 + (length type_name + 1)) + 4)) place
+      λ size. by_value (Ahead (offset + (length name + 1 + (length type_name + 1)) + 4)) offset
           (value_behind name type_name)
           (is_data_window name && is_box type_name) size (
             omega arith,
-            λ bs. by_window (Ahead (place + value_behind name type_name + 16)) place (value_behind name type_name)
+            λ bs. by_window (Ahead (offset + value_behind name type_name + 16)) offset (value_behind name type_name)
                 (window_size bs) (λ size. tt) (omega arith),
           )
           (omega arith),
@@ -158,11 +158,11 @@ exr_within d = omega (
 )
 
 -- a value is read from 16 bytes or none
-value_at_most : (place taken : ℕ) (is_window : Bool) (size : ℕ)
-    → AtMost (cond is_window 16 0) (exr_value place taken is_window size)
-value_at_most place taken true size =
-    (omega arith, λ bs. by_window (AtMost 0) place taken (window_size bs) (λ size. tt) tt)
-value_at_most place taken false size = tt
+value_at_most : (offset taken : ℕ) (is_window : Bool) (size : ℕ)
+    → AtMost (cond is_window 16 0) (exr_value offset taken is_window size)
+value_at_most offset taken true size =
+    (omega arith, λ bs. by_window (AtMost 0) offset taken (window_size bs) (λ size. tt) tt)
+value_at_most offset taken false size = tt
 
 -- the name of a data window is short
 window_name : (name : List ℕ) → is_data_window name ≡ true → length name ≡ 10
@@ -176,21 +176,21 @@ name_and_window name is_type few = on_test (λ n. n + (length name + 1) ≤ 256)
     (λ is. let ten = window_name name (and_parts (is_data_window name) is_type is).0 in omega arith) (λ _. omega arith)
 
 -- an attribute is read from at most 530 bytes
-attribute_cost : (d : List ℕ) (room place : ℕ) → room ≤ 256
-    → total (layout_reads d (exr_attribute room place)).marks ≤ 530
-attribute_cost d room place few = line_total 0 place room (exr_named room place) d 530 (omega arith)
-    (λ name long. by_name (λ t. length name + 1 + total (layout_reads d t).marks ≤ 530) room place name (omega arith)
-    (let rest = line_total 0 (place + (length name + 1)) room (exr_typed place name) d (530 - (length name + 1))
+attribute_cost : (d : List ℕ) (buffer offset : ℕ) → buffer ≤ 256
+    → total (layout_reads d (exr_attribute buffer offset)).marks ≤ 530
+attribute_cost d buffer offset few = line_total 0 offset buffer (exr_named buffer offset) d 530 (omega arith)
+    (λ name long. by_name (λ t. length name + 1 + total (layout_reads d t).marks ≤ 530) buffer offset name (omega arith)
+    (let rest = line_total 0 (offset + (length name + 1)) buffer (exr_typed offset name) d (530 - (length name + 1))
     (omega arith)
     (λ type_name short.
     let is_window : Bool = is_data_window name && is_box type_name in
     let window : ℕ = cond is_window 16 0 in
     let fits = name_and_window name (is_box type_name) (omega arith) in
-    let value = at_most d (4 + window) (exr_typed place name type_name) (
+    let value = at_most d (4 + window) (exr_typed offset name type_name) (
       omega arith,
-      λ size. at_most_more window (4 + window - 4) (exr_value place (value_behind name type_name) is_window size)
+      λ size. at_most_more window (4 + window - 4) (exr_value offset (value_behind name type_name) is_window size)
           (omega arith)
-          (value_at_most place (value_behind name type_name) is_window size),
+          (value_at_most offset (value_behind name type_name) is_window size),
     ) in
     omega arith) in
     omega arith))
@@ -204,14 +204,14 @@ exr_cost d = omega (
   attributes_cost : (version : ℕ) → Bounded 0 530 (chain_at (exr_attributes (name_room version)) d)
   attributes_cost version =
       let each : (t : Along (Unit {0})) → Bounded 0 530 (next_record (exr_attributes (name_room version)) d t) =
-      λ t. omega (arith, attribute_cost d (name_room version) t.place (room_few version)) in
+      λ t. omega (arith, attribute_cost d (name_room version) t.offset (buffer_few version)) in
       chain_bounded (exr_attributes (name_room version)) d (attribute_advances (name_room version) d) 530 (λ _. 0)
-      (λ t v place is. omega (arith, each t)) each (start (exr_attributes (name_room version)))
+      (λ t v offset is. omega (arith, each t)) each (start (exr_attributes (name_room version)))
 
 pub exr_laws : RecordedLaws 12 16 530 true true exr
 exr_laws = record { local = exr_local; cost = exr_cost; within = exr_within; lasts = λ _. exr_lasts }
 
 -- from the end of the input on there is no attribute
-pub exr_ends : (d : List ℕ) (room place : ℕ) → 0 < room → length d ≤ place
-    → uncounted (layout_reads d (exr_attribute room place)) ≡ refuses Ended
-exr_ends d room place some h = ap uncounted (line_beyond d 0 place room (exr_named room place) h some)
+pub exr_ends : (d : List ℕ) (buffer offset : ℕ) → 0 < buffer → length d ≤ offset
+    → uncounted (layout_reads d (exr_attribute buffer offset)) ≡ refuses Ended
+exr_ends d buffer offset some h = ap uncounted (line_beyond d 0 offset buffer (exr_named buffer offset) h some)

@@ -23,12 +23,12 @@ use Rattle.imagesize_texts.specs.Hdr.{hdr, hdr_identifier, check_identifier, hdr
 use Rattle.imagesize_texts.proofs.Texts.{found_by, line_onto, line_plain, line_tells, line_begins, line_beyond, lasts_then}
 
 -- what holds of each line
-by_line : (P : Layout (Said (Unit {0}) ImageSize) → Type 0) (place : ℕ) (text : List ℕ)
+by_line : (P : Layout (Said (Unit {0}) ImageSize) → Type 0) (offset : ℕ) (text : List ℕ)
     → ((size : ImageSize) → P (done (Decided size)))
-    → ((e : Halt) → P (refuse e)) → P (done (Next tt (place + (length text + 1)))) → P (hdr_line place text)
-by_line P place text decided refused passed =
+    → ((e : Halt) → P (refuse e)) → P (done (Next tt (offset + (length text + 1)))) → P (hdr_line offset text)
+by_line P offset text decided refused passed =
     on_test P (is_resolution text) (accept (resolution text) (λ size. done (Decided size)))
-    (done (Next tt (place + (length text + 1))))
+    (done (Next tt (offset + (length text + 1))))
     (λ _. found_by P (resolution text) (λ size. done (Decided size)) (λ size _. decided size) refused)
     (λ _. passed)
 
@@ -39,23 +39,23 @@ by_identifier P text is none =
     on_test P (is_identifier text) (done (length text + 1)) (refuse InvalidHdrIdentifier) (λ _. is)
     (λ _. none)
 
--- a line tells a place behind its own
-pub hdr_tells : (place : ℕ) → Tells (λ p. place < p) (line_at 0x0A place 256 (hdr_line place))
-hdr_tells place = line_tells 0x0A place 256 (hdr_line place) (λ p. place < p)
-    (λ text. by_line (Tells (λ p. place < p)) place text
+-- a line tells an offset behind its own
+pub hdr_tells : (offset : ℕ) → Tells (λ p. offset < p) (line_at 0x0A offset 256 (hdr_line offset))
+hdr_tells offset = line_tells 0x0A offset 256 (hdr_line offset) (λ p. offset < p)
+    (λ text. by_line (Tells (λ p. offset < p)) offset text
     (λ size. tt) (λ e. tt) (omega arith))
 
-pub hdr_begins : (place : ℕ) → Begins place (line_at 0x0A place 256 (hdr_line place))
-hdr_begins place = line_begins 0x0A place 256 (hdr_line place) place (omega arith)
+pub hdr_begins : (offset : ℕ) → Begins offset (line_at 0x0A offset 256 (hdr_line offset))
+hdr_begins offset = line_begins 0x0A offset 256 (hdr_line offset) offset (omega arith)
 
 pub hdr_advances : (first : ℕ) (d : List ℕ) → Advances (hdr_lines first) d
-hdr_advances first = advances (hdr_lines first) (λ passed place. hdr_tells place) (λ passed place. hdr_begins place)
+hdr_advances first = advances (hdr_lines first) (λ passed offset. hdr_tells offset) (λ passed offset. hdr_begins offset)
 
 pub hdr_local : IsLocal true hdr
 hdr_local = local_then (λ d. layout_reads d hdr_identifier) (λ first d. chain_at (hdr_lines first) d)
     (local_layout hdr_identifier (with_texts hdr_identifier))
     (λ first. local_chain (hdr_lines first) (hdr_advances first)
-    (λ passed place. with_texts ((hdr_lines first).said passed place)))
+    (λ passed offset. with_texts ((hdr_lines first).said passed offset)))
 
 -- bytes behind an HDR change no answer that was given, nor its marks
 pub hdr_keeps : Lasts hdr
@@ -63,8 +63,8 @@ hdr_keeps = lasts_then (λ d. layout_reads d hdr_identifier) (λ first d. chain_
     (λ d x first is. more d x hdr_identifier first
     (line_plain 0x0A 0 11 check_identifier (λ text. by_identifier Plain text tt tt)) is)
     (λ first. lasts_chain (hdr_lines first) (hdr_advances first)
-    (λ passed place. line_plain 0x0A place 256 (hdr_line place)
-    (λ text. by_line Plain place text (λ size. tt) (λ e. tt) tt)))
+    (λ passed offset. line_plain 0x0A offset 256 (hdr_line offset)
+    (λ text. by_line Plain offset text (λ size. tt) (λ e. tt) tt)))
 
 pub hdr_lasts : (d x : List ℕ) (size : ImageSize) → (hdr d).answer ≡ Ok size → (hdr (d ++ x)).answer ≡ Ok size
 hdr_lasts d x size is = ap (λ r. r.answer) (hdr_keeps d x size is) ∙ is
@@ -78,17 +78,17 @@ hdr_within d =
     (line_onto 0x0A 0 11 check_identifier (λ first. Some first) 0 (omega arith)
     (λ text. by_identifier (Onto (λ first. Some first) (0 + (length text + 1))) text (omega arith) tt)))
     (λ first _. chain_onto (hdr_lines first) d (λ _. None) (hdr_advances first d)
-    (λ passed place. line_onto 0x0A place 256 (hdr_line place) (said_to (λ _. None)) place (omega arith)
-    (λ text. by_line (Ahead (place + (length text + 1))) place text (λ size. tt) (λ e. tt) (omega arith)))) in
+    (λ passed offset. line_onto 0x0A offset 256 (hdr_line offset) (said_to (λ _. None)) offset (omega arith)
+    (λ text. by_line (Ahead (offset + (length text + 1))) offset text (λ size. tt) (λ e. tt) (omega arith)))) in
     omega arith
 
 pub hdr_laws : TextsLaws 12 true true hdr
 hdr_laws = record { local = hdr_local; within = λ d. omega (arith, hdr_within d); lasts = λ _. hdr_lasts }
 
 -- from the end of the input on there is no line
-pub hdr_ends : (d : List ℕ) (place : ℕ) → length d ≤ place
-    → uncounted (layout_reads d (line_at 0x0A place 256 (hdr_line place))) ≡ refuses Ended
-hdr_ends d place h = ap uncounted (line_beyond d 0x0A place 256 (hdr_line place) h (omega arith))
+pub hdr_ends : (d : List ℕ) (offset : ℕ) → length d ≤ offset
+    → uncounted (layout_reads d (line_at 0x0A offset 256 (hdr_line offset))) ≡ refuses Ended
+hdr_ends d offset h = ap uncounted (line_beyond d 0x0A offset 256 (hdr_line offset) h (omega arith))
 
 -- of another number of words than four none are the second and the fourth
 pub other_words : (ws : List (List ℕ)) → length ws ≢ 4 → second_and_fourth ws ≡ None

@@ -59,21 +59,21 @@ judged_ended b (Err e) h = record {
 }
 
 -- what is made of a text that was read
-pub text_judged : {X : Type 0} {a b : State} (d : List ℕ) (t : Text) (place k : ℕ) (bs : List ℕ)
+pub text_judged : {X : Type 0} {a b : State} (d : List ℕ) (t : Text) (offset k : ℕ) (bs : List ℕ)
     (f : List ℕ → Result X Halt)
-    (r : Result X Halt) → Runs a b (Ok bs) (text_read d t place k) → r ≡ f bs → Judged (f bs)
-    → Runs a b r (text_as d t place k f)
-text_judged {X} {a} {b} d t place k bs f r h is fine =
+    (r : Result X Halt) → Runs a b (Ok bs) (text_read d t offset k) → r ≡ f bs → Judged (f bs)
+    → Runs a b r (text_as d t offset k f)
+text_judged {X} {a} {b} d t offset k bs f r h is fine =
     let fine_r : Judged r = subst Judged (sym is) fine in
-    answered r (text_as d t place k f) h refl (λ read. ap f (part_is read) ∙ sym is) (judged_goes_on r fine_r)
+    answered r (text_as d t offset k f) h refl (λ read. ap f (part_is read) ∙ sym is) (judged_goes_on r fine_r)
     (judged_no_fault r fine_r)
     (judged_ended b r fine_r)
 
 -- nothing is made of one whose reading was stopped
-pub text_stopped : {X : Type 0} {a b : State} (d : List ℕ) (t : Text) (place k : ℕ) (e : Halt)
+pub text_stopped : {X : Type 0} {a b : State} (d : List ℕ) (t : Text) (offset k : ℕ) (e : Halt)
     (f : List ℕ → Result X Halt)
-    → Runs {X = List ℕ} a b (Err e) (text_read d t place k) → Runs {X = X} a b (Err e) (text_as d t place k f)
-text_stopped d t place k e f h = record {
+    → Runs {X = List ℕ} a b (Err e) (text_read d t offset k) → Runs {X = X} a b (Err e) (text_as d t offset k f)
+text_stopped d t offset k e f h = record {
   sound = h.sound;
   sound_after = h.sound_after;
   frame = h.frame;
@@ -121,30 +121,30 @@ word_judged bs = on_test Judged (last_passes (λ b. is_word_end b (length bs)) (
     (λ _. no_end_harmless word_room (length bs))
 
 -- the three readings of texts, of which each is judged
-module _ {a b : State} (d room : List ℕ) (place most n : ℕ) (long : length room ≡ most) where
-  judged_room : {X : Type 0} (t : Text) (f : List ℕ → Result X Halt) (r : Result X Halt) → Runs a b (Ok (take n room))
-      (text_read d t place (length room)) → r ≡ f (take n room) → Judged (f (take n room))
-      → Runs a b r (text_as d t place most f)
-  judged_room t f r h is fine = text_judged d t place most (take n room) f r
-      (subst (λ k. Runs a b (Ok (take n room)) (text_read d t place k)) long h) is fine
+module _ {a b : State} (d buffer : List ℕ) (offset most n : ℕ) (long : length buffer ≡ most) where
+  judged_room : {X : Type 0} (t : Text) (f : List ℕ → Result X Halt) (r : Result X Halt) → Runs a b (Ok (take n buffer))
+      (text_read d t offset (length buffer)) → r ≡ f (take n buffer) → Judged (f (take n buffer))
+      → Runs a b r (text_as d t offset most f)
+  judged_room t f r h is fine = text_judged d t offset most (take n buffer) f r
+      (subst (λ k. Runs a b (Ok (take n buffer)) (text_read d t offset k)) long h) is fine
 
-  pub line_runs : (delimiter : ℕ) (r : Result (List ℕ) Halt) → Runs a b (Ok (take n room))
-      (text_read d (Line delimiter) place (length room)) → r ≡ line_text delimiter most (take n room)
-      → Runs a b r (line_read d delimiter place most)
+  pub line_runs : (delimiter : ℕ) (r : Result (List ℕ) Halt) → Runs a b (Ok (take n buffer))
+      (text_read d (Line delimiter) offset (length buffer)) → r ≡ line_text delimiter most (take n buffer)
+      → Runs a b r (line_read d delimiter offset most)
   line_runs delimiter r h is =
-      judged_room (Line delimiter) (line_text delimiter most) r h is (line_judged delimiter most (take n room))
+      judged_room (Line delimiter) (line_text delimiter most) r h is (line_judged delimiter most (take n buffer))
 
-  pub length_runs : (delimiter : ℕ) (r : Result ℕ Halt) → Runs a b (Ok (take n room))
-      (text_read d (Line delimiter) place (length room)) → r ≡ line_length delimiter most (take n room)
-      → Runs a b r (length_read d delimiter place most)
+  pub length_runs : (delimiter : ℕ) (r : Result ℕ Halt) → Runs a b (Ok (take n buffer))
+      (text_read d (Line delimiter) offset (length buffer)) → r ≡ line_length delimiter most (take n buffer)
+      → Runs a b r (length_read d delimiter offset most)
   length_runs delimiter r h is = judged_room (Line delimiter) (line_length delimiter most) r h is
-      (length_judged delimiter most (take n room))
+      (length_judged delimiter most (take n buffer))
 
-pub word_runs : {a b : State} (d room : List ℕ) (place n : ℕ) (r : Result WordRead Halt) → length room ≡ word_room
-    → Runs a b (Ok (take n room)) (text_read d Word place (length room)) → r ≡ word_text (take n room)
-    → Runs a b r (word_read d place)
-word_runs d room place n r long h is =
-    judged_room d room place word_room n long Word word_text r h is (word_judged (take n room))
+pub word_runs : {a b : State} (d buffer : List ℕ) (offset n : ℕ) (r : Result WordRead Halt) → length buffer ≡ word_room
+    → Runs a b (Ok (take n buffer)) (text_read d Word offset (length buffer)) → r ≡ word_text (take n buffer)
+    → Runs a b r (word_read d offset)
+word_runs d buffer offset n r long h is =
+    judged_room d buffer offset word_room n long Word word_text r h is (word_judged (take n buffer))
 
 -- a text has bytes where something was made of it
 passes_some : (p : ℕ → Bool) (bs : List ℕ) → last_passes p bs ≡ true → 0 < length bs
@@ -213,72 +213,72 @@ word_ok bs w = on_test
     (sym (ap (λ w. w.taken) text.1), omega (arith, some, behind_space_le bs), ends))
     (λ _ is. absurd cc)
 
-below_room : (last count : ℕ) → is_word_end last count ≡ true → count < word_room
-below_room last count is = let few : ltb count word_room ≡ true =
+below_buffer : (last count : ℕ) → is_word_end last count ≡ true → count < word_room
+below_buffer last count is = let few : ltb count word_room ≡ true =
     (and_parts (is_ascii_whitespace last) (ltb count word_room) is).1 in
     grind (arith, nat_tests)
 
 -- so what was read of it was paid for
-pub line_pays : {A P : Type 0} (v : A → List ℕ) (delimiter most : ℕ) (room : List ℕ) (n : ℕ) (r : Result A Halt)
-    → (map_answer v r ≡ line_text delimiter most (take n room))
+pub line_pays : {A P : Type 0} (v : A → List ℕ) (delimiter most : ℕ) (buffer : List ℕ) (n : ℕ) (r : Result A Halt)
+    → (map_answer v r ≡ line_text delimiter most (take n buffer))
     → (0 < n → P) → IfOk r (λ _. P)
-line_pays v delimiter most room n (Ok x) is pays =
-    pays (omega (arith, (line_ok delimiter most (take n room) (v x) (sym is)).0, length-take n room))
-line_pays v delimiter most room n (Err why) is pays = tt
+line_pays v delimiter most buffer n (Ok x) is pays =
+    pays (omega (arith, (line_ok delimiter most (take n buffer) (v x) (sym is)).0, length-take n buffer))
+line_pays v delimiter most buffer n (Err why) is pays = tt
 
-pub word_pays : {A P : Type 0} (v : A → WordRead) (room : List ℕ) (n : ℕ) (r : Result A Halt)
-    → (map_answer v r ≡ word_text (take n room))
+pub word_pays : {A P : Type 0} (v : A → WordRead) (buffer : List ℕ) (n : ℕ) (r : Result A Halt)
+    → (map_answer v r ≡ word_text (take n buffer))
     → (0 < n → P) → IfOk r (λ _. P)
-word_pays v room n (Ok x) is pays = pays (omega (arith, (word_ok (take n room) (v x) (sym is)).1, length-take n room))
-word_pays v room n (Err why) is pays = tt
+word_pays v buffer n (Ok x) is pays = pays (omega (arith, (word_ok (take n buffer) (v x) (sym is)).1, length-take n buffer))
+word_pays v buffer n (Err why) is pays = tt
 
--- a line is no longer than there is room for, and a word takes some bytes, and fewer
-pub length_bound : (delimiter most : ℕ) (room : List ℕ) (n : ℕ) (r : Result ℕ Halt) → length room ≡ most
-    → (r ≡ line_length delimiter most (take n room))
+-- a line is no longer than the buffer, and a word takes some bytes, and fewer
+pub length_bound : (delimiter most : ℕ) (buffer : List ℕ) (n : ℕ) (r : Result ℕ Halt) → length buffer ≡ most
+    → (r ≡ line_length delimiter most (take n buffer))
     → IfOk r (λ count. count ≤ most)
-length_bound delimiter most room n (Ok count) long is = omega (
+length_bound delimiter most buffer n (Ok count) long is = omega (
   arith,
-  (length_ok delimiter most (take n room) count (sym is)).0,
-  length-take n room,
+  (length_ok delimiter most (take n buffer) count (sym is)).0,
+  length-take n buffer,
 )
-length_bound delimiter most room n (Err why) long is = tt
+length_bound delimiter most buffer n (Err why) long is = tt
 
-pub length_some : (delimiter most : ℕ) (room : List ℕ) (n : ℕ) (r : Result ℕ Halt)
-    → (r ≡ line_length delimiter most (take n room))
+pub length_some : (delimiter most : ℕ) (buffer : List ℕ) (n : ℕ) (r : Result ℕ Halt)
+    → (r ≡ line_length delimiter most (take n buffer))
     → IfOk r (λ count. 0 < count)
-length_some delimiter most room n (Ok count) is =
-    let ok = length_ok delimiter most (take n room) count (sym is) in
-    omega (arith, ok.0, passes_some (λ b. eqb b delimiter) (take n room) ok.1)
-length_some delimiter most room n (Err why) is = tt
+length_some delimiter most buffer n (Ok count) is =
+    let ok = length_ok delimiter most (take n buffer) count (sym is) in
+    omega (arith, ok.0, passes_some (λ b. eqb b delimiter) (take n buffer) ok.1)
+length_some delimiter most buffer n (Err why) is = tt
 
-pub length_pays : {P : Type 0} (delimiter most : ℕ) (room : List ℕ) (n : ℕ) (r : Result ℕ Halt)
-    → (r ≡ line_length delimiter most (take n room))
+pub length_pays : {P : Type 0} (delimiter most : ℕ) (buffer : List ℕ) (n : ℕ) (r : Result ℕ Halt)
+    → (r ≡ line_length delimiter most (take n buffer))
     → (0 < n → P) → IfOk r (λ _. P)
-length_pays delimiter most room n (Ok count) is pays =
-    let ok = length_ok delimiter most (take n room) count (sym is) in
-    pays (omega (arith, passes_some (λ b. eqb b delimiter) (take n room) ok.1, length-take n room))
-length_pays delimiter most room n (Err why) is pays = tt
+length_pays delimiter most buffer n (Ok count) is pays =
+    let ok = length_ok delimiter most (take n buffer) count (sym is) in
+    pays (omega (arith, passes_some (λ b. eqb b delimiter) (take n buffer) ok.1, length-take n buffer))
+length_pays delimiter most buffer n (Err why) is pays = tt
 
-pub line_bound : {A : Type 0} (v : A → List ℕ) (delimiter most : ℕ) (room : List ℕ) (n : ℕ) (r : Result A Halt)
-    → length room ≡ most
-    → (map_answer v r ≡ line_text delimiter most (take n room))
+pub line_bound : {A : Type 0} (v : A → List ℕ) (delimiter most : ℕ) (buffer : List ℕ) (n : ℕ) (r : Result A Halt)
+    → length buffer ≡ most
+    → (map_answer v r ≡ line_text delimiter most (take n buffer))
     → IfOk r (λ text. length (v text) < most)
-line_bound v delimiter most room n (Ok x) long is = omega (
+line_bound v delimiter most buffer n (Ok x) long is = omega (
   arith,
-  (line_ok delimiter most (take n room) (v x) (sym is)).0,
-  length-take n room,
+  (line_ok delimiter most (take n buffer) (v x) (sym is)).0,
+  length-take n buffer,
 )
-line_bound v delimiter most room n (Err why) long is = tt
+line_bound v delimiter most buffer n (Err why) long is = tt
 
-pub word_bound : {A : Type 0} (v : A → WordRead) (room : List ℕ) (n : ℕ) (r : Result A Halt)
-    → (map_answer v r ≡ word_text (take n room))
+pub word_bound : {A : Type 0} (v : A → WordRead) (buffer : List ℕ) (n : ℕ) (r : Result A Halt)
+    → (map_answer v r ≡ word_text (take n buffer))
     → IfOk r (λ w. (0 < (v w).taken) × ((v w).taken < word_room))
-word_bound v room n (Ok x) is =
-    let ok = word_ok (take n room) (v x) (sym is) in
-    let ends = passes_last (λ b. is_word_end b (length (take n room))) (behind_space (take n room)) ok.2 in
-    let few = below_room (last_byte (behind_space (take n room))) (length (take n room)) ends in
+word_bound v buffer n (Ok x) is =
+    let ok = word_ok (take n buffer) (v x) (sym is) in
+    let ends = passes_last (λ b. is_word_end b (length (take n buffer))) (behind_space (take n buffer)) ok.2 in
+    let few = below_buffer (last_byte (behind_space (take n buffer))) (length (take n buffer)) ends in
     (omega (arith, ok.0, ok.1), omega (arith, ok.0, few))
-word_bound v room n (Err why) is = tt
+word_bound v buffer n (Err why) is = tt
 
 any_at : (p : ℕ → Bool) (bs : List ℕ) (i : ℕ) → i < length bs → p (slice_index bs i) ≡ true → list_any p bs ≡ true
 any_at p [] i h is = absurd (omega arith)
@@ -325,17 +325,17 @@ found_by P (Ok x) f goes_on out = goes_on x refl
 found_by P (Err e) f goes_on out = out e
 
 -- lines
-module _ {X : Type 0} (delimiter place most : ℕ) (f : List ℕ → Layout X) where
+module _ {X : Type 0} (delimiter offset most : ℕ) (f : List ℕ → Layout X) where
   -- where each text leads on to at most k bytes with its own, so does the line
   pub line_total : (d : List ℕ) (k : ℕ) → most ≤ k
       → ((text : List ℕ) → length text + 1 ≤ most → length text + 1 + total (layout_reads d (f text)).marks ≤ k)
-      → total (layout_reads d (line_at delimiter place most f)).marks ≤ k
+      → total (layout_reads d (line_at delimiter offset most f)).marks ≤ k
   line_total d k few rest =
-      let bs : List ℕ = text_part d (Line delimiter) place most in
-      let here = total-span_at place (length bs) in
-      let short = text_length d (Line delimiter) place most in
-      let part = part_length d place most in
-      let all = total-append (span_at place (length bs))
+      let bs : List ℕ = text_part d (Line delimiter) offset most in
+      let here = total-span_at offset (length bs) in
+      let short = text_length d (Line delimiter) offset most in
+      let part = part_length d offset most in
+      let all = total-append (span_at offset (length bs))
       (layout_reads d (accept (line_text delimiter most bs) f)).marks in
       let next = found_by (λ t. length bs ≤ most → length bs + total (layout_reads d t).marks ≤ k)
       (line_text delimiter most bs) f
@@ -345,17 +345,17 @@ module _ {X : Type 0} (delimiter place most : ℕ) (f : List ℕ → Layout X) w
       let sum = next (omega arith) in
       omega arith
 
-  pub line_onto : (to : X → Option ℕ) (q : ℕ) → q ≤ place
-      → ((text : List ℕ) → Onto to (place + (length text + 1)) (f text))
-      → Onto to q (line_at delimiter place most f)
+  pub line_onto : (to : X → Option ℕ) (q : ℕ) → q ≤ offset
+      → ((text : List ℕ) → Onto to (offset + (length text + 1)) (f text))
+      → Onto to q (line_at delimiter offset most f)
   line_onto to q here rest = (
     here,
-    λ bs. found_by (Onto to (place + length bs)) (line_text delimiter most bs) f
-        (λ text is. subst (λ n. Onto to (place + n) (f text)) (sym (line_ok delimiter most bs text is).0) (rest text))
+    λ bs. found_by (Onto to (offset + length bs)) (line_text delimiter most bs) f
+        (λ text is. subst (λ n. Onto to (offset + n) (f text)) (sym (line_ok delimiter most bs text is).0) (rest text))
         (λ e. tt),
   )
 
-  pub line_plain : ((text : List ℕ) → Plain (f text)) → Plain (line_at delimiter place most f)
+  pub line_plain : ((text : List ℕ) → Plain (f text)) → Plain (line_at delimiter offset most f)
   line_plain rest = λ bs. (
     (λ open_end _. found_by Never (line_text delimiter most bs) f
         (λ text is. absurd (let ended = line_ended delimiter most bs (line_ok delimiter most bs text is).1 in cc))
@@ -363,11 +363,11 @@ module _ {X : Type 0} (delimiter place most : ℕ) (f : List ℕ → Layout X) w
     found_by Plain (line_text delimiter most bs) f (λ text _. rest text) (λ e. tt),
   )
 
-module _ {C X : Type 0} (delimiter place most : ℕ) (f : List ℕ → Layout (Said C X)) where
-  pub line_tells : (P : ℕ → Type 0) → ((text : List ℕ) → Tells P (f text)) → Tells P (line_at delimiter place most f)
+module _ {C X : Type 0} (delimiter offset most : ℕ) (f : List ℕ → Layout (Said C X)) where
+  pub line_tells : (P : ℕ → Type 0) → ((text : List ℕ) → Tells P (f text)) → Tells P (line_at delimiter offset most f)
   line_tells P rest = λ bs. found_by (Tells P) (line_text delimiter most bs) f (λ text _. rest text) (λ e. tt)
 
-  pub line_begins : (q : ℕ) → q ≤ place → Begins q (line_at delimiter place most f)
+  pub line_begins : (q : ℕ) → q ≤ offset → Begins q (line_at delimiter offset most f)
   line_begins q here = (
     here,
     found_by (Tells (λ _. ⊥)) (line_text delimiter most []) f
@@ -375,16 +375,16 @@ module _ {C X : Type 0} (delimiter place most : ℕ) (f : List ℕ → Layout (S
   )
 
 -- lines that are passed
-module _ {X : Type 0} (delimiter place most : ℕ) (f : ℕ → Layout X) where
-  pub passed_onto : (to : X → Option ℕ) (q : ℕ) → q ≤ place → ((n : ℕ) → Onto to (place + n) (f n))
-      → Onto to q (passed_line delimiter place most f)
+module _ {X : Type 0} (delimiter offset most : ℕ) (f : ℕ → Layout X) where
+  pub passed_onto : (to : X → Option ℕ) (q : ℕ) → q ≤ offset → ((n : ℕ) → Onto to (offset + n) (f n))
+      → Onto to q (passed_line delimiter offset most f)
   passed_onto to q here rest = (
     here,
-    λ bs. found_by (Onto to (place + length bs)) (line_length delimiter most bs) f
-        (λ n is. subst (λ k. Onto to (place + k) (f n)) (sym (length_ok delimiter most bs n is).0) (rest n)) (λ e. tt),
+    λ bs. found_by (Onto to (offset + length bs)) (line_length delimiter most bs) f
+        (λ n is. subst (λ k. Onto to (offset + k) (f n)) (sym (length_ok delimiter most bs n is).0) (rest n)) (λ e. tt),
   )
 
-  pub passed_plain : ((n : ℕ) → Plain (f n)) → Plain (passed_line delimiter place most f)
+  pub passed_plain : ((n : ℕ) → Plain (f n)) → Plain (passed_line delimiter offset most f)
   passed_plain rest = λ bs. (
     (λ open_end _. found_by Never (line_length delimiter most bs) f
         (λ n is. absurd (let ended = line_ended delimiter most bs (length_ok delimiter most bs n is).1 in cc))
@@ -392,23 +392,23 @@ module _ {X : Type 0} (delimiter place most : ℕ) (f : ℕ → Layout X) where
     found_by Plain (line_length delimiter most bs) f (λ n _. rest n) (λ e. tt),
   )
 
-pub passed_tells : {C X : Type 0} (delimiter place most : ℕ) (f : ℕ → Layout (Said C X)) (P : ℕ → Type 0)
+pub passed_tells : {C X : Type 0} (delimiter offset most : ℕ) (f : ℕ → Layout (Said C X)) (P : ℕ → Type 0)
     → ((n : ℕ) → Tells P (f n))
-    → Tells P (passed_line delimiter place most f)
-passed_tells delimiter place most f P rest =
+    → Tells P (passed_line delimiter offset most f)
+passed_tells delimiter offset most f P rest =
     λ bs. found_by (Tells P) (line_length delimiter most bs) f (λ n _. rest n) (λ e. tt)
 
 -- such a line takes a byte
-pub passed_tells_on : {C X : Type 0} (delimiter place most : ℕ) (f : ℕ → Layout (Said C X)) (P : ℕ → Type 0)
+pub passed_tells_on : {C X : Type 0} (delimiter offset most : ℕ) (f : ℕ → Layout (Said C X)) (P : ℕ → Type 0)
     → ((n : ℕ) → 0 < n → Tells P (f n))
-    → Tells P (passed_line delimiter place most f)
-passed_tells_on delimiter place most f P rest = λ bs. found_by (Tells P) (line_length delimiter most bs) f
+    → Tells P (passed_line delimiter offset most f)
+passed_tells_on delimiter offset most f P rest = λ bs. found_by (Tells P) (line_length delimiter most bs) f
     (λ n is. let ok = length_ok delimiter most bs n is in
     rest n (omega (arith, ok.0, passes_some (λ b. eqb b delimiter) bs ok.1))) (λ e. tt)
 
-pub passed_begins : {C X : Type 0} (delimiter place most : ℕ) (f : ℕ → Layout (Said C X))
-    → Begins place (passed_line delimiter place most f)
-passed_begins delimiter place most f = (
+pub passed_begins : {C X : Type 0} (delimiter offset most : ℕ) (f : ℕ → Layout (Said C X))
+    → Begins offset (passed_line delimiter offset most f)
+passed_begins delimiter offset most f = (
   omega arith,
   found_by (Tells (λ _. ⊥)) (line_length delimiter most []) f
       (λ n is. let ok = length_ok delimiter most [] n is in
@@ -416,29 +416,29 @@ passed_begins delimiter place most f = (
 )
 
 -- words
-module _ {X : Type 0} (place : ℕ) (f : WordRead → Layout X) where
-  pub word_onto : (to : X → Option ℕ) (q : ℕ) → q ≤ place → ((w : WordRead) → Onto to (place + w.taken) (f w))
-      → Onto to q (word place f)
+module _ {X : Type 0} (offset : ℕ) (f : WordRead → Layout X) where
+  pub word_onto : (to : X → Option ℕ) (q : ℕ) → q ≤ offset → ((w : WordRead) → Onto to (offset + w.taken) (f w))
+      → Onto to q (word offset f)
   word_onto to q here rest = (
     here,
-    λ bs. found_by (Onto to (place + length bs)) (word_text bs) f
-        (λ w is. subst (λ n. Onto to (place + n) (f w)) (sym (word_ok bs w is).0) (rest w)) (λ e. tt),
+    λ bs. found_by (Onto to (offset + length bs)) (word_text bs) f
+        (λ w is. subst (λ n. Onto to (offset + n) (f w)) (sym (word_ok bs w is).0) (rest w)) (λ e. tt),
   )
 
-  pub word_plain : ((w : WordRead) → Plain (f w)) → Plain (word place f)
+  pub word_plain : ((w : WordRead) → Plain (f w)) → Plain (word offset f)
   word_plain rest = λ bs. (
     (λ open_end _. found_by Never (word_text bs) f
         (λ w is. absurd (let ended = word_ended bs (word_ok bs w is).2 in cc)) (λ e. tt)),
     found_by Plain (word_text bs) f (λ w _. rest w) (λ e. tt),
   )
 
-module _ {C X : Type 0} (place : ℕ) (f : WordRead → Layout (Said C X)) where
-  pub word_tells : (P : ℕ → Type 0) → ((w : WordRead) → 0 < w.taken → Tells P (f w)) → Tells P (word place f)
+module _ {C X : Type 0} (offset : ℕ) (f : WordRead → Layout (Said C X)) where
+  pub word_tells : (P : ℕ → Type 0) → ((w : WordRead) → 0 < w.taken → Tells P (f w)) → Tells P (word offset f)
   word_tells P rest = λ bs. found_by (Tells P) (word_text bs) f
       (λ w is. let ok = word_ok bs w is in rest w (omega (arith, ok.0, ok.1)))
       (λ e. tt)
 
-  pub word_begins : (q : ℕ) → q ≤ place → Begins q (word place f)
+  pub word_begins : (q : ℕ) → q ≤ offset → Begins q (word offset f)
   word_begins q here =
       (here, found_by (Tells (λ _. ⊥)) (word_text []) f (λ w is. absurd (omega (arith, (word_ok [] w is).1))) (λ e. tt))
 
@@ -447,9 +447,9 @@ none_left : (bs : List ℕ) → length bs ≡ 0 → bs ≡ []
 none_left [] is = refl
 none_left (b ∷ bs) is = absurd (omega arith)
 
-text_none : (d : List ℕ) (t : Text) (place k : ℕ) → length d ≤ place → text_part d t place k ≡ []
-text_none d t place k h =
-    none_left (text_part d t place k) (omega (arith, text_length d t place k, part_length d place k))
+text_none : (d : List ℕ) (t : Text) (offset k : ℕ) → length d ≤ offset → text_part d t offset k ≡ []
+text_none d t offset k h =
+    none_left (text_part d t offset k) (omega (arith, text_length d t offset k, part_length d offset k))
 
 line_none : (delimiter most : ℕ) → 0 < most → line_text delimiter most [] ≡ Err Ended
 unfolding line_text
@@ -462,15 +462,15 @@ word_none = refl
 
 -- what a layout says behind such bytes
 over_text : {X : Type 0} → List ℕ → ℕ → List ℕ → Layout X → Reads X
-over_text d place bs t = put_behind (span_at place (length bs)) (layout_reads d t)
+over_text d offset bs t = put_behind (span_at offset (length bs)) (layout_reads d t)
 
 -- and a layout that reads one there is refused, with no mark of it
-pub line_beyond : {X : Type 0} (d : List ℕ) (delimiter place most : ℕ) (f : List ℕ → Layout X) → length d ≤ place
+pub line_beyond : {X : Type 0} (d : List ℕ) (delimiter offset most : ℕ) (f : List ℕ → Layout X) → length d ≤ offset
     → 0 < most
-    → layout_reads d (line_at delimiter place most f) ≡ refuses Ended
+    → layout_reads d (line_at delimiter offset most f) ≡ refuses Ended
 unfolding span_at over_text
-line_beyond d delimiter place most f h some =
-    ap (λ bs. over_text d place bs (accept (line_text delimiter most bs) f)) (text_none d (Line delimiter) place most h)
+line_beyond d delimiter offset most f h some =
+    ap (λ bs. over_text d offset bs (accept (line_text delimiter most bs) f)) (text_none d (Line delimiter) offset most h)
     ∙ ap (λ r. layout_reads d (accept r f)) (line_none delimiter most some)
 
 length_none : (delimiter most : ℕ) → 0 < most → line_length delimiter most [] ≡ Err Ended
@@ -478,35 +478,35 @@ unfolding line_length
 length_none delimiter most some = let test : eqb 0 most ≡ false = grind (arith, nat_tests) in
     ap (λ b. Err (cond b (NoDelimiter most) Ended)) test
 
-pub passed_beyond : {X : Type 0} (d : List ℕ) (delimiter place most : ℕ) (f : ℕ → Layout X) → length d ≤ place
+pub passed_beyond : {X : Type 0} (d : List ℕ) (delimiter offset most : ℕ) (f : ℕ → Layout X) → length d ≤ offset
     → 0 < most
-    → layout_reads d (passed_line delimiter place most f) ≡ refuses Ended
+    → layout_reads d (passed_line delimiter offset most f) ≡ refuses Ended
 unfolding span_at over_text
-passed_beyond d delimiter place most f h some =
-    ap (λ bs. over_text d place bs (accept (line_length delimiter most bs) f))
-    (text_none d (Line delimiter) place most h)
+passed_beyond d delimiter offset most f h some =
+    ap (λ bs. over_text d offset bs (accept (line_length delimiter most bs) f))
+    (text_none d (Line delimiter) offset most h)
     ∙ ap (λ r. layout_reads d (accept r f)) (length_none delimiter most some)
 
-pub word_beyond : {X : Type 0} (d : List ℕ) (place : ℕ) (f : WordRead → Layout X) → length d ≤ place
-    → layout_reads d (word place f)
+pub word_beyond : {X : Type 0} (d : List ℕ) (offset : ℕ) (f : WordRead → Layout X) → length d ≤ offset
+    → layout_reads d (word offset f)
     ≡ refuses Ended
 unfolding span_at over_text
-word_beyond d place f h =
-    ap (λ bs. over_text d place bs (accept (word_text bs) f)) (text_none d Word place word_room h)
+word_beyond d offset f h =
+    ap (λ bs. over_text d offset bs (accept (word_text bs) f)) (text_none d Word offset word_room h)
     ∙ ap (λ r. layout_reads d (accept r f)) word_none
 
-as_beyond : {X : Type 0} (d : List ℕ) (t : Text) (place k : ℕ) (f : List ℕ → Result X Halt) → length d ≤ place
-    → text_as d t place k f ≡ just (f []) []
+as_beyond : {X : Type 0} (d : List ℕ) (t : Text) (offset k : ℕ) (f : List ℕ → Result X Halt) → length d ≤ offset
+    → text_as d t offset k f ≡ just (f []) []
 unfolding span_at
-as_beyond d t place k f h =
-    ap (λ bs. just (f bs) (span_at place (length bs))) (text_none d t place k h)
+as_beyond d t offset k f h =
+    ap (λ bs. just (f bs) (span_at offset (length bs))) (text_none d t offset k h)
 
 -- no input is so long that a text stands beyond 64 bits
-pub text_saturated : {X : Type 0} {a b : State} {r : Result X Halt} (t : Text) (place at k : ℕ)
+pub text_saturated : {X : Type 0} {a b : State} {r : Result X Halt} (t : Text) (offset at k : ℕ)
     (f : List ℕ → Result X Halt)
-    → Runs a b r (text_as a.held.input t at k f) → at ≡ min place (2 ^ 64 - 1)
-    → Runs a b r (text_as a.held.input t place k f)
-text_saturated t place at k f = saturated_by (λ p d. text_as d t p k f) (just (f []) []) place at
+    → Runs a b r (text_as a.held.input t at k f) → at ≡ min offset (2 ^ 64 - 1)
+    → Runs a b r (text_as a.held.input t offset k f)
+text_saturated t offset at k f = saturated_by (λ p d. text_as d t p k f) (just (f []) []) offset at
     (λ d p far. as_beyond d t p k f far)
 
 -- readings behind readings last where both do
@@ -516,8 +516,8 @@ lasts_then r f first rest d x v is = onward_more (r d) (r (d ++ x)) (λ y. f y d
     (λ y got _. first d x y got) (λ y ok. rest y d x v ok)
 
 -- one number lasts
-pub number_lasts : (order : Endian) (place k : ℕ) → Lasts (λ d. number_read d order place k)
-number_lasts order place k d x v is =
-    let one = then_gives (number_read d order place k) in
-    sym (then_gives (number_read (d ++ x) order place k))
-    ∙ more d x (field order place k done) v (λ _. tt) (ap (λ r. r.answer) one ∙ is) ∙ one
+pub number_lasts : (order : Endian) (offset k : ℕ) → Lasts (λ d. number_read d order offset k)
+number_lasts order offset k d x v is =
+    let one = then_gives (number_read d order offset k) in
+    sym (then_gives (number_read (d ++ x) order offset k))
+    ∙ more d x (field order offset k done) v (λ _. tt) (ap (λ r. r.answer) one ∙ is) ∙ one

@@ -34,7 +34,7 @@ is_box type_name = is_text (codes "box2i") type_name
 
 -- the signed number of four bytes, the lowest byte first
 abbrev pub signed_at : ℕ → List ℕ → ℤ
-signed_at place bs = cast_signed w32 (number Little (four_at place bs))
+signed_at offset bs = cast_signed w32 (number Little (four_at offset bs))
 
 -- how many numbers there are from `low` to `high`, or `None` if `high` is lower
 unfoldable pub window_side : ℤ → ℤ → Option ℕ
@@ -45,34 +45,34 @@ unfoldable pub window_size : List ℕ → Option ImageSize
 window_size bs = size_if_known (window_side (signed_at 0 bs) (signed_at 8 bs)) (window_side (signed_at 4 bs) (signed_at 12 bs))
 
 abbrev pub exr_window : ℕ → ℕ → Option ImageSize → Layout (Said (Unit {0}) ImageSize)
-exr_window place taken (Some size) = done (Decided size)
-exr_window place taken None = done (Next tt (place + (taken + 16)))
+exr_window offset taken (Some size) = done (Decided size)
+exr_window offset taken None = done (Next tt (offset + (taken + 16)))
 
 -- The value of an attribute, `taken` bytes after its offset. A data window has 16 bytes, whatever size the attribute
 -- states.
 abbrev pub exr_value : ℕ → ℕ → Bool → ℕ → Layout (Said (Unit {0}) ImageSize)
-exr_value place taken is_window size =
-    if is_window then bytes (place + taken) 16 (λ bs. exr_window place taken (window_size bs))
-    else done (Next tt (place + (taken + size)))
+exr_value offset taken is_window size =
+    if is_window then bytes (offset + taken) 16 (λ bs. exr_window offset taken (window_size bs))
+    else done (Next tt (offset + (taken + size)))
 
 abbrev pub exr_typed : ℕ → List ℕ → List ℕ → Layout (Said (Unit {0}) ImageSize)
-exr_typed place name type_name =
-    field Little (place + (length name + 1 + (length type_name + 1))) 4
-    (λ size. exr_value place (length name + 1 + (length type_name + 1) + 4) (is_data_window name && is_box type_name) size)
+exr_typed offset name type_name =
+    field Little (offset + (length name + 1 + (length type_name + 1))) 4
+    (λ size. exr_value offset (length name + 1 + (length type_name + 1) + 4) (is_data_window name && is_box type_name) size)
 
 -- an empty name ends the header ("Header")
 abbrev pub exr_named : ℕ → ℕ → List ℕ → Layout (Said (Unit {0}) ImageSize)
-exr_named room place name =
+exr_named buffer offset name =
     if length name == 0 then refuse DataWindowNotFound
-    else line_at 0 (place + (length name + 1)) room (exr_typed place name)
+    else line_at 0 (offset + (length name + 1)) buffer (exr_typed offset name)
 
 -- an attribute: its name, its type, the size of its value, and the value ("Attribute Layout")
 abbrev pub exr_attribute : ℕ → ℕ → Layout (Said (Unit {0}) ImageSize)
-exr_attribute room place = begin_record (line_at 0 place room (exr_named room place))
+exr_attribute buffer offset = begin_record (line_at 0 offset buffer (exr_named buffer offset))
 
 -- the attributes after the version field
 abbrev pub exr_attributes : ℕ → Chain (Unit {0}) ImageSize
-exr_attributes room = record { first = 8; said = λ passed place. exr_attribute room place }
+exr_attributes buffer = record { first = 8; said = λ passed offset. exr_attribute buffer offset }
 
 -- the first data window that is not reversed
 abbrev pub exr : List ℕ → Reads ImageSize

@@ -44,13 +44,13 @@ abbrev pub resolution : List ℕ → Result ImageSize Halt
 resolution text = hdr_lengths (second_and_fourth (words text))
 
 abbrev pub hdr_line : ℕ → List ℕ → Layout (Said (Unit {0}) ImageSize)
-hdr_line place text =
+hdr_line offset text =
     if is_resolution text then accept (resolution text) (λ size. done (Decided size))
-    else done (Next tt (place + (length text + 1)))
+    else done (Next tt (offset + (length text + 1)))
 
 -- the lines after the first, of at most 256 bytes each
 abbrev pub hdr_lines : ℕ → Chain (Unit {0}) ImageSize
-hdr_lines first = record { first = first; said = λ passed place. line_at 0x0A place 256 (hdr_line place) }
+hdr_lines first = record { first = first; said = λ passed offset. line_at 0x0A offset 256 (hdr_line offset) }
 
 -- the first line that gives the resolution
 abbrev pub hdr : List ℕ → Reads ImageSize

@@ -32,28 +32,28 @@ pnm_size width height = ok_or (size_if_known width height) PnmDimensionsNotFound
 
 -- these bytes say nothing about the size
 abbrev pub pnm_passed : ℕ → ℕ → Layout (Said (Unit {0}) ImageSize)
-pnm_passed place taken = done (Next tt (place + taken))
+pnm_passed offset taken = done (Next tt (offset + taken))
 
 -- a comment goes on to the end of its line, which may be the end of its first word
 abbrev pub pnm_comment : ℕ → WordRead → Layout (Said (Unit {0}) ImageSize)
-pnm_comment place w =
-    if w.ended_by == 0x0A then pnm_passed place w.taken
-    else passed_line 0x0A (place + w.taken) 1024 (λ rest. pnm_passed place (w.taken + rest))
+pnm_comment offset w =
+    if w.ended_by == 0x0A then pnm_passed offset w.taken
+    else passed_line 0x0A (offset + w.taken) 1024 (λ rest. pnm_passed offset (w.taken + rest))
 
 -- the word after the width is the height
 abbrev pub pnm_height : ℕ → WordRead → Layout (Said (Unit {0}) ImageSize)
-pnm_height place w = word (place + w.taken) (λ next. accept (pnm_size (number_text w.text) (number_text (trim next.text)))
+pnm_height offset w = word (offset + w.taken) (λ next. accept (pnm_size (number_text w.text) (number_text (trim next.text)))
     (λ size. done (Decided size)))
 
 abbrev pub pnm_word : ℕ → WordRead → Layout (Said (Unit {0}) ImageSize)
-pnm_word place w =
-    if is_comment w.text then pnm_comment place w
-    else if is_blank w.text then pnm_passed place w.taken
-    else pnm_height place w
+pnm_word offset w =
+    if is_comment w.text then pnm_comment offset w
+    else if is_blank w.text then pnm_passed offset w.taken
+    else pnm_height offset w
 
 -- the words after the magic number
 abbrev pub pnm_words : Chain (Unit {0}) ImageSize
-pnm_words = record { first = 2; said = λ passed place. word place (pnm_word place) }
+pnm_words = record { first = 2; said = λ passed offset. word offset (pnm_word offset) }
 
 -- the first word that is neither blank nor in a comment is the width
 abbrev pub pnm : List ℕ → Reads ImageSize

@@ -11,29 +11,29 @@ use Rattle.imagesize_texts.specs.Contents.{WordRead, word_room, line_text, line_
 
 -- the text of a line of at most `most` bytes, which a delimiter ends
 abbrev pub line_at : {X : Type 0} → ℕ → ℕ → ℕ → (List ℕ → Layout X) → Layout X
-line_at delimiter place most f = text (Line delimiter) place most (λ bs. accept (line_text delimiter most bs) f)
+line_at delimiter offset most f = text (Line delimiter) offset most (λ bs. accept (line_text delimiter most bs) f)
 
 -- the length of such a line in bytes; it need not be UTF-8
 abbrev pub passed_line : {X : Type 0} → ℕ → ℕ → ℕ → (ℕ → Layout X) → Layout X
-passed_line delimiter place most f = text (Line delimiter) place most (λ bs. accept (line_length delimiter most bs) f)
+passed_line delimiter offset most f = text (Line delimiter) offset most (λ bs. accept (line_length delimiter most bs) f)
 
 -- a word, after white space
 abbrev pub word : {X : Type 0} → ℕ → (WordRead → Layout X) → Layout X
-word place f = text Word place word_room (λ bs. accept (word_text bs) f)
+word offset f = text Word offset word_room (λ bs. accept (word_text bs) f)
 
 -- the read of a text, with a function applied to its bytes
 abbrev pub text_as : {X : Type 0} → List ℕ → Text → ℕ → ℕ → (List ℕ → Result X Halt) → Reads X
-text_as d t place k f = just (f (text_part d t place k)) (span_at place (length (text_part d t place k)))
+text_as d t offset k f = just (f (text_part d t offset k)) (span_at offset (length (text_part d t offset k)))
 
 -- the reads of these three
 abbrev pub line_read : List ℕ → ℕ → ℕ → ℕ → Reads (List ℕ)
-line_read d delimiter place most = text_as d (Line delimiter) place most (line_text delimiter most)
+line_read d delimiter offset most = text_as d (Line delimiter) offset most (line_text delimiter most)
 
 abbrev pub length_read : List ℕ → ℕ → ℕ → ℕ → Reads ℕ
-length_read d delimiter place most = text_as d (Line delimiter) place most (line_length delimiter most)
+length_read d delimiter offset most = text_as d (Line delimiter) offset most (line_length delimiter most)
 
 abbrev pub word_read : List ℕ → ℕ → Reads WordRead
-word_read d place = text_as d Word place word_room word_text
+word_read d offset = text_as d Word offset word_room word_text
 
 -- a word as the code returns it
 abbrev pub read_word_of : declared.Word → WordRead

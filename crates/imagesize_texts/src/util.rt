@@ -33,20 +33,20 @@ pub struct Word<'a> {
 #[inline(always)]
 pub fn read_line_capped<'a, S: Source>(
     source: &mut S,
-    place: u64,
+    offset: u64,
     delimiter: u8,
-    room: &'a mut [u8],
+    buffer: &'a mut [u8],
 ) -> Result<&'a str, Halt>
-    requires { length room.old < 2 ^ 32 }
-    ensures bound { IfOk result (λ text. length text.now < length room.old) }
-    ensures pays { IfOk result (λ text. Paid (S.state source.old) (S.state source.new) place) }
+    requires { length buffer.old < 2 ^ 32 }
+    ensures bound { IfOk result (λ text. length text.now < length buffer.old) }
+    ensures pays { IfOk result (λ text. Paid (S.state source.old) (S.state source.new) offset) }
     ensures runs { Runs (S.state source.old) (S.state source.new)
         (map_answer (λ text. text.now) result)
-        (line_read (S.state source.old).held.input delimiter place (length room.old)) }
+        (line_read (S.state source.old).held.input delimiter offset (length buffer.old)) }
 {
-    let most = room.len();
-    let count = source.read_text(place, Text::Line { delimiter }, room)?;
-    line_text(&room[..count], delimiter, most)
+    let most = buffer.len();
+    let count = source.read_text(offset, Text::Line { delimiter }, buffer)?;
+    line_text(&buffer[..count], delimiter, most)
 }
 
 /// The length in bytes of the line at an offset, including its delimiter. Fails like `read_line_capped`, except that the line
@@ -54,20 +54,20 @@ pub fn read_line_capped<'a, S: Source>(
 #[inline]
 pub fn pass_line_capped<S: Source>(
     source: &mut S,
-    place: u64,
+    offset: u64,
     delimiter: u8,
-    room: &mut [u8],
+    buffer: &mut [u8],
 ) -> Result<usize, Halt>
-    requires { length room.old < 2 ^ 32 }
-    ensures bound { IfOk result (λ n. n ≤ length room.old) }
+    requires { length buffer.old < 2 ^ 32 }
+    ensures bound { IfOk result (λ n. n ≤ length buffer.old) }
     ensures some { IfOk result (λ n. 0 < n) }
-    ensures pays { IfOk result (λ n. Paid (S.state source.old) (S.state source.new) place) }
+    ensures pays { IfOk result (λ n. Paid (S.state source.old) (S.state source.new) offset) }
     ensures runs { Runs (S.state source.old) (S.state source.new) result
-        (length_read (S.state source.old).held.input delimiter place (length room.old)) }
+        (length_read (S.state source.old).held.input delimiter offset (length buffer.old)) }
 {
-    let most = room.len();
-    let count = source.read_text(place, Text::Line { delimiter }, room)?;
-    line_length(&room[..count], delimiter, most)
+    let most = buffer.len();
+    let count = source.read_text(offset, Text::Line { delimiter }, buffer)?;
+    line_length(&buffer[..count], delimiter, most)
 }
 
 /// Reads the word from an offset on, after ASCII white space. The white space that ends it must be among the first 1023
@@ -80,63 +80,63 @@ pub fn pass_line_capped<S: Source>(
 #[inline(always)]
 pub fn read_word<'a, S: Source>(
     source: &mut S,
-    place: u64,
-    room: &'a mut [u8; WORD_ROOM],
+    offset: u64,
+    buffer: &'a mut [u8; WORD_ROOM],
 ) -> Result<Word<'a>, Halt>
     ensures bound { IfOk result (λ word. (0 < word.taken) × (word.taken < 1024)) }
-    ensures pays { IfOk result (λ word. Paid (S.state source.old) (S.state source.new) place) }
+    ensures pays { IfOk result (λ word. Paid (S.state source.old) (S.state source.new) offset) }
     ensures runs { Runs (S.state source.old) (S.state source.new)
         (map_answer (λ word. read_word_of word) result)
-        (word_read (S.state source.old).held.input place) }
+        (word_read (S.state source.old).held.input offset) }
 {
-    let count = source.read_text(place, Text::Word, room)?;
-    word_text(&room[..count])
+    let count = source.read_text(offset, Text::Word, buffer)?;
+    word_text(&buffer[..count])
 }
 
-/// Calls `pass_line_capped` at `place + distance`. An offset above 2^64 - 1 is past the end of every input.
+/// Calls `pass_line_capped` at `offset + distance`. An offset above 2^64 - 1 is past the end of every input.
 #[inline]
 pub fn pass_line_behind<S: Source>(
     source: &mut S,
-    place: u64,
+    offset: u64,
     distance: u64,
     delimiter: u8,
-    room: &mut [u8],
+    buffer: &mut [u8],
 ) -> Result<usize, Halt>
-    requires { length room.old < 2 ^ 32 }
-    ensures bound { IfOk result (λ n. n ≤ length room.old) }
+    requires { length buffer.old < 2 ^ 32 }
+    ensures bound { IfOk result (λ n. n ≤ length buffer.old) }
     ensures runs { Runs (S.state source.old) (S.state source.new) result
-        (length_read (S.state source.old).held.input delimiter (place + distance) (length room.old)) }
+        (length_read (S.state source.old).held.input delimiter (offset + distance) (length buffer.old)) }
 {
-    pass_line_capped(source, place.saturating_add(distance), delimiter, room)
+    pass_line_capped(source, offset.saturating_add(distance), delimiter, buffer)
 }
 
-/// Calls `read_word` at `place + distance`. An offset above 2^64 - 1 is past the end of every input.
+/// Calls `read_word` at `offset + distance`. An offset above 2^64 - 1 is past the end of every input.
 #[inline]
 pub fn read_word_behind<'a, S: Source>(
     source: &mut S,
-    place: u64,
+    offset: u64,
     distance: u64,
-    room: &'a mut [u8; WORD_ROOM],
+    buffer: &'a mut [u8; WORD_ROOM],
 ) -> Result<Word<'a>, Halt>
     ensures { Runs (S.state source.old) (S.state source.new)
         (map_answer (λ word. read_word_of word) result)
-        (word_read (S.state source.old).held.input (place + distance)) }
+        (word_read (S.state source.old).held.input (offset + distance)) }
 {
-    read_word(source, place.saturating_add(distance), room)
+    read_word(source, offset.saturating_add(distance), buffer)
 }
 
-/// The number that the four bytes at `place + distance` encode. An offset above 2^64 - 1 is past the end of every input.
+/// The number that the four bytes at `offset + distance` encode. An offset above 2^64 - 1 is past the end of every input.
 #[inline]
 pub fn read_u32_behind<S: Source>(
     source: &mut S,
-    place: u64,
+    offset: u64,
     distance: u64,
     endian: Endian,
 ) -> Result<u32, Halt>
     ensures { Runs (S.state source.old) (S.state source.new) result
-        (number_read (S.state source.old).held.input endian (place + distance) 4) }
+        (number_read (S.state source.old).held.input endian (offset + distance) 4) }
 {
-    read_u32(source, place.saturating_add(distance), endian)
+    read_u32(source, offset.saturating_add(distance), endian)
 }
 
 // The text of a line of at most `most` bytes, without the delimiter that ends it.

@@ -3,8 +3,8 @@ use Rattle.std.specs.Prelude.{ℕ, suc, Bool, true, List, [], ◌∷◌, ◌==�
 
 -- whether the bytes contain this text at the offset
 abbrev pub stands_at : ℕ → List ℕ → List ℕ → Bool
-stands_at place [] bytes = true
-stands_at place (c ∷ text) bytes = slice_index bytes place == c && stands_at (suc place) text bytes
+stands_at offset [] bytes = true
+stands_at offset (c ∷ text) bytes = slice_index bytes offset == c && stands_at (suc offset) text bytes
 
 -- whether the bytes begin with this text
 abbrev pub begins : List ℕ → List ℕ → Bool
@@ -12,4 +12,4 @@ begins text bytes = stands_at 0 text bytes
 
 -- the four bytes from an offset on
 abbrev pub four_at : ℕ → List ℕ → List ℕ
-four_at place bytes = take 4 (drop place bytes)
+four_at offset bytes = take 4 (drop offset bytes)

@@ -11,7 +11,7 @@ use Rattle.imagesize.specs.Parted.{IsWithin}
 use Rattle.imagesize.specs.declared.parts.PartsAnswer.{PartsAnswer}
 use Rattle.imagesize.specs.declared.parts.PartsAnswer.TheVariants.{Found, Wanted}
 use Rattle.imagesize_source.specs.Agreement.{is_covered}
-use Rattle.imagesize_source.specs.Counts.{places}
+use Rattle.imagesize_source.specs.Counts.{offsets}
 use Rattle.imagesize_source.specs.Input.{part}
 use Rattle.imagesize_source.specs.declared.span.Span.{Span}
 use Rattle.imagesize_source.proofs.Counts.{count-cons, count_fewer, tests_fewer}
@@ -21,7 +21,7 @@ use Rattle.imagesize_stream.specs.Parts.{HasMarked, IfWanted, MayBe, next_of, to
 use Rattle.imagesize_stream.specs.declared.parts.PartsProbe.{PartsProbe}
 use Rattle.imagesize_uses.specs.Remote.{most_at_once}
 
--- and less often, where a place is among them that has it no more
+-- and less often, where an offset is among them that has it no more
 count_less : (p q : ℕ → Bool) (a n at : ℕ) → a ≤ at → at < a + n → ((x : ℕ) → p x ≡ true → q x ≡ true) → p at ≡ false
     → q at ≡ true
     → count_by p (range_with_len a n) < count_by q (range_with_len a n)
@@ -59,18 +59,18 @@ count_less p q a (suc n) at low high h gone has =
 
 -- an offset of the marks that is not before this one
 abbrev is_ahead : List Span → ℕ → ℕ → Bool
-is_ahead marks start place = is_covered marks place && nat_le start place
+is_ahead marks start offset = is_covered marks offset && nat_le start offset
 
 -- how many of these an input has
 unfoldable pub ahead : List ℕ → ℕ → ℕ
 ahead d start = count_by (is_ahead (meaning d 0).marks start) (range_with_len 0 (length d))
 
 -- never more than the marks cover
-few_ahead : (d : List ℕ) (start : ℕ) → ahead d start ≤ places (length d) (meaning d 0).marks
+few_ahead : (d : List ℕ) (start : ℕ) → ahead d start ≤ offsets (length d) (meaning d 0).marks
 unfolding ahead
 few_ahead d start =
     count_fewer (is_ahead (meaning d 0).marks start) (is_covered (meaning d 0).marks) (range_with_len 0 (length d))
-    (λ place has. (and_parts (is_covered (meaning d 0).marks place) (nat_le start place) has).0)
+    (λ offset has. (and_parts (is_covered (meaning d 0).marks offset) (nat_le start offset) has).0)
 
 -- fewer behind a span that has one
 less_ahead : (d : List ℕ) (w : Span) (next : ℕ) → HasMarked w d → w.start + w.len ≤ length d → w.start + w.len ≤ next
@@ -89,11 +89,11 @@ less_ahead d w next marked fits behind =
       none true is = is
       none false is = refl
 
-      later : (place : ℕ) → is_ahead marks next place ≡ true → is_ahead marks w.start place ≡ true
-      later place is =
-          let parts = and_parts (is_covered marks place) (nat_le next place) is in
+      later : (offset : ℕ) → is_ahead marks next offset ≡ true → is_ahead marks w.start offset ≡ true
+      later offset is =
+          let parts = and_parts (is_covered marks offset) (nat_le next offset) is in
           let high = parts.1 in
-          let low : nat_le w.start place ≡ true = grind (arith, nat_tests) in
+          let low : nat_le w.start offset ≡ true = grind (arith, nat_tests) in
           both parts.0 low
 
       gone : is_ahead marks next marked.0 ≡ false
@@ -132,9 +132,9 @@ opened_behind n w (Wanted v) (inr above) later = inr (omega (arith, above, later
 pub record Fetching (d : List ℕ) (probe : PartsProbe) (before now first asked : ℕ) : Type 0 where
   pub may : MayBe probe d
   pub opened : IfWanted (next_of probe) (IsOpened (length d))
-  pub few : now + ahead d (next_start (length d) (next_of probe)) ≤ before + places (length d) (meaning d 0).marks
+  pub few : now + ahead d (next_start (length d) (next_of probe)) ≤ before + offsets (length d) (meaning d 0).marks
   pub most : asked + ahead d (next_start (length d) (next_of probe)) * most_at_once d
-      ≤ first + places (length d) (meaning d 0).marks * most_at_once d
+      ≤ first + offsets (length d) (meaning d 0).marks * most_at_once d
   pub once : asked ≤ first + next_start (length d) (next_of probe)
 
 opened_first : {T : Type 0} (n total : ℕ) (next : PartsAnswer T) → n ≡ total
@@ -149,7 +149,7 @@ pub begun : (d : List ℕ) (probe : PartsProbe) (now asked : ℕ) → length d �
 begun d probe now asked long begins first =
     let start = next_start (length d) (next_of probe) in
     let few = few_ahead d start in
-    let times = mul-le (ahead d start) (most_at_once d) (places (length d) (meaning d 0).marks) (most_at_once d) few
+    let times = mul-le (ahead d start) (most_at_once d) (offsets (length d) (meaning d 0).marks) (most_at_once d) few
     (omega arith) in
     record {
       may = begins d long;
@@ -203,8 +203,8 @@ module _ {d : List ℕ} {probe : PartsProbe} {before now first asked : ℕ} (w :
 
   -- the counts behind it, by where the next request begins
   counted : {next later further : ℕ} → w.start + w.len ≤ next → later ≤ now + 1 → further ≤ asked + w.len
-      → (later + ahead d next ≤ before + places (length d) (meaning d 0).marks)
-      × (further + ahead d next * most_at_once d ≤ first + places (length d) (meaning d 0).marks * most_at_once d)
+      → (later + ahead d next ≤ before + offsets (length d) (meaning d 0).marks)
+      × (further + ahead d next * most_at_once d ≤ first + offsets (length d) (meaning d 0).marks * most_at_once d)
       × (further ≤ first + next)
   counted {next} {later} {further} behind counts asks =
       let less = less_ahead d w next marked inside.1 behind in
@@ -247,19 +247,19 @@ module _ {d : List ℕ} {probe : PartsProbe} {before now first asked : ℕ} (w :
       omega (arith, less, ap (ahead d) from)
 
   -- a fetch that ends it counts too
-  pub few_by : {later : ℕ} → later ≤ now + 1 → later ≤ before + places (length d) (meaning d 0).marks
+  pub few_by : {later : ℕ} → later ≤ now + 1 → later ≤ before + offsets (length d) (meaning d 0).marks
   few_by {later} counts =
       let all = counted {next = length d} {later = later} {further = asked} inside.1 counts (omega arith) in
       omega (arith, all.0)
 
   pub most_by : {further : ℕ} → further ≤ asked + w.len
-      → further ≤ first + places (length d) (meaning d 0).marks * most_at_once d
+      → further ≤ first + offsets (length d) (meaning d 0).marks * most_at_once d
   most_by {further} asks =
       let all = counted {next = length d} {later = now} {further = further} inside.1 (omega arith) asks in
       omega (arith, all.1)
 
   -- the marks have an offset
-  pub some_place : 0 < places (length d) (meaning d 0).marks
+  pub some_place : 0 < offsets (length d) (meaning d 0).marks
   some_place = omega (arith, less_ahead d w (length d) marked inside.1 inside.1, few_ahead d w.start)
 
 -- what holds of each error

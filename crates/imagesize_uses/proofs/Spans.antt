@@ -6,19 +6,19 @@ use Rattle.std.proofs.lemmas.Bool.Decides.{nat_tests}
 use Rattle.std.proofs.lemmas.Grind.{flat_map-append}
 use Rattle.std.proofs.lemmas.List.{append_assoc, append_cancel_left, append-nil, ext_get_or, length-take, take-append-drop, take-take, take_more}
 use Rattle.std.proofs.Math.Seq.{drop-append_seam, drop-cons, take-append_seam}
-use Rattle.imagesize_source.specs.Agreement.{Agrees, is_covered, has_place}
+use Rattle.imagesize_source.specs.Agreement.{Agrees, is_covered, has_offset}
 use Rattle.imagesize_source.specs.Input.{part}
 use Rattle.imagesize_source.specs.declared.span.Span.{Span}
 use Rattle.imagesize_source.specs.Known.{bytes_of}
 use Rattle.imagesize_source.proofs.Parts.{part_at, part_length, parts_long}
 
 -- the front of a part is a part
-pub copied_front : (d found new : List ℕ) (place k n m : ℕ) → found ≡ part d place k → n ≡ min m (length found)
-    → take n new ≡ take n found → take n new ≡ part d place n
+pub copied_front : (d found new : List ℕ) (offset k n m : ℕ) → found ≡ part d offset k → n ≡ min m (length found)
+    → take n new ≡ take n found → take n new ≡ part d offset n
 unfolding part
-copied_front d found new place k n m is count copied =
-    let few : n ≤ k = omega (arith, count, ap length is, length-take k (drop place d)) in
-    copied ∙ ap (take n) is ∙ take-take n k (drop place d) few
+copied_front d found new offset k n m is count copied =
+    let few : n ≤ k = omega (arith, count, ap length is, length-take k (drop offset d)) in
+    copied ∙ ap (take n) is ∙ take-take n k (drop offset d) few
 
 -- lists whose fronts are of one length are the same only where both parts are
 fronts : (a b x y : List ℕ) → length a ≡ length b → a ++ x ≡ b ++ y → a ≡ b
@@ -29,39 +29,39 @@ ends : (a b x y : List ℕ) → length a ≡ length b → a ++ x ≡ b ++ y → 
 ends a b x y long same = sym (drop-append_seam a x) ∙ ap (drop (length a)) same ∙ ap (λ n. drop n (b ++ y)) long
     ∙ drop-append_seam b y
 
--- a place of a span, as numbers
-starts_by : (s : Span) (place : ℕ) → has_place s place ≡ true → s.start ≤ place
-starts_by s place has = grind (arith, nat_tests)
+-- an offset of a span, as numbers
+starts_by : (s : Span) (offset : ℕ) → has_offset s offset ≡ true → s.start ≤ offset
+starts_by s offset has = grind (arith, nat_tests)
 
-ends_behind : (s : Span) (place : ℕ) → has_place s place ≡ true → place < s.start + s.len
-ends_behind s place has = grind (arith, nat_tests)
+ends_behind : (s : Span) (offset : ℕ) → has_offset s offset ≡ true → offset < s.start + s.len
+ends_behind s offset has = grind (arith, nat_tests)
 
-has_offset : (s : Span) (i : ℕ) → i < s.len → has_place s (s.start + i) ≡ true
-has_offset s i below = grind (arith, nat_tests)
+span_has : (s : Span) (i : ℕ) → i < s.len → has_offset s (s.start + i) ≡ true
+span_has s i below = grind (arith, nat_tests)
 
--- where two inputs have the same part, they have the same byte at each place of it
-same_at : (d e : List ℕ) (s : Span) (place : ℕ) → part e s.start s.len ≡ part d s.start s.len → has_place s place ≡ true
-    → slice_index e place ≡ slice_index d place
-same_at d e s place same has =
-    let i : ℕ = place - s.start in
-    let at : s.start + i ≡ place = omega (arith, starts_by s place has) in
-    let below : i < s.len = omega (arith, starts_by s place has, ends_behind s place has) in
+-- where two inputs have the same part, they have the same byte at each offset of it
+same_at : (d e : List ℕ) (s : Span) (offset : ℕ) → part e s.start s.len ≡ part d s.start s.len → has_offset s offset ≡ true
+    → slice_index e offset ≡ slice_index d offset
+same_at d e s offset same has =
+    let i : ℕ = offset - s.start in
+    let at : s.start + i ≡ offset = omega (arith, starts_by s offset has) in
+    let below : i < s.len = omega (arith, starts_by s offset has, ends_behind s offset has) in
     subst (λ p. slice_index e p ≡ slice_index d p) at
     (sym (part_at e s.start s.len i below) ∙ ap (λ bs. get_or bs i 0) same ∙ part_at d s.start s.len i below)
 
-same_byte : (d e : List ℕ) (spans : List Span) (place : ℕ) → length e ≡ length d → bytes_of e spans ≡ bytes_of d spans
-    → is_covered spans place ≡ true → slice_index e place ≡ slice_index d place
-same_byte d e [] place long same here = absurd cc
-same_byte d e (s ∷ spans) place long same here =
+same_byte : (d e : List ℕ) (spans : List Span) (offset : ℕ) → length e ≡ length d → bytes_of e spans ≡ bytes_of d spans
+    → is_covered spans offset ≡ true → slice_index e offset ≡ slice_index d offset
+same_byte d e [] offset long same here = absurd cc
+same_byte d e (s ∷ spans) offset long same here =
     let lengths = parts_long d e s.start s.len long in
     let front = fronts (part e s.start s.len) (part d s.start s.len) (bytes_of e spans)
     (bytes_of d spans) lengths same in
     let rest = ends (part e s.start s.len) (part d s.start s.len) (bytes_of e spans) (bytes_of d spans) lengths same in
-    let Goal : Bool → Type 0 = λ b. has_place s place ≡ b → b || is_covered spans place ≡ true
-    → slice_index e place ≡ slice_index d place in
-    let cases : Goal (has_place s place) = elim (has_place s place) as Goal [
-      | true ↦ λ has _. same_at d e s place front has
-      | false ↦ λ _ later. same_byte d e spans place long rest later
+    let Goal : Bool → Type 0 = λ b. has_offset s offset ≡ b → b || is_covered spans offset ≡ true
+    → slice_index e offset ≡ slice_index d offset in
+    let cases : Goal (has_offset s offset) = elim (has_offset s offset) as Goal [
+      | true ↦ λ has _. same_at d e s offset front has
+      | false ↦ λ _ later. same_byte d e spans offset long rest later
     ] in
     cases refl here
 
@@ -69,38 +69,38 @@ same_byte d e (s ∷ spans) place long same here =
 pub agrees_by_bytes : (d e : List ℕ) (spans : List Span) → length e ≡ length d → bytes_of e spans ≡ bytes_of d spans
     → Agrees d e spans
 agrees_by_bytes d e spans long same =
-    record { as_long = long; same_byte = λ place here. same_byte d e spans place long same here }
+    record { as_long = long; same_byte = λ offset here. same_byte d e spans offset long same here }
 
 -- and one that agrees has the same bytes
 same_part : (d e : List ℕ) (s : Span) → length e ≡ length d
-    → ((place : ℕ) → has_place s place ≡ true → slice_index e place
-    ≡ slice_index d place) → part e s.start s.len ≡ part d s.start s.len
+    → ((offset : ℕ) → has_offset s offset ≡ true → slice_index e offset
+    ≡ slice_index d offset) → part e s.start s.len ≡ part d s.start s.len
 same_part d e s long agrees =
     ext_get_or 0 (part e s.start s.len) (part d s.start s.len) (parts_long d e s.start s.len long)
     (λ i below.
     let small : i < s.len = omega (arith, below, part_length e s.start s.len) in
-    part_at e s.start s.len i small ∙ agrees (s.start + i) (has_offset s i small)
+    part_at e s.start s.len i small ∙ agrees (s.start + i) (span_has s i small)
     ∙ sym (part_at d s.start s.len i small))
 
-covered_first : (s : Span) (spans : List Span) (place : ℕ) → has_place s place ≡ true
-    → is_covered (s ∷ spans) place ≡ true
-covered_first s spans place has = ap (λ b. b || is_covered spans place) has
+covered_first : (s : Span) (spans : List Span) (offset : ℕ) → has_offset s offset ≡ true
+    → is_covered (s ∷ spans) offset ≡ true
+covered_first s spans offset has = ap (λ b. b || is_covered spans offset) has
 
-covered_later : (s : Span) (spans : List Span) (place : ℕ) → is_covered spans place ≡ true
-    → is_covered (s ∷ spans) place ≡ true
-covered_later s spans place here =
-    let Goal : Bool → Type 0 = λ b. b || is_covered spans place ≡ true in
-    elim (has_place s place) as Goal [ true ↦ refl | false ↦ here ]
+covered_later : (s : Span) (spans : List Span) (offset : ℕ) → is_covered spans offset ≡ true
+    → is_covered (s ∷ spans) offset ≡ true
+covered_later s spans offset here =
+    let Goal : Bool → Type 0 = λ b. b || is_covered spans offset ≡ true in
+    elim (has_offset s offset) as Goal [ true ↦ refl | false ↦ here ]
 
 pub bytes_by_agreement : (d e : List ℕ) (spans : List Span) → Agrees d e spans → bytes_of e spans ≡ bytes_of d spans
 bytes_by_agreement d e [] agrees = refl
 bytes_by_agreement d e (s ∷ spans) agrees =
     let front = same_part d e s agrees.as_long
-    (λ place has. agrees.same_byte place (covered_first s spans place has)) in
+    (λ offset has. agrees.same_byte offset (covered_first s spans offset has)) in
     let later : Agrees d e spans = record {
       as_long = agrees.as_long;
-      same_byte = λ place here. agrees.same_byte place
-          (covered_later s spans place here);
+      same_byte = λ offset here. agrees.same_byte offset
+          (covered_later s spans offset here);
     } in
     ap (λ bs. bs ++ bytes_of e spans) front ∙ ap (λ bs. part d s.start s.len ++ bs) (bytes_by_agreement d e spans later)
 

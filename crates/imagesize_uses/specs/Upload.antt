@@ -40,4 +40,4 @@ joined chunks = flat_map (λ chunk. chunk.now) chunks
 -- `admit` returns this verdict over each honest reader that has these bytes from its start on, if no call can fail
 abbrev pub IsOfAdmit : ℕ → List ℕ → Result ImageSize Rejection → Type 0
 IsOfAdmit most d verdict = (t : Telling) (admission : Admission) → IsHonest t → t.can_fail ≡ false
-    → t.bytes ≡ d → t.place ≡ 0 → Admits (Some t) most admission → admission.verdict ≡ verdict
+    → t.bytes ≡ d → t.offset ≡ 0 → Admits (Some t) most admission → admission.verdict ≡ verdict

@@ -82,9 +82,9 @@ impl<R: Told> Told for Limited<'_, R> {
 
     ghost failure = { λ r. limited_failure r.spent (R.failure r.reader.now) };
 
-    fn read_told(&mut self, room: &mut [u8]) -> Result<usize, Stop>
-        ensures bound { IfOk result (λ n. n ≤ length room.new) }
-        ensures told { ReadTells (may_fail (R.telling self.old.reader.now)) (may_fail (R.telling self.new.reader.now)) room.new result }
+    fn read_told(&mut self, buffer: &mut [u8]) -> Result<usize, Stop>
+        ensures bound { IfOk result (λ n. n ≤ length buffer.new) }
+        ensures told { ReadTells (may_fail (R.telling self.old.reader.now)) (may_fail (R.telling self.new.reader.now)) buffer.new result }
         ensures counts { limited_count self.new.reader.ghost_name (R.count self.new.reader.now) self.new.left
             ≡ count_after (limited_count self.old.reader.ghost_name (R.count self.old.reader.now) self.old.left) result }
         ensures fails { limited_failure self.new.spent (R.failure self.new.reader.now)
@@ -92,7 +92,7 @@ impl<R: Told> Told for Limited<'_, R> {
         // Before the limit, a read makes one read of the other reader, of at most `left` bytes, and fails only if that one
         // does.
         ensures below { 0 < self.old.left → ReadTells (R.telling self.old.reader.now) (R.telling self.new.reader.now)
-            (take self.old.left room.new) result }
+            (take self.old.left buffer.new) result }
         ensures last { 0 < self.old.left → R.failure self.new.reader.now ≡ failure_after_read (R.failure self.old.reader.now) result }
         ensures ends { self.old.left ≡ 0 → IsErr result }
     {
@@ -101,8 +101,8 @@ impl<R: Told> Told for Limited<'_, R> {
             self.spent = Some(error);
             return Err(Stop::Fault(error));
         }
-        let most = room.len().min(self.left as usize);
-        let given = self.reader.read_told(&mut room[..most])?;
+        let most = buffer.len().min(self.left as usize);
+        let given = self.reader.read_told(&mut buffer[..most])?;
         self.left -= given as u64;
         Ok(given)
     }
@@ -115,11 +115,11 @@ impl<R: Told> Told for Limited<'_, R> {
             ≡ failure_after (limited_failure self.old.spent (R.failure self.old.reader.now)) result }
         ensures below { SeekTells (R.telling self.old.reader.now) (R.telling self.new.reader.now) to result }
     {
-        let place = self.reader.seek_told(to);
-        if place.is_err() {
+        let offset = self.reader.seek_told(to);
+        if offset.is_err() {
             self.spent = None;
         }
-        place
+        offset
     }
 }
 

@@ -11,9 +11,9 @@ use std::io::{self, ErrorKind, SeekFrom};
 pub struct Joined<'a> {
     first: &'a [u8],
     second: &'a [u8],
-    place: usize,
+    offset: usize,
     ghost short: { length first.now + length second.now < 2 ^ 63 },
-    ghost within: { place ≤ length first.now + length second.now },
+    ghost within: { offset ≤ length first.now + length second.now },
 }
 
 impl<'a> Joined<'a> {
@@ -22,12 +22,12 @@ impl<'a> Joined<'a> {
         requires { length first.now + length second.now < 2 ^ 63 }
         ensures first { result.first ≡ first.entry }
         ensures second { result.second ≡ second.entry }
-        ensures place { result.place ≡ 0 }
+        ensures offset { result.offset ≡ 0 }
     {
         Joined {
             first,
             second,
-            place: 0,
+            offset: 0,
         }
     }
 }
@@ -37,7 +37,7 @@ impl<'a> Joined<'a> {
 impl Told for Joined<'_> {
     ghost telling = { λ r. Some (record {
       bytes = r.first.now ++ r.second.now;
-      place = r.place;
+      offset = r.offset;
       can_fail = false;
       interruptions = 0;
     }) };
@@ -46,47 +46,47 @@ impl Told for Joined<'_> {
 
     ghost failure = { λ _. None };
 
-    fn read_told(&mut self, room: &mut [u8]) -> Result<usize, Stop> {
-        let count = copy_front(rest_of(self.first, self.second, self.place), room);
-        self.place += count;
+    fn read_told(&mut self, buffer: &mut [u8]) -> Result<usize, Stop> {
+        let count = copy_front(rest_of(self.first, self.second, self.offset), buffer);
+        self.offset += count;
         Ok(count)
     }
 
     fn seek_told(&mut self, to: SeekFrom) -> io::Result<u64> {
         let end = self.first.len() + self.second.len();
-        let place = match to {
-            SeekFrom::Start(place) => (place as usize).min(end),
+        let offset = match to {
+            SeekFrom::Start(offset) => (offset as usize).min(end),
             SeekFrom::End(0) => end,
-            SeekFrom::Current(0) => self.place,
+            SeekFrom::Current(0) => self.offset,
             _ => return Err(io::Error::from(ErrorKind::InvalidInput)),
         };
-        self.place = place;
-        Ok(place as u64)
+        self.offset = offset;
+        Ok(offset as u64)
     }
 }
 
 // The bytes of two slices from an offset on, up to the end of the slice that has this offset.
 #[tactic(auto, using(crate::proofs::Joins::in_first, crate::proofs::Joins::in_second))]
-fn rest_of<'a>(first: &'a [u8], second: &'a [u8], place: usize) -> &'a [u8]
-    requires { place ≤ length first.now + length second.now }
-    ensures bytes { (n : ℕ) → n ≤ length result.now → take n result.now ≡ part (first.now ++ second.now) place n }
-    ensures fits { length result.now ≤ length first.now + length second.now - place }
-    ensures some { place < length first.now + length second.now → 0 < length result.now }
+fn rest_of<'a>(first: &'a [u8], second: &'a [u8], offset: usize) -> &'a [u8]
+    requires { offset ≤ length first.now + length second.now }
+    ensures bytes { (n : ℕ) → n ≤ length result.now → take n result.now ≡ part (first.now ++ second.now) offset n }
+    ensures fits { length result.now ≤ length first.now + length second.now - offset }
+    ensures some { offset < length first.now + length second.now → 0 < length result.now }
 {
-    if place < first.len() {
-        &first[place..]
+    if offset < first.len() {
+        &first[offset..]
     } else {
-        &second[place - first.len()..]
+        &second[offset - first.len()..]
     }
 }
 
 /// Copies the first bytes into the buffer, and returns how many that is.
-pub(crate) fn copy_front(bytes: &[u8], room: &mut [u8]) -> usize
-    ensures count { result ≡ min (length room.old) (length bytes.now) }
-    ensures copied { take result room.new ≡ take result bytes.now }
+pub(crate) fn copy_front(bytes: &[u8], buffer: &mut [u8]) -> usize
+    ensures count { result ≡ min (length buffer.old) (length bytes.now) }
+    ensures copied { take result buffer.new ≡ take result bytes.now }
 {
-    let count = room.len().min(bytes.len());
-    room[..count].copy_from_slice(&bytes[..count]);
+    let count = buffer.len().min(bytes.len());
+    buffer[..count].copy_from_slice(&bytes[..count]);
     count
 }
 

@@ -1,7 +1,7 @@
 //! An input that is fetched, for example by range requests, until its type and size are known.
 ghost use Rattle.std.specs.Prelude.{◌≡◌, ℕ, ◌+◌, ◌*◌, ◌^◌, ◌<◌, ◌≤◌, List, Option, Some, length, take, IfErr, IfOk};
 ghost use Rattle.imagesize.specs.Meaning.{meaning};
-ghost use Rattle.imagesize_source.specs.Counts.{places};
+ghost use Rattle.imagesize_source.specs.Counts.{offsets};
 ghost use Rattle.imagesize_source.specs.Input.{part};
 ghost use Rattle.imagesize_uses.specs.Remote.{Fetch, IsOf, Stops, most_at_once};
 
@@ -31,14 +31,14 @@ pub trait Remote {
         ensures short { result < 2 ^ 63 };
 
     /// Fetches the bytes from an offset on into the buffer, and returns how many came.
-    fn fetch(&mut self, place: u64, room: &mut [u8]) -> io::Result<usize>
-        ensures bound { IfOk result (λ n. n ≤ length room.new) }
-        ensures bytes { IfOk result (λ n. take n room.new ≡ part (input self.old) place n) }
+    fn fetch(&mut self, offset: u64, buffer: &mut [u8]) -> io::Result<usize>
+        ensures bound { IfOk result (λ n. n ≤ length buffer.new) }
+        ensures bytes { IfOk result (λ n. take n buffer.new ≡ part (input self.old) offset n) }
         ensures same { input self.new ≡ input self.old }
         ensures counts { fetches self.new ≤ fetches self.old + 1 }
-        ensures asks { asked self.new ≤ asked self.old + length room.new }
+        ensures asks { asked self.new ≤ asked self.old + length buffer.new }
         ensures each { IfOk result (λ _. fetches self.new ≡ fetches self.old + 1) }
-        ensures last { last self.new ≡ Some (record { wanted = length room.new; gave = result }) };
+        ensures last { last self.new ≡ Some (record { wanted = length buffer.new; gave = result }) };
 }
 
 /// Type and size of an input.
@@ -73,26 +73,26 @@ pub fn probe_remote<R: Remote>(remote: &mut R) -> Result<Probed, Interrupted>
     ensures stops { Stops (R.last remote.new) result }
 
     // There are at most as many fetches as the spans of the trace cover bytes, each byte counted once.
-    ensures few { R.fetches remote.new ≤ R.fetches remote.old + places (length (R.input remote.old)) (meaning (R.input remote.old) 0).marks }
+    ensures few { R.fetches remote.new ≤ R.fetches remote.old + offsets (length (R.input remote.old)) (meaning (R.input remote.old) 0).marks }
 
     // All fetches together request at most as many bytes as the input has.
     ensures once { R.asked remote.new ≤ R.asked remote.old + length (R.input remote.old) }
 
     // They request at most 1,024 bytes for each byte that the spans cover.
     ensures most { R.asked remote.new ≤ R.asked remote.old
-        + places (length (R.input remote.old)) (meaning (R.input remote.old) 0).marks * most_at_once (R.input remote.old) }
+        + offsets (length (R.input remote.old)) (meaning (R.input remote.old) 0).marks * most_at_once (R.input remote.old) }
 
     // It fails only if a byte is needed: a result that needs none makes no fetch.
-    ensures some { IfErr result (λ _. 0 < places (length (R.input remote.old)) (meaning (R.input remote.old) 0).marks) }
+    ensures some { IfErr result (λ _. 0 < offsets (length (R.input remote.old)) (meaning (R.input remote.old) 0).marks) }
 {
     let whole = remote.length();
     let mut probe = PartsProbe::new(whole);
-    let mut room = [0u8; MOST];
+    let mut buffer = [0u8; MOST];
     'rounds: loop {
         match probe.answer() {
             PartsAnswer::Found((kind, answer)) => return Ok(Probed { kind, answer }),
             PartsAnswer::Wanted(span) => {
-                let part = &mut room[..span.len as usize];
+                let part = &mut buffer[..span.len as usize];
                 fetch_part(remote, span.start, part)?;
                 probe.supply(span.start, part);
             }
@@ -101,16 +101,16 @@ pub fn probe_remote<R: Remote>(remote: &mut R) -> Result<Probed, Interrupted>
 }
 
 // Fetches the bytes from an offset on, until the buffer is full.
-fn fetch_part<R: Remote>(remote: &mut R, place: u64, room: &mut [u8]) -> Result<(), Interrupted>
+fn fetch_part<R: Remote>(remote: &mut R, offset: u64, buffer: &mut [u8]) -> Result<(), Interrupted>
     ensures same { R.input remote.new ≡ R.input remote.old }
     ensures counts { R.fetches remote.new ≤ R.fetches remote.old + 1 }
-    ensures bytes { IfOk result (λ _. room.new ≡ part (R.input remote.old) place (length room.old)) }
-    ensures asks { R.asked remote.new ≤ R.asked remote.old + length room.old }
+    ensures bytes { IfOk result (λ _. buffer.new ≡ part (R.input remote.old) offset (length buffer.old)) }
+    ensures asks { R.asked remote.new ≤ R.asked remote.old + length buffer.old }
     ensures stops { Stops (R.last remote.new) result }
 {
-    match remote.fetch(place, room) {
+    match remote.fetch(offset, buffer) {
         Err(error) => Err(Interrupted::Failed(error)),
-        Ok(count) if count < room.len() => Err(Interrupted::Short),
+        Ok(count) if count < buffer.len() => Err(Interrupted::Short),
         Ok(_) => Ok(()),
     }
 }
@@ -164,11 +164,11 @@ impl Remote for Held<'_> {
         self.bytes.len() as u64
     }
 
-    fn fetch(&mut self, place: u64, room: &mut [u8]) -> io::Result<usize> {
-        self.wanted = room.len();
-        self.asked = self.asked.saturating_add(room.len() as u64);
+    fn fetch(&mut self, offset: u64, buffer: &mut [u8]) -> io::Result<usize> {
+        self.wanted = buffer.len();
+        self.asked = self.asked.saturating_add(buffer.len() as u64);
         self.gave = if self.left > 0 && self.fetches < u64::MAX {
-            Ok(copy_part(self.bytes, place, self.most, room))
+            Ok(copy_part(self.bytes, offset, self.most, buffer))
         } else {
             Err(io::Error::from(ErrorKind::TimedOut))
         };
@@ -179,13 +179,13 @@ impl Remote for Held<'_> {
 }
 
 // Copies the bytes from an offset on, as far as there are any and at most `most`, and returns how many were copied.
-fn copy_part(bytes: &[u8], place: u64, most: usize, room: &mut [u8]) -> usize
-    ensures bound { result ≤ length room.new }
-    ensures copied { take result room.new ≡ part bytes.now place result }
+fn copy_part(bytes: &[u8], offset: u64, most: usize, buffer: &mut [u8]) -> usize
+    ensures bound { result ≤ length buffer.new }
+    ensures copied { take result buffer.new ≡ part bytes.now offset result }
 {
     let span = Span {
-        start: place,
+        start: offset,
         len: most as u64,
     };
-    copy_front(bytes_of_span(bytes, &span), room)
+    copy_front(bytes_of_span(bytes, &span), buffer)
 }

@@ -104,7 +104,7 @@ fn is_answer(
 }
 
 #[test]
-fn places_of_a_size_count_from_the_first_byte(rt: HostRuntime) -> Result<(), Fail> {
+fn offsets_of_a_size_count_from_the_first_byte(rt: HostRuntime) -> Result<(), Fail> {
     let bytes = b"abcdGIF89a\x64\0\x64\0\0\0";
     let mut cursor = Cursor::new(bytes.as_slice());
     cursor.set_position(4);
@@ -127,9 +127,9 @@ fn check_size_as(
     wanted: Wanted<'_>,
 ) -> Result<(), Fail> {
     let alloc = rt.alloc();
-    for place in [0, 4, 1000] {
+    for offset in [0, 4, 1000] {
         let mut cursor = Cursor::new(bytes);
-        cursor.set_position(place);
+        cursor.set_position(offset);
         assert!(rt;
             is_answer(alloc, wanted, &kind.reader_size(&mut cursor))?,
             "{bytes:?}"

@@ -26,7 +26,7 @@ pub fn check(alloc: Global, row: &Row<'_>) -> Result<(), Wrong> {
     }
     readers::check_pieces(alloc, row)?;
     readers::check_counts(alloc, row)?;
-    readers::check_places(alloc, row)?;
+    readers::check_offsets(alloc, row)?;
     check_followed(alloc, row)?;
     parts::check_parts(alloc, row)?;
     stream::check_stream(alloc, row)?;
@@ -153,15 +153,15 @@ fn check_trace(alloc: Global, row: &Row<'_>, spans: &[Span]) -> Result<(), Wrong
 }
 
 /// Whether one of the spans has this offset.
-pub fn has(spans: &[Span], place: u64) -> bool {
-    spans.iter().any(|span| span.start <= place && place - span.start < span.len)
+pub fn has(spans: &[Span], offset: u64) -> bool {
+    spans.iter().any(|span| span.start <= offset && offset - span.start < span.len)
 }
 
 // The bytes of a row with one of them changed.
-fn changed(alloc: Global, row: &Row<'_>, place: usize) -> Result<Vec<u8>, AllocError> {
+fn changed(alloc: Global, row: &Row<'_>, offset: usize) -> Result<Vec<u8>, AllocError> {
     let mut bytes = Vec::new(alloc);
     bytes.extend_from_slice(&row.bytes)?;
-    if let Some(byte) = bytes.get_mut(place) {
+    if let Some(byte) = bytes.get_mut(offset) {
         *byte = 255 - *byte;
     }
     Ok(bytes)
@@ -169,9 +169,9 @@ fn changed(alloc: Global, row: &Row<'_>, place: usize) -> Result<Vec<u8>, AllocE
 
 // A byte that lies in no span can be changed, and the result is the same.
 fn check_free_bytes(alloc: Global, row: &Row<'_>, spans: &[Span]) -> Result<(), Wrong> {
-    for place in 0..row.bytes.len() {
-        if !has(spans, place as u64) {
-            let bytes = changed(alloc, row, place)?;
+    for offset in 0..row.bytes.len() {
+        if !has(spans, offset as u64) {
+            let bytes = changed(alloc, row, offset)?;
             let trace = blob_trace(alloc, &bytes)?;
             holds(
                 is_traced(alloc, row, spans, &trace)?,

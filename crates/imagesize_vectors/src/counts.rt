@@ -15,7 +15,7 @@ const GIF_BEHIND: &[u8] = b"abcdGIF89ad\0d\0\0\0";
 struct Taken {
     bytes: &'static [u8],
     // How many bytes come before its first one.
-    place: u64,
+    offset: u64,
     // How many are read for its type.
     of_type: u64,
     // How many are read for its type and its size.
@@ -25,31 +25,31 @@ struct Taken {
 static TAKEN: [Taken; 5] = [
     Taken {
         bytes: GIF,
-        place: 0,
+        offset: 0,
         of_type: 12,
         whole: 12,
     },
     Taken {
         bytes: GIF_BEHIND,
-        place: 4,
+        offset: 4,
         of_type: 12,
         whole: 16,
     },
     Taken {
         bytes: TGA,
-        place: 0,
+        offset: 0,
         of_type: 18,
         whole: 18,
     },
     Taken {
         bytes: ETC2,
-        place: 0,
+        offset: 0,
         of_type: 12,
         whole: 16,
     },
     Taken {
         bytes: NESTED_JPEG,
-        place: 0,
+        offset: 0,
         of_type: 12,
         whole: 20,
     },
@@ -59,16 +59,16 @@ fn taken_rows() -> &'static [Taken] {
     &TAKEN
 }
 
-fn cursor_at(bytes: &[u8], place: u64) -> Cursor<&[u8]> {
+fn cursor_at(bytes: &[u8], offset: u64) -> Cursor<&[u8]> {
     let mut cursor = Cursor::new(bytes);
-    cursor.set_position(place);
+    cursor.set_position(offset);
     cursor
 }
 
 #[test]
 fn no_byte_is_taken_again(rt: HostRuntime) {
     for row in taken_rows() {
-        let mut cursor = cursor_at(row.bytes, row.place);
+        let mut cursor = cursor_at(row.bytes, row.offset);
         let probed = reader_probe(&mut cursor);
         assert_eq!(rt; probed.taken, row.whole, "{:?}", row.bytes);
         assert!(rt; probed.answer.is_ok());
@@ -80,14 +80,14 @@ fn a_counting_reader_counts_what_is_taken(rt: HostRuntime) {
     for row in taken_rows() {
         let mut count = 1000;
         let reader = Counting {
-            reader: cursor_at(row.bytes, row.place),
+            reader: cursor_at(row.bytes, row.offset),
             count: &mut count,
         };
         assert!(rt; reader_size(reader).is_ok());
         assert_eq!(rt; count.checked_sub(1000), Some(row.whole), "{:?}", row.bytes);
         let mut count = 1000;
         let reader = Counting {
-            reader: cursor_at(row.bytes, row.place),
+            reader: cursor_at(row.bytes, row.offset),
             count: &mut count,
         };
         assert!(rt; reader_type(reader).is_ok());
@@ -105,7 +105,7 @@ fn one_byte_a_read_changes_no_count(rt: HostRuntime) {
     for row in taken_rows() {
         let mut count = 0;
         let mut reader = Counting {
-            reader: Cutting::one_byte(cursor_at(row.bytes, row.place)),
+            reader: Cutting::one_byte(cursor_at(row.bytes, row.offset)),
             count: &mut count,
         };
         assert_eq!(rt;
@@ -137,7 +137,7 @@ fn a_read_that_cannot_be_counted_is_a_fault(rt: HostRuntime) {
 // An input, and the reads and the seeks that the calls make of it.
 struct Made {
     bytes: &'static [u8],
-    place: u64,
+    offset: u64,
     kind: ImageType,
     of_type: (u32, u32),
     whole: (u32, u32),
@@ -149,7 +149,7 @@ struct Made {
 static MADE: [Made; 5] = [
     Made {
         bytes: GIF,
-        place: 0,
+        offset: 0,
         kind: ImageType::Gif,
         of_type: (1, 3),
         whole: (1, 3),
@@ -157,7 +157,7 @@ static MADE: [Made; 5] = [
     },
     Made {
         bytes: GIF_BEHIND,
-        place: 4,
+        offset: 4,
         kind: ImageType::Gif,
         of_type: (1, 3),
         whole: (3, 4),
@@ -165,7 +165,7 @@ static MADE: [Made; 5] = [
     },
     Made {
         bytes: TGA,
-        place: 0,
+        offset: 0,
         kind: ImageType::Tga,
         of_type: (2, 3),
         whole: (2, 3),
@@ -173,7 +173,7 @@ static MADE: [Made; 5] = [
     },
     Made {
         bytes: ETC2,
-        place: 0,
+        offset: 0,
         kind: ImageType::Etc2(PkmCompression::Etc2),
         of_type: (1, 3),
         whole: (3, 3),
@@ -181,7 +181,7 @@ static MADE: [Made; 5] = [
     },
     Made {
         bytes: NESTED_JPEG,
-        place: 0,
+        offset: 0,
         kind: ImageType::Jpeg,
         of_type: (1, 3),
         whole: (5, 4),
@@ -196,7 +196,7 @@ fn made_rows() -> &'static [Made] {
 // The reader of a row, which counts the calls that are made.
 fn counted<'a>(row: &Made, made: &'a mut (u32, u32)) -> Calls<'a, Cursor<&'static [u8]>> {
     Calls {
-        reader: cursor_at(row.bytes, row.place),
+        reader: cursor_at(row.bytes, row.offset),
         made,
     }
 }

@@ -35,7 +35,7 @@ fn bytes_behind_the_told_length_are_the_end(rt: HostRuntime) -> Result<(), Fail>
 }
 
 #[test]
-fn a_call_goes_back_to_a_place_that_is_the_told_length(rt: HostRuntime) -> Result<(), Fail> {
+fn a_call_goes_back_to_a_offset_that_is_the_told_length(rt: HostRuntime) -> Result<(), Fail> {
     let elsewhere = || Claiming {
         reader: Cursor::new(GIF),
         told: 0,
@@ -166,7 +166,7 @@ fn endless(stream: &Stream) -> Claiming<Endless<'static>> {
         reader: Endless {
             head: stream.head,
             part: stream.part,
-            place: 0,
+            offset: 0,
         },
         told: 100,
         goes_there: true,

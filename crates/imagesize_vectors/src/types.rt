@@ -91,14 +91,14 @@ fn types_are_ordered_as_they_are_listed(rt: HostRuntime) -> Result<(), Fail> {
 
 // No position is left out of the list.
 #[test]
-fn places_are_counted_from_0(rt: HostRuntime) -> Result<(), Fail> {
-    let mut places: Vec<u32> = ImageType::all()
+fn positions_are_counted_from_0(rt: HostRuntime) -> Result<(), Fail> {
+    let mut positions: Vec<u32> = ImageType::all()
         .iter()
-        .map(|image| image.place())
+        .map(|image| image.position())
         .collect(rt.alloc())?;
-    places.dedup();
-    for (place, found) in places.iter().enumerate() {
-        assert_eq!(rt; *found as usize, place);
+    positions.dedup();
+    for (position, found) in positions.iter().enumerate() {
+        assert_eq!(rt; *found as usize, position);
     }
     Ok(())
 }

@@ -84,53 +84,53 @@ by_answer P None none some = none
 by_answer P (Some size) none some = some size
 
 -- and of each entry
-by_entry : (P : Layout (Said ImageSize ImageSize) → Type 0) (best : Option ImageSize) (place : ℕ)
+by_entry : (P : Layout (Said ImageSize ImageSize) → Type 0) (best : Option ImageSize) (offset : ℕ)
     (found : Option (List ℕ))
-    → P (icon_answer best) → ((size : ImageSize) → P (done (Next size (place + 16)))) → P (icon_entry best place found)
-by_entry P best place None end next = end
-by_entry P best place (Some bytes) end next = next (icon_size bytes)
+    → P (icon_answer best) → ((size : ImageSize) → P (done (Next size (offset + 16)))) → P (icon_entry best offset found)
+by_entry P best offset None end next = end
+by_entry P best offset (Some bytes) end next = next (icon_size bytes)
 
 -- and of a record
-by_count : (P : Layout (Said ImageSize ImageSize) → Type 0) (count : ℕ) (sizes : List ImageSize) (place : ℕ)
-    → P (icon_answer (last_largest sizes)) → P (begin_record (if_there place 2 (icon_entry (last_largest sizes) place)))
-    → P ((icon_entries count).said sizes place)
-by_count P count sizes place end entry = on_test P (eqb (length sizes) count) (icon_answer (last_largest sizes))
-    (begin_record (if_there place 2 (icon_entry (last_largest sizes) place))) (λ _. end) (λ _. entry)
+by_count : (P : Layout (Said ImageSize ImageSize) → Type 0) (count : ℕ) (sizes : List ImageSize) (offset : ℕ)
+    → P (icon_answer (last_largest sizes)) → P (begin_record (if_there offset 2 (icon_entry (last_largest sizes) offset)))
+    → P ((icon_entries count).said sizes offset)
+by_count P count sizes offset end entry = on_test P (eqb (length sizes) count) (icon_answer (last_largest sizes))
+    (begin_record (if_there offset 2 (icon_entry (last_largest sizes) offset))) (λ _. end) (λ _. entry)
 
 -- a record by how many entries were read
-pub icon_tells : (count seen : ℕ) (best : Option ImageSize) (place : ℕ)
-    → Tells (λ p. place < p) (icon_in count seen best place)
-icon_tells count seen best place =
-    on_test (Tells (λ p. place < p)) (eqb seen count) (icon_answer best) (begin_record (if_there place 2 (icon_entry best place)))
-    (λ _. by_answer (Tells (λ p. place < p)) best tt (λ size. tt))
-    (λ _ bs. by_entry (Tells (λ p. place < p)) best place (whole 2 bs)
-    (by_answer (Tells (λ p. place < p)) best tt (λ size. tt)) (λ size. omega arith))
+pub icon_tells : (count seen : ℕ) (best : Option ImageSize) (offset : ℕ)
+    → Tells (λ p. offset < p) (icon_in count seen best offset)
+icon_tells count seen best offset =
+    on_test (Tells (λ p. offset < p)) (eqb seen count) (icon_answer best) (begin_record (if_there offset 2 (icon_entry best offset)))
+    (λ _. by_answer (Tells (λ p. offset < p)) best tt (λ size. tt))
+    (λ _ bs. by_entry (Tells (λ p. offset < p)) best offset (whole 2 bs)
+    (by_answer (Tells (λ p. offset < p)) best tt (λ size. tt)) (λ size. omega arith))
 
-pub icon_begins : (count seen : ℕ) (best : Option ImageSize) (place : ℕ) → Begins place (icon_in count seen best place)
-icon_begins count seen best place =
-    on_test (Begins place) (eqb seen count) (icon_answer best) (begin_record (if_there place 2 (icon_entry best place)))
-    (λ _. by_answer (Begins place) best tt (λ size. tt))
+pub icon_begins : (count seen : ℕ) (best : Option ImageSize) (offset : ℕ) → Begins offset (icon_in count seen best offset)
+icon_begins count seen best offset =
+    on_test (Begins offset) (eqb seen count) (icon_answer best) (begin_record (if_there offset 2 (icon_entry best offset)))
+    (λ _. by_answer (Begins offset) best tt (λ size. tt))
     (λ _. (omega arith, by_answer (Tells (λ _. ⊥)) best tt (λ size. tt)))
 
 pub icon_advances : (count : ℕ) (d : List ℕ) → Advances (icon_entries count) d
 icon_advances count = advances (icon_entries count)
-    (λ sizes place. by_count (Tells (λ p. place < p)) count sizes place
-    (by_answer (Tells (λ p. place < p)) (last_largest sizes) tt (λ size. tt))
-    (λ bs. by_entry (Tells (λ p. place < p)) (last_largest sizes) place (whole 2 bs)
-    (by_answer (Tells (λ p. place < p)) (last_largest sizes) tt
+    (λ sizes offset. by_count (Tells (λ p. offset < p)) count sizes offset
+    (by_answer (Tells (λ p. offset < p)) (last_largest sizes) tt (λ size. tt))
+    (λ bs. by_entry (Tells (λ p. offset < p)) (last_largest sizes) offset (whole 2 bs)
+    (by_answer (Tells (λ p. offset < p)) (last_largest sizes) tt
     (λ size. tt)) (λ size. omega arith)))
-    (λ sizes place. by_count (Begins place) count sizes place
-    (by_answer (Begins place) (last_largest sizes) tt (λ size. tt))
+    (λ sizes offset. by_count (Begins offset) count sizes offset
+    (by_answer (Begins offset) (last_largest sizes) tt (λ size. tt))
     (omega arith, by_answer (Tells (λ _. ⊥)) (last_largest sizes) tt (λ size. tt)))
 
 entries_within : (count : ℕ) (d : List ℕ) → total (chain_at (icon_entries count) d).marks ≤ length d
 entries_within count d =
     let most = chain_ahead (icon_entries count) d (icon_advances count d)
-    (λ sizes place. by_count (Ahead place) count sizes place
-    (by_answer (Ahead place) (last_largest sizes) tt (λ size. tt)) (
+    (λ sizes offset. by_count (Ahead offset) count sizes offset
+    (by_answer (Ahead offset) (last_largest sizes) tt (λ size. tt)) (
       omega arith,
-      λ bs. by_entry (Ahead (place + 2)) (last_largest sizes) place (whole 2 bs)
-          (by_answer (Ahead (place + 2)) (last_largest sizes) tt
+      λ bs. by_entry (Ahead (offset + 2)) (last_largest sizes) offset (whole 2 bs)
+          (by_answer (Ahead (offset + 2)) (last_largest sizes) tt
           (λ size. tt)) (λ size. omega arith),
     )) in
     omega arith
@@ -156,16 +156,16 @@ largest_on best sizes size is area = (
 )
 
 -- an entry that was read leads on
-pub icons_on : (seen after : ℕ) (best largest : Option ImageSize) (sizes : List ImageSize) (place : ℕ)
+pub icons_on : (seen after : ℕ) (best largest : Option ImageSize) (sizes : List ImageSize) (offset : ℕ)
     (r : Result (Found ImageSize ImageSize) Halt)
-    → Seen seen best sizes → IfOk r (λ found. IconsOn seen best after largest (said_at place found))
-    → IfOk r (λ found. KeepsOn (λ held q. Seen after largest held) sizes (said_at place found))
-icons_on seen after best largest sizes place (Ok (found.Answer x)) h on = tt
-icons_on seen after best largest sizes place (Ok (found.Other size length)) h on =
+    → Seen seen best sizes → IfOk r (λ found. IconsOn seen best after largest (said_at offset found))
+    → IfOk r (λ found. KeepsOn (λ held q. Seen after largest held) sizes (said_at offset found))
+icons_on seen after best largest sizes offset (Ok (found.Answer x)) h on = tt
+icons_on seen after best largest sizes offset (Ok (found.Other size length)) h on =
     subst (λ n. Seen n largest (sizes ++ size ∷ [])) (sym on.0)
     (subst (λ b. Seen (seen + 1) b (sizes ++ size ∷ [])) (sym on.1)
     (seen_on seen best sizes size h (subst (λ b. ForSome b IsIcon) on.1 on.2)))
-icons_on seen after best largest sizes place (Err e) h on = tt
+icons_on seen after best largest sizes offset (Err e) h on = tt
 
 pub icons_stay : (seen after : ℕ) (best largest : Option ImageSize) (sizes : List ImageSize)
     (r : Result (Found ImageSize ImageSize) Halt)
@@ -176,18 +176,18 @@ icons_stay seen after best largest sizes (Err e) h same =
 
 -- it is the record behind these entries
 pub icon_as : {a b : State} {r : Result (Said ImageSize ImageSize) Halt} (count seen : ℕ) (best : Option ImageSize)
-    (place : ℕ)
-    → Runs a b r (layout_reads a.held.input (icon_in count seen best place)) → (sizes : List ImageSize)
+    (offset : ℕ)
+    → Runs a b r (layout_reads a.held.input (icon_in count seen best offset)) → (sizes : List ImageSize)
     → Seen seen best sizes
-    → Runs a b r (layout_reads a.held.input ((icon_entries count).said sizes place))
-icon_as {a} {b} {r} count seen best place run sizes h =
-    subst (λ n. Runs a b r (layout_reads a.held.input (icon_in count n (last_largest sizes) place))) (sym h.many)
-    (subst (λ o. Runs a b r (layout_reads a.held.input (icon_in count seen o place))) (sym h.is) run)
+    → Runs a b r (layout_reads a.held.input ((icon_entries count).said sizes offset))
+icon_as {a} {b} {r} count seen best offset run sizes h =
+    subst (λ n. Runs a b r (layout_reads a.held.input (icon_in count n (last_largest sizes) offset))) (sym h.many)
+    (subst (λ o. Runs a b r (layout_reads a.held.input (icon_in count seen o offset))) (sym h.is) run)
 
 -- from the end of the input on there is no entry
-pub icon_in_ends : (count seen : ℕ) (best : Option ImageSize) (d : List ℕ) (place : ℕ) → length d ≤ place
-    → uncounted (layout_reads d (icon_in count seen best place)) ≡ just (map_answer Decided (ok_or best Corrupted)) []
-icon_in_ends count seen best d place far = by_test (eqb seen count) where
+pub icon_in_ends : (count seen : ℕ) (best : Option ImageSize) (d : List ℕ) (offset : ℕ) → length d ≤ offset
+    → uncounted (layout_reads d (icon_in count seen best offset)) ≡ just (map_answer Decided (ok_or best Corrupted)) []
+icon_in_ends count seen best d offset far = by_test (eqb seen count) where
   ends : (best : Option ImageSize)
       → layout_reads d (icon_answer best) ≡ just (map_answer Decided (ok_or best Corrupted)) []
   ends None = refl
@@ -195,25 +195,25 @@ icon_in_ends count seen best d place far = by_test (eqb seen count) where
 
   by_test : (all : Bool)
       → uncounted (layout_reads d (cond all (icon_answer best)
-      (begin_record (if_there place 2 (icon_entry best place)))))
+      (begin_record (if_there offset 2 (icon_entry best offset)))))
       ≡ just (map_answer Decided (ok_or best Corrupted)) []
   by_test true = ap uncounted (ends best)
-  by_test false = ap uncounted (there_beyond d place 2 (icon_entry best place) far ∙ ends best)
+  by_test false = ap uncounted (there_beyond d offset 2 (icon_entry best offset) far ∙ ends best)
 
 pub icon_ends : (count seen : ℕ) (best : Option ImageSize) (sizes : List ImageSize) → Seen seen best sizes
-    → (d : List ℕ) (place : ℕ) → length d ≤ place
-    → uncounted (layout_reads d ((icon_entries count).said sizes place))
+    → (d : List ℕ) (offset : ℕ) → length d ≤ offset
+    → uncounted (layout_reads d ((icon_entries count).said sizes offset))
     ≡ just (map_answer Decided (ok_or best Corrupted)) []
-icon_ends count seen best sizes h d place far =
-    icon_in_ends count (length sizes) (last_largest sizes) d place far
+icon_ends count seen best sizes h d offset far =
+    icon_in_ends count (length sizes) (last_largest sizes) d offset far
     ∙ ap (λ o. just (map_answer Decided (ok_or o Corrupted)) []) h.is
 
 -- an entry is read from at most 2 bytes, and the end of the list from none
-entry_each : (count : ℕ) (sizes : List ImageSize) (place : ℕ) → Each 2 ((icon_entries count).said sizes place)
-entry_each count sizes place =
-    by_count (Each 2) count sizes place (by_answer (Each 2) (last_largest sizes) tt (λ size. tt)) (
+entry_each : (count : ℕ) (sizes : List ImageSize) (offset : ℕ) → Each 2 ((icon_entries count).said sizes offset)
+entry_each count sizes offset =
+    by_count (Each 2) count sizes offset (by_answer (Each 2) (last_largest sizes) tt (λ size. tt)) (
       omega arith,
-      λ bs. by_entry (AtMost 0) (last_largest sizes) place (whole 2 bs)
+      λ bs. by_entry (AtMost 0) (last_largest sizes) offset (whole 2 bs)
           (by_answer (AtMost 0) (last_largest sizes) tt (λ size. tt)) (λ size. tt),
     )
 
@@ -222,7 +222,7 @@ pub ico_local : IsLocal false ico
 ico_local = local_then (λ d. number_read d Little 4 2) (λ count d. chain_at (icon_entries count) d)
     (local_number Little 4 2)
     (λ count. local_chain (icon_entries count) (icon_advances count)
-    (λ sizes place. each_texts false 2 ((icon_entries count).said sizes place) (entry_each count sizes place)))
+    (λ sizes offset. each_texts false 2 ((icon_entries count).said sizes offset) (entry_each count sizes offset)))
 
 pub ico_cost : (d : List ℕ) → 12 + total (ico d).marks ≤ 18 + 20 * (ico d).begun
 ico_cost d = omega (

@@ -19,32 +19,32 @@ use Rattle.imagesize_source.proofs.Tests.{on_test}
 use Rattle.imagesize_source.proofs.Way.{RecordedLaws, answers_last}
 
 -- what holds of each chunk, by its name
-by_name : (P : Layout (Said (Unit {0}) ImageSize) → Type 0) (place : ℕ) (head : List ℕ) → P (refuse Corrupted)
-    → P (bitmap_header place) → P (done (Next tt (place + chunk_bytes (chunk_length head)))) → P (ilbm_named place head)
-by_name P place head body header other =
-    on_test P (is_bitmap_header head) (bitmap_header place) _ (λ _. header)
-    (λ _. on_test P (is_body head) (refuse Corrupted) (done (Next tt (place + chunk_bytes (chunk_length head))))
+by_name : (P : Layout (Said (Unit {0}) ImageSize) → Type 0) (offset : ℕ) (head : List ℕ) → P (refuse Corrupted)
+    → P (bitmap_header offset) → P (done (Next tt (offset + chunk_bytes (chunk_length head)))) → P (ilbm_named offset head)
+by_name P offset head body header other =
+    on_test P (is_bitmap_header head) (bitmap_header offset) _ (λ _. header)
+    (λ _. on_test P (is_body head) (refuse Corrupted) (done (Next tt (offset + chunk_bytes (chunk_length head))))
     (λ _. body)
     (λ _. other))
 
--- a chunk tells a place behind its own
-pub chunk_tells : (place : ℕ) → Tells (λ p. place < p) (ilbm_chunk place)
-chunk_tells place head = by_name (Tells (λ p. place < p)) place head tt (λ width height. tt) (omega arith)
+-- a chunk tells an offset behind its own
+pub chunk_tells : (offset : ℕ) → Tells (λ p. offset < p) (ilbm_chunk offset)
+chunk_tells offset head = by_name (Tells (λ p. offset < p)) offset head tt (λ width height. tt) (omega arith)
 
-pub chunk_begins : (place : ℕ) → Begins place (ilbm_chunk place)
-chunk_begins place = (omega arith, omega arith)
+pub chunk_begins : (offset : ℕ) → Begins offset (ilbm_chunk offset)
+chunk_begins offset = (omega arith, omega arith)
 
 pub ilbm_advances : (d : List ℕ) → Advances ilbm_chunks d
-ilbm_advances = advances ilbm_chunks (λ passed place. chunk_tells place) (λ passed place. chunk_begins place)
+ilbm_advances = advances ilbm_chunks (λ passed offset. chunk_tells offset) (λ passed offset. chunk_begins offset)
 
 pub ilbm_lasts : Lasts ilbm
 ilbm_lasts = lasts_chain ilbm_chunks ilbm_advances
-    (λ passed place head. by_name Plain place head tt (λ width height. tt) tt)
+    (λ passed offset head. by_name Plain offset head tt (λ width height. tt) tt)
 
 -- a chunk is read from at most 12 bytes
-chunk_at_most : (passed : List (Unit {0})) (place : ℕ) → AtMost 12 (ilbm_chunks.said passed place)
-chunk_at_most passed place =
-    (omega arith, λ head. by_name (AtMost 4) place head tt (omega arith, λ width. (omega arith, λ height. tt)) tt)
+chunk_at_most : (passed : List (Unit {0})) (offset : ℕ) → AtMost 12 (ilbm_chunks.said passed offset)
+chunk_at_most passed offset =
+    (omega arith, λ head. by_name (AtMost 4) offset head tt (omega arith, λ width. (omega arith, λ height. tt)) tt)
 
 pub ilbm_cost : (d : List ℕ) → 12 + total (ilbm d).marks ≤ 18 + 20 * (ilbm d).begun
 ilbm_cost d = omega (arith, chain_cost ilbm_chunks d (ilbm_advances d) 12 chunk_at_most)
@@ -52,23 +52,23 @@ ilbm_cost d = omega (arith, chain_cost ilbm_chunks d (ilbm_advances d) 12 chunk_
 -- what is seen of an input
 pub ilbm_local : IsLocal false ilbm
 ilbm_local = local_chain ilbm_chunks ilbm_advances
-    (λ passed place. without_texts false 12 (ilbm_chunks.said passed place) (chunk_at_most passed place))
+    (λ passed offset. without_texts false 12 (ilbm_chunks.said passed offset) (chunk_at_most passed offset))
 
 -- with its type it is read from at most 28 bytes more than the input has: the chunks stand behind the form's type
 pub ilbm_within : (d : List ℕ) → 12 + total (ilbm d).marks ≤ length d + 28
 ilbm_within d =
     let most = chain_ahead ilbm_chunks d (ilbm_advances d)
-    (λ passed place. (
+    (λ passed offset. (
       omega arith,
-      λ head. by_name (Ahead (place + 8)) place head tt (omega arith, λ width. (omega arith, λ height. tt))
+      λ head. by_name (Ahead (offset + 8)) offset head tt (omega arith, λ width. (omega arith, λ height. tt))
           (omega arith),
     )) in
     omega arith
 
 -- from the end of the input on there is no chunk
-pub ilbm_ends : (d : List ℕ) (place : ℕ) → length d ≤ place
-    → uncounted (layout_reads d (ilbm_chunk place)) ≡ refuses Ended
-ilbm_ends d place h = ap uncounted (bytes_beyond d place 8 (λ head. ilbm_named place head) h (omega arith))
+pub ilbm_ends : (d : List ℕ) (offset : ℕ) → length d ≤ offset
+    → uncounted (layout_reads d (ilbm_chunk offset)) ≡ refuses Ended
+ilbm_ends d offset h = ap uncounted (bytes_beyond d offset 8 (λ head. ilbm_named offset head) h (omega arith))
 
 pub ilbm_laws : RecordedLaws 12 18 20 true false ilbm
 ilbm_laws = record {

@@ -32,62 +32,62 @@ use Rattle.imagesize_source.proofs.Tests.{on_test}
 use Rattle.imagesize_source.proofs.Way.{RecordedLaws, answers_last}
 
 -- what holds of each way that a segment can go
-by_head : (P : Layout (Said ℕ ImageSize) → Type 0) (k place : ℕ) (head : List ℕ) → P (refuse Corrupted)
-    → P (jpeg_frame place)
-    → ((marker : ℕ) → P (jpeg_other place marker))
-    → P (cond (eqb (slice_index head 0) 0xFF) (jpeg_marked k place (slice_index head 1))
+by_head : (P : Layout (Said ℕ ImageSize) → Type 0) (k offset : ℕ) (head : List ℕ) → P (refuse Corrupted)
+    → P (jpeg_frame offset)
+    → ((marker : ℕ) → P (jpeg_other offset marker))
+    → P (cond (eqb (slice_index head 0) 0xFF) (jpeg_marked k offset (slice_index head 1))
     (refuse Corrupted))
-by_head P k place head none frame other =
-    on_test P (eqb (slice_index head 0) 0xFF) (jpeg_marked k place (slice_index head 1)) (refuse Corrupted)
-    (λ _. on_test P (is_own_frame k (slice_index head 1)) (jpeg_frame place) _ (λ _. frame)
-    (λ _. on_test P (is_own_end k (slice_index head 1)) (refuse Corrupted) (jpeg_other place (slice_index head 1))
+by_head P k offset head none frame other =
+    on_test P (eqb (slice_index head 0) 0xFF) (jpeg_marked k offset (slice_index head 1)) (refuse Corrupted)
+    (λ _. on_test P (is_own_frame k (slice_index head 1)) (jpeg_frame offset) _ (λ _. frame)
+    (λ _. on_test P (is_own_end k (slice_index head 1)) (refuse Corrupted) (jpeg_other offset (slice_index head 1))
     (λ _. none)
     (λ _. other (slice_index head 1))))
     (λ _. none)
 
--- a segment tells a place behind its own
-pub segment_tells : (k place : ℕ) → Tells (λ p. place < p) (jpeg_segment k place)
-segment_tells k place head =
-    by_head (Tells (λ p. place < p)) k place head tt (λ height width. tt) (λ marker length. omega arith)
+-- a segment tells an offset behind its own
+pub segment_tells : (k offset : ℕ) → Tells (λ p. offset < p) (jpeg_segment k offset)
+segment_tells k offset head =
+    by_head (Tells (λ p. offset < p)) k offset head tt (λ height width. tt) (λ marker length. omega arith)
 
-pub segment_begins : (k place : ℕ) → Begins place (jpeg_segment k place)
-segment_begins k place = (omega arith, omega arith)
+pub segment_begins : (k offset : ℕ) → Begins offset (jpeg_segment k offset)
+segment_begins k offset = (omega arith, omega arith)
 
 pub jpeg_advances : (d : List ℕ) → Advances jpeg_segments d
-jpeg_advances = advances jpeg_segments (λ markers place. segment_tells (depth markers) place)
-    (λ markers place. segment_begins (depth markers) place)
+jpeg_advances = advances jpeg_segments (λ markers offset. segment_tells (depth markers) offset)
+    (λ markers offset. segment_begins (depth markers) offset)
 
 pub jpeg_lasts : Lasts jpeg
 jpeg_lasts = lasts_chain jpeg_segments jpeg_advances
-    (λ markers place head. by_head Plain (depth markers) place head tt (λ height width. tt) (λ marker length. tt))
+    (λ markers offset head. by_head Plain (depth markers) offset head tt (λ height width. tt) (λ marker length. tt))
 
-marked_at_most : (k place marker : ℕ) → AtMost 4 (jpeg_marked k place marker)
-marked_at_most k place marker =
-    on_test (AtMost 4) (is_own_frame k marker) (jpeg_frame place) _
+marked_at_most : (k offset marker : ℕ) → AtMost 4 (jpeg_marked k offset marker)
+marked_at_most k offset marker =
+    on_test (AtMost 4) (is_own_frame k marker) (jpeg_frame offset) _
     (λ _. (omega arith, λ height. (omega arith, λ width. tt)))
-    (λ _. on_test (AtMost 4) (is_own_end k marker) (refuse Corrupted) (jpeg_other place marker) (λ _. tt)
+    (λ _. on_test (AtMost 4) (is_own_end k marker) (refuse Corrupted) (jpeg_other offset marker) (λ _. tt)
     (λ _. (omega arith, λ length. tt)))
 
-segment_at_most : (k place : ℕ) → AtMost 6 (jpeg_segment k place)
-segment_at_most k place = (
+segment_at_most : (k offset : ℕ) → AtMost 6 (jpeg_segment k offset)
+segment_at_most k offset = (
   omega arith,
   λ head. on_test (AtMost 4) (eqb (slice_index head 0) 0xFF)
-      (jpeg_marked k place (slice_index head 1)) (refuse Corrupted) (λ _. marked_at_most k place (slice_index head 1))
+      (jpeg_marked k offset (slice_index head 1)) (refuse Corrupted) (λ _. marked_at_most k offset (slice_index head 1))
       (λ _. tt),
 )
 
 -- what is seen of an input
 pub jpeg_local : IsLocal false jpeg
 jpeg_local = local_chain jpeg_segments jpeg_advances
-    (λ markers place. without_texts false 6 (jpeg_segment (depth markers) place)
-    (segment_at_most (depth markers) place))
+    (λ markers offset. without_texts false 6 (jpeg_segment (depth markers) offset)
+    (segment_at_most (depth markers) offset))
 
 -- a segment is read from at most 6 bytes
 pub jpeg_cost : (d : List ℕ) → 12 + total (jpeg d).marks ≤ 18 + 20 * (jpeg d).begun
 jpeg_cost d = omega (
   arith,
   chain_cost jpeg_segments d (jpeg_advances d) 6
-      (λ markers place. segment_at_most (depth markers) place),
+      (λ markers offset. segment_at_most (depth markers) offset),
 )
 
 counts_on : (p : ℕ → Bool) (markers : List ℕ) (marker : ℕ)
@@ -113,16 +113,16 @@ depth_rises k marker = grind (arith, nat_tests)
 pub stands_first : Stands 0 [] 2
 stands_first = record { nested = record { is = refl; balanced = omega arith }; shallow = omega arith }
 
--- and a place of 64 bits stands no deeper than a number of 64 bits
-pub shallow : (k place : ℕ) → (markers : List ℕ) × Stands k markers place → place < 2 ^ 64 → k + 1 < 2 ^ 64
-shallow k place h small = let less = h.1.shallow in omega arith
+-- and an offset of 64 bits stands no deeper than a number of 64 bits
+pub shallow : (k offset : ℕ) → (markers : List ℕ) × Stands k markers offset → offset < 2 ^ 64 → k + 1 < 2 ^ 64
+shallow k offset h small = let less = h.1.shallow in omega arith
 
 -- behind a segment the next one stands as deep as that leads
-stands_next : (k behind place : ℕ) (markers : List ℕ) (said : Said ℕ ImageSize) (a b : State) → Stands k markers place
-    → LeadsOn k behind said → Nears a b place said → KeepsOn (Stands behind) markers said
+stands_next : (k behind offset : ℕ) (markers : List ℕ) (said : Said ℕ ImageSize) (a b : State) → Stands k markers offset
+    → LeadsOn k behind said → Nears a b offset said → KeepsOn (Stands behind) markers said
 unfolding LeadsTo
-stands_next k behind place markers (Decided size) a b h leads nears = tt
-stands_next k behind place markers (Next marker next) a b h leads nears =
+stands_next k behind offset markers (Decided size) a b h leads nears = tt
+stands_next k behind offset markers (Next marker next) a b h leads nears =
     let rises = depth_rises k marker in let less = h.shallow in let on = nears.0 in let is = leads.0 in
     record {
       nested = subst (λ n. Nested n (markers ++ marker ∷ [])) (sym leads.0)
@@ -130,117 +130,117 @@ stands_next k behind place markers (Next marker next) a b h leads nears =
       shallow = omega arith;
     }
 
-pub stands_on : (k behind place : ℕ) (markers : List ℕ) (r : Result (Found ℕ ImageSize) Halt) (a b : State)
-    → Stands k markers place
-    → IfOk r (λ found. LeadsOn k behind (said_at place found)) → IfOk r (λ found. Nears a b place (said_at place found))
-    → IfOk r (λ found. KeepsOn (Stands behind) markers (said_at place found))
-stands_on k behind place markers (Ok found) a b h leads nears =
-    stands_next k behind place markers (said_at place found) a b h leads nears
-stands_on k behind place markers (Err why) a b h leads nears = tt
+pub stands_on : (k behind offset : ℕ) (markers : List ℕ) (r : Result (Found ℕ ImageSize) Halt) (a b : State)
+    → Stands k markers offset
+    → IfOk r (λ found. LeadsOn k behind (said_at offset found)) → IfOk r (λ found. Nears a b offset (said_at offset found))
+    → IfOk r (λ found. KeepsOn (Stands behind) markers (said_at offset found))
+stands_on k behind offset markers (Ok found) a b h leads nears =
+    stands_next k behind offset markers (said_at offset found) a b h leads nears
+stands_on k behind offset markers (Err why) a b h leads nears = tt
 
 -- it is the segment behind these markers
-pub segment_as : {a b : State} {r : Result (Said ℕ ImageSize) Halt} (k place : ℕ)
-    → Runs a b r (layout_reads a.held.input (jpeg_segment k place)) → (markers : List ℕ) → Stands k markers place
-    → Runs a b r (layout_reads a.held.input (jpeg_segment (depth markers) place))
-segment_as {a} {b} {r} k place run markers h =
-    subst (λ n. Runs a b r (layout_reads a.held.input (jpeg_segment n place))) (sym h.nested.is) run
+pub segment_as : {a b : State} {r : Result (Said ℕ ImageSize) Halt} (k offset : ℕ)
+    → Runs a b r (layout_reads a.held.input (jpeg_segment k offset)) → (markers : List ℕ) → Stands k markers offset
+    → Runs a b r (layout_reads a.held.input (jpeg_segment (depth markers) offset))
+segment_as {a} {b} {r} k offset run markers h =
+    subst (λ n. Runs a b r (layout_reads a.held.input (jpeg_segment n offset))) (sym h.nested.is) run
 
 -- a segment that was not read leaves the depth
-pub stands_stay : (k behind place : ℕ) (markers : List ℕ) (r : Result (Found ℕ ImageSize) Halt) → Stands k markers place
-    → IfErr r (λ _. behind ≡ k) → IfErr r (λ _. Stands behind markers place)
-stands_stay k behind place markers (Ok found) h same = tt
-stands_stay k behind place markers (Err why) h same = subst (λ n. Stands n markers place) (sym same) h
+pub stands_stay : (k behind offset : ℕ) (markers : List ℕ) (r : Result (Found ℕ ImageSize) Halt) → Stands k markers offset
+    → IfErr r (λ _. behind ≡ k) → IfErr r (λ _. Stands behind markers offset)
+stands_stay k behind offset markers (Ok found) h same = tt
+stands_stay k behind offset markers (Err why) h same = subst (λ n. Stands n markers offset) (sym same) h
 
 -- from the end of the input on there is none
-pub jpeg_ends : (d : List ℕ) (depth place : ℕ) → length d ≤ place
-    → uncounted (layout_reads d (jpeg_segment depth place)) ≡ refuses Ended
-jpeg_ends d depth place h = ap uncounted (bytes_beyond d place 2 (λ head. cond (eqb (slice_index head 0) 0xFF)
-    (jpeg_marked depth place (slice_index head 1)) (refuse Corrupted)) h (omega arith))
+pub jpeg_ends : (d : List ℕ) (depth offset : ℕ) → length d ≤ offset
+    → uncounted (layout_reads d (jpeg_segment depth offset)) ≡ refuses Ended
+jpeg_ends d depth offset h = ap uncounted (bytes_beyond d offset 2 (λ head. cond (eqb (slice_index head 0) 0xFF)
+    (jpeg_marked depth offset (slice_index head 1)) (refuse Corrupted)) h (omega arith))
 
--- What may be read from a place on: the bytes there, and 6 more where a segment can begin. A length below 2
+-- What may be read from an offset on: the bytes there, and 6 more where a segment can begin. A length below 2
 -- leads to one of its own bytes, which is not FF.
 abbrev allowed : List ℕ → ℕ → ℕ
-allowed d place = (length d - place) + cond (eqb (slice_index d place) 0xFF) 6 2
+allowed d offset = (length d - offset) + cond (eqb (slice_index d offset) 0xFF) 6 2
 
 Used : List ℕ → ℕ → Reads (Said ℕ ImageSize) → Type 0
-Used d place reads = (marker next : ℕ) → reads.answer ≡ Ok (Next marker next)
-    → total reads.marks + allowed d next ≤ allowed d place
+Used d offset reads = (marker next : ℕ) → reads.answer ≡ Ok (Next marker next)
+    → total reads.marks + allowed d next ≤ allowed d offset
 
-leaves : (n place length first second next : ℕ) → place + 4 ≤ n → length ≡ 256 * first + second
+leaves : (n offset length first second next : ℕ) → offset + 4 ≤ n → length ≡ 256 * first + second
     → (length ≡ 0 → next ≡ first)
-    → (length ≡ 1 → next ≡ second) → 4 + ((n - (place + (2 + length))) + cond (eqb next 0xFF) 6 2) ≤ (n - place) + 6
-leaves n place length first second next fits is none one = grind (arith, nat_tests)
+    → (length ≡ 1 → next ≡ second) → 4 + ((n - (offset + (2 + length))) + cond (eqb next 0xFF) 6 2) ≤ (n - offset) + 6
+leaves n offset length first second next fits is none one = grind (arith, nat_tests)
 
-other_used : (d : List ℕ) (place marker : ℕ) → 2 ≤ length d - place → slice_index d place ≡ 0xFF
-    → Used d place (put_behind (span_of d place 2) (layout_reads d (jpeg_other place marker)))
+other_used : (d : List ℕ) (offset marker : ℕ) → 2 ≤ length d - offset → slice_index d offset ≡ 0xFF
+    → Used d offset (put_behind (span_of d offset 2) (layout_reads d (jpeg_other offset marker)))
 unfolding Used
-other_used d place marker begun ff =
-    on_answer (λ w. Used d place (put_behind (span_of d place 2) w)) (span_of d (place + 2) 2)
-    (number_at d Big (place + 2) 2)
-    (λ l. layout_reads d (done (Next marker (place + (2 + l)))))
+other_used d offset marker begun ff =
+    on_answer (λ w. Used d offset (put_behind (span_of d offset 2) w)) (span_of d (offset + 2) 2)
+    (number_at d Big (offset + 2) 2)
+    (λ l. layout_reads d (done (Next marker (offset + (2 + l)))))
     (λ l got m next is.
-    let at : place + (2 + l) ≡ next = cc in
-    let fits = number_ok d Big (place + 2) 2 l got in
-    let first = total-span_of d place 2 in
-    let second = total-span_of d (place + 2) 2 in
-    let all = total-append (span_of d place 2) (span_of d (place + 2) 2 ++ []) in
-    let both = total-append (span_of d (place + 2) 2) [] in
-    let left = leaves (length d) place l (slice_index d (place + 2)) (slice_index d (place + 2 + 1))
+    let at : offset + (2 + l) ≡ next = cc in
+    let fits = number_ok d Big (offset + 2) 2 l got in
+    let first = total-span_of d offset 2 in
+    let second = total-span_of d (offset + 2) 2 in
+    let all = total-append (span_of d offset 2) (span_of d (offset + 2) 2 ++ []) in
+    let both = total-append (span_of d (offset + 2) 2) [] in
+    let left = leaves (length d) offset l (slice_index d (offset + 2)) (slice_index d (offset + 2 + 1))
     (slice_index d next) (omega arith)
-    (big_pair d (place + 2) l got)
+    (big_pair d (offset + 2) l got)
     (λ none. ap (slice_index d) (omega arith)) (λ one. ap (slice_index d) (omega arith)) in
-    let here : allowed d place ≡ (length d - place) + 6 = rw ff refl in
+    let here : allowed d offset ≡ (length d - offset) + 6 = rw ff refl in
     omega arith)
     (λ e got m next is. absurd cc)
 
-segment_used : (d : List ℕ) (k place : ℕ) → Used d place (layout_reads d (jpeg_segment k place))
+segment_used : (d : List ℕ) (k offset : ℕ) → Used d offset (layout_reads d (jpeg_segment k offset))
 unfolding Used
-segment_used d k place = on_answer (Used d place) (span_of d place 2) (bytes_at d place 2) _
+segment_used d k offset = on_answer (Used d offset) (span_of d offset 2) (bytes_at d offset 2) _
     (λ head got.
-    let begun = bytes_ok d head place 2 got in
-    let first : slice_index d place ≡ slice_index head 0 = sym (part_first d place 2 (omega arith))
+    let begun = bytes_ok d head offset 2 got in
+    let first : slice_index d offset ≡ slice_index head 0 = sym (part_first d offset 2 (omega arith))
     ∙ ap (λ bs. slice_index bs 0)
-    (bytes_is d head place 2 got) in
+    (bytes_is d head offset 2 got) in
     let P : Layout (Said ℕ ImageSize)
-    → Type 0 = λ t. Used d place (put_behind (span_of d place 2) (layout_reads d t)) in
-    on_test P (eqb (slice_index head 0) 0xFF) (jpeg_marked k place (slice_index head 1)) (refuse Corrupted)
+    → Type 0 = λ t. Used d offset (put_behind (span_of d offset 2) (layout_reads d t)) in
+    on_test P (eqb (slice_index head 0) 0xFF) (jpeg_marked k offset (slice_index head 1)) (refuse Corrupted)
     (λ is. let ff : slice_index head 0 ≡ 0xFF = grind (arith, nat_tests) in
-    on_test P (is_own_frame k (slice_index head 1)) (jpeg_frame place) _
-    (λ _ m next says. absurd (tells (λ _. ⊥) d (jpeg_frame place) m next (λ height width. tt) says))
-    (λ _. on_test P (is_own_end k (slice_index head 1)) (refuse Corrupted) (jpeg_other place (slice_index head 1))
+    on_test P (is_own_frame k (slice_index head 1)) (jpeg_frame offset) _
+    (λ _ m next says. absurd (tells (λ _. ⊥) d (jpeg_frame offset) m next (λ height width. tt) says))
+    (λ _. on_test P (is_own_end k (slice_index head 1)) (refuse Corrupted) (jpeg_other offset (slice_index head 1))
     (λ _ m next says. absurd cc)
-    (λ _. other_used d place (slice_index head 1) begun (first ∙ ff))))
+    (λ _. other_used d offset (slice_index head 1) begun (first ∙ ff))))
     (λ _ m next says. absurd cc))
     (λ e got m next is. absurd cc)
 
-segment_allowed : (d : List ℕ) (k place : ℕ) → total (layout_reads d (jpeg_segment k place)).marks ≤ allowed d place
-segment_allowed d k place = on_answer (λ w. total w.marks ≤ allowed d place) (span_of d place 2) (bytes_at d place 2) _
+segment_allowed : (d : List ℕ) (k offset : ℕ) → total (layout_reads d (jpeg_segment k offset)).marks ≤ allowed d offset
+segment_allowed d k offset = on_answer (λ w. total w.marks ≤ allowed d offset) (span_of d offset 2) (bytes_at d offset 2) _
     (λ head got.
-    let begun = bytes_ok d head place 2 got in
-    let first : slice_index d place ≡ slice_index head 0 = sym (part_first d place 2 (omega arith))
+    let begun = bytes_ok d head offset 2 got in
+    let first : slice_index d offset ≡ slice_index head 0 = sym (part_first d offset 2 (omega arith))
     ∙ ap (λ bs. slice_index bs 0)
-    (bytes_is d head place 2 got) in
-    let here = total-span_of d place 2 in
+    (bytes_is d head offset 2 got) in
+    let here = total-span_of d offset 2 in
     let P : Layout (Said ℕ ImageSize)
-    → Type 0 = λ t. total (span_of d place 2 ++ (layout_reads d t).marks) ≤ allowed d place in
-    on_test P (eqb (slice_index head 0) 0xFF) (jpeg_marked k place (slice_index head 1)) (refuse Corrupted)
+    → Type 0 = λ t. total (span_of d offset 2 ++ (layout_reads d t).marks) ≤ allowed d offset in
+    on_test P (eqb (slice_index head 0) 0xFF) (jpeg_marked k offset (slice_index head 1)) (refuse Corrupted)
     (λ is. let ff : slice_index head 0 ≡ 0xFF = grind (arith, nat_tests) in
-    let all = total-append (span_of d place 2) (layout_reads d (jpeg_marked k place (slice_index head 1))).marks in
-    let rest = at_most d 4 (jpeg_marked k place (slice_index head 1)) (marked_at_most k place (slice_index head 1)) in
-    let most : allowed d place ≡ (length d - place) + 6 = rw (first ∙ ff) refl in
+    let all = total-append (span_of d offset 2) (layout_reads d (jpeg_marked k offset (slice_index head 1))).marks in
+    let rest = at_most d 4 (jpeg_marked k offset (slice_index head 1)) (marked_at_most k offset (slice_index head 1)) in
+    let most : allowed d offset ≡ (length d - offset) + 6 = rw (first ∙ ff) refl in
     omega arith)
-    (λ _. let all = total-append (span_of d place 2) [] in
-    let few : 2 ≤ allowed d place = grind (arith, nat_tests) in omega arith))
-    (λ e got. let here = total-span_of d place 2 in let few : 2 ≤ allowed d place = grind (arith, nat_tests) in
+    (λ _. let all = total-append (span_of d offset 2) [] in
+    let few : 2 ≤ allowed d offset = grind (arith, nat_tests) in omega arith))
+    (λ e got. let here = total-span_of d offset 2 in let few : 2 ≤ allowed d offset = grind (arith, nat_tests) in
     omega arith)
 
 -- with its type it is read from at most 28 bytes more than the input has: the segments from at most 6 more
 pub jpeg_within : (d : List ℕ) → 12 + total (jpeg d).marks ≤ length d + 28
 unfolding Used
 jpeg_within d =
-    let most = chain_within jpeg_segments d (jpeg_advances d) (λ t. allowed d t.place)
-    (λ t marker next is. segment_used d (depth t.held) t.place marker next is)
-    (λ t. segment_allowed d (depth t.held) t.place)
+    let most = chain_within jpeg_segments d (jpeg_advances d) (λ t. allowed d t.offset)
+    (λ t marker next is. segment_used d (depth t.held) t.offset marker next is)
+    (λ t. segment_allowed d (depth t.held) t.offset)
     (start jpeg_segments) in
     let few : allowed d 2 ≤ length d + 6 = grind (arith, nat_tests) in
     omega arith

@@ -29,19 +29,19 @@ icon_answer (Some size) = done (Decided size)
 
 -- an entry of 16 bytes, after entries of which this size is the result; the list ends if the input does
 abbrev pub icon_entry : Option ImageSize → ℕ → Option (List ℕ) → Layout (Said ImageSize ImageSize)
-icon_entry largest place None = icon_answer largest
-icon_entry largest place (Some bytes) = done (Next (icon_size bytes) (place + 16))
+icon_entry largest offset None = icon_answer largest
+icon_entry largest offset (Some bytes) = done (Next (icon_size bytes) (offset + 16))
 
 -- the record after `seen` entries, of which this size is the result; the end of the list begins no entry
 abbrev pub icon_in : ℕ → ℕ → Option ImageSize → ℕ → Layout (Said ImageSize ImageSize)
-icon_in count seen largest place =
-    if seen == count then icon_answer largest else begin_record (if_there place 2 (icon_entry largest place))
+icon_in count seen largest offset =
+    if seen == count then icon_answer largest else begin_record (if_there offset 2 (icon_entry largest offset))
 
 -- as many entries as the count says (idCount), from the end of the count on
 abbrev pub icon_entries : ℕ → Chain ImageSize ImageSize
 icon_entries count = record {
   first = 6;
-  said = λ sizes place. icon_in count (length sizes) (last_largest sizes) place;
+  said = λ sizes offset. icon_in count (length sizes) (last_largest sizes) offset;
 }
 
 abbrev pub ico : List ℕ → Reads ImageSize

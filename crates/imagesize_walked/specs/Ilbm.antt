@@ -16,8 +16,8 @@ is_ilbm head = begins (codes "FORM") head && (stands_at 8 (codes "ILBM") head ||
 
 -- the first two fields of the bitmap header ("ILBM", section 2.2, BMHD)
 abbrev pub bitmap_header : ℕ → Layout (Said (Unit {0}) ImageSize)
-bitmap_header place = field Big (place + 8) 2
-    (λ width. field Big (place + 10) 2 (λ height. done (Decided (record { width = width; height = height }))))
+bitmap_header offset = field Big (offset + 8) 2
+    (λ width. field Big (offset + 10) 2 (λ height. done (Decided (record { width = width; height = height }))))
 
 -- The size of a chunk in bytes: its name and its length, its data, and a padding byte after data of odd length ("EA
 -- IFF 85", section 3, Chunks).
@@ -36,17 +36,17 @@ unfoldable pub chunk_length : List ℕ → ℕ
 chunk_length head = number Big (drop 4 head)
 
 abbrev pub ilbm_named : ℕ → List ℕ → Layout (Said (Unit {0}) ImageSize)
-ilbm_named place head =
-    if is_bitmap_header head then bitmap_header place
+ilbm_named offset head =
+    if is_bitmap_header head then bitmap_header offset
     else if is_body head then refuse Corrupted
-    else done (Next tt (place + chunk_bytes (chunk_length head)))
+    else done (Next tt (offset + chunk_bytes (chunk_length head)))
 
 abbrev pub ilbm_chunk : ℕ → Layout (Said (Unit {0}) ImageSize)
-ilbm_chunk place = begin_record (bytes place 8 (λ head. ilbm_named place head))
+ilbm_chunk offset = begin_record (bytes offset 8 (λ head. ilbm_named offset head))
 
 -- the chunks after the form's type
 abbrev pub ilbm_chunks : Chain (Unit {0}) ImageSize
-ilbm_chunks = record { first = 12; said = λ passed place. ilbm_chunk place }
+ilbm_chunks = record { first = 12; said = λ passed offset. ilbm_chunk offset }
 
 -- the first bitmap header before the pixels
 abbrev pub ilbm : List ℕ → Reads ImageSize

@@ -32,12 +32,12 @@ depth markers = count_starts markers - count_ends markers
 
 -- A frame header (B.2.2). The number of lines and the samples per line come after its length and its precision.
 abbrev pub jpeg_frame : ℕ → Layout (Said ℕ ImageSize)
-jpeg_frame place = field Big (place + 5) 2
-    (λ height. field Big (place + 7) 2 (λ width. done (Decided (record { width = width; height = height }))))
+jpeg_frame offset = field Big (offset + 5) 2
+    (λ height. field Big (offset + 7) 2 (λ width. done (Decided (record { width = width; height = height }))))
 
 -- any other segment; its length counts the bytes after the marker (B.1.1.4)
 abbrev pub jpeg_other : ℕ → ℕ → Layout (Said ℕ ImageSize)
-jpeg_other place marker = field Big (place + 2) 2 (λ length. done (Next marker (place + (2 + length))))
+jpeg_other offset marker = field Big (offset + 2) 2 (λ length. done (Next marker (offset + (2 + length))))
 
 -- a frame of the image itself, and the end of the image itself
 abbrev pub is_own_frame : ℕ → ℕ → Bool
@@ -47,19 +47,19 @@ abbrev pub is_own_end : ℕ → ℕ → Bool
 is_own_end depth marker = depth == 0 && marker == 0xD9
 
 abbrev pub jpeg_marked : ℕ → ℕ → ℕ → Layout (Said ℕ ImageSize)
-jpeg_marked depth place marker =
-    if is_own_frame depth marker then jpeg_frame place
+jpeg_marked depth offset marker =
+    if is_own_frame depth marker then jpeg_frame offset
     else if is_own_end depth marker then refuse Corrupted
-    else jpeg_other place marker
+    else jpeg_other offset marker
 
 -- a segment begins with FF and its marker (B.1.1.2)
 abbrev pub jpeg_segment : ℕ → ℕ → Layout (Said ℕ ImageSize)
-jpeg_segment depth place = begin_record (bytes place 2 (λ head.
-    if slice_index head 0 == 0xFF then jpeg_marked depth place (slice_index head 1) else refuse Corrupted))
+jpeg_segment depth offset = begin_record (bytes offset 2 (λ head.
+    if slice_index head 0 == 0xFF then jpeg_marked depth offset (slice_index head 1) else refuse Corrupted))
 
 -- the segments after the start of the image; each holds its marker
 abbrev pub jpeg_segments : Chain ℕ ImageSize
-jpeg_segments = record { first = 2; said = λ markers place. jpeg_segment (depth markers) place }
+jpeg_segments = record { first = 2; said = λ markers offset. jpeg_segment (depth markers) offset }
 
 -- the size in the first frame of the image itself
 abbrev pub jpeg : List ℕ → Reads ImageSize

@@ -36,23 +36,23 @@ abbrev pub version_of : ℕ → Result Version Halt
 version_of number = if number == 42 then Ok Tiff else if number == 43 then Ok BigTiff else Err InvalidTiffHeader
 
 -- The offset of the first directory. In BigTIFF, the size of an offset (8) and two zero bytes come before it.
-unfoldable pub stated_place : Endian → Version → Layout ℕ
-stated_place order Tiff = field order 4 4 done
-stated_place order BigTiff = field order 4 2 (λ size.
+unfoldable pub stated_offset : Endian → Version → Layout ℕ
+stated_offset order Tiff = field order 4 4 done
+stated_offset order BigTiff = field order 4 2 (λ size.
     if size == 8 then field order 6 2 (λ zeros. if zeros == 0 then field order 8 8 done else refuse InvalidBigTiffHeader)
     else refuse BigTiffOffsetSize)
 
 -- the header; the offset of the directory must not be 0
 abbrev pub directory_at : Endian → Version → ℕ → Result Header Halt
-directory_at order version place = if place == 0 then Err InvalidIfdOffset
-    else Ok (record { order = order; version = version; directory = place })
+directory_at order version offset = if offset == 0 then Err InvalidIfdOffset
+    else Ok (record { order = order; version = version; directory = offset })
 
 -- the header ("Image File Header")
 unfoldable pub tiff_header : Layout Header
 tiff_header =
     bytes 0 2 (λ mark. accept (byte_order mark) (λ order.
     field order 2 2 (λ number. accept (version_of number) (λ version.
-    bind (stated_place order version) (λ place. accept (directory_at order version place) done)))))
+    bind (stated_offset order version) (λ offset. accept (directory_at order version offset) done)))))
 
 -- the size of a directory's entry count in bytes ("Image File Directory")
 abbrev pub count_bytes : Version → ℕ
@@ -103,7 +103,7 @@ value_of order Other value = None
 
 -- the first four bytes of an entry's head; an error if the input ends within the head
 unfoldable pub tiff_head : Version → ℕ → Layout (List ℕ)
-tiff_head version place = bytes place (head_bytes version) (λ head. done (take 4 head))
+tiff_head version offset = bytes offset (head_bytes version) (λ head. done (take 4 head))
 
 -- the first four bytes of an entry's value; an error of its own if the input ends within the value
 abbrev pub whole_value : Option (List ℕ) → Result (List ℕ) Halt
@@ -111,14 +111,14 @@ whole_value None = Err InvalidIfdValueLength
 whole_value (Some value) = Ok (take 4 value)
 
 unfoldable pub tiff_value : Version → ℕ → Layout (List ℕ)
-tiff_value version place = if_there place (value_bytes version) (λ found. accept (whole_value found) done)
+tiff_value version offset = if_there offset (value_bytes version) (λ found. accept (whole_value found) done)
 
 -- an entry; its field type is checked before its value is read
 unfoldable pub tiff_entry : Header → ℕ → Layout Entry
-tiff_entry header place =
-    begin_record (bind (tiff_head header.version place) (λ head.
+tiff_entry header offset =
+    begin_record (bind (tiff_head header.version offset) (λ head.
     accept (field_type_of header.version (field_type_in header.order head)) (λ field_type.
-    bind (tiff_value header.version (place + head_bytes header.version)) (λ value.
+    bind (tiff_value header.version (offset + head_bytes header.version)) (λ value.
     done (record { tag = tag_in header.order head; value = value_of header.order field_type value })))))
 
 -- the value of the last entry with this tag
@@ -140,22 +140,22 @@ side_with tag side entry = if entry.tag == tag then entry.value else side
 
 -- what an entry says after entries that give this width and this height
 abbrev pub entry_says : Header → Option ℕ → Option ℕ → ℕ → Entry → Layout (Said Entry ImageSize)
-entry_says header width height place entry =
-    done (size_or_next (size_if_known (side_with 0x100 width entry) (side_with 0x101 height entry)) entry (place + entry_bytes header.version))
+entry_says header width height offset entry =
+    done (size_or_next (size_if_known (side_with 0x100 width entry) (side_with 0x101 height entry)) entry (offset + entry_bytes header.version))
 
 -- the record after `seen` entries, which give this width and this height
 abbrev pub entry_behind : Header → ℕ → ℕ → Option ℕ → Option ℕ → ℕ → Layout (Said Entry ImageSize)
-entry_behind header count seen width height place =
-    if seen == count then refuse NoDimensionsInIfd else bind (tiff_entry header place) (entry_says header width height place)
+entry_behind header count seen width height offset =
+    if seen == count then refuse NoDimensionsInIfd else bind (tiff_entry header offset) (entry_says header width height offset)
 
 -- the entries of a directory, as many as the count says, without gaps after it
 abbrev pub tiff_entries : Header → ℕ → Chain Entry ImageSize
 tiff_entries header count = record {
   first = header.directory + count_bytes header.version;
-  said = λ entries place.
+  said = λ entries offset.
       if length entries == count then refuse NoDimensionsInIfd
-      else bind (tiff_entry header place)
-      (λ entry. done (size_or_next (size_in (entries ++ entry ∷ [])) entry (place + entry_bytes header.version)));
+      else bind (tiff_entry header offset)
+      (λ entry. done (size_or_next (size_in (entries ++ entry ∷ [])) entry (offset + entry_bytes header.version)));
 }
 
 -- what the directory says

@@ -31,9 +31,9 @@ pub record Nested (k : ℕ) (markers : List ℕ) : Type 0 where
   pub balanced : count_ends markers ≤ count_starts markers
 
 -- the same, at an offset greater than k
-pub record Stands (k : ℕ) (markers : List ℕ) (place : ℕ) : Type 0 where
+pub record Stands (k : ℕ) (markers : List ℕ) (offset : ℕ) : Type 0 where
   pub nested : Nested k markers
-  pub shallow : k < place
+  pub shallow : k < offset
 
 -- the depth after a segment, by what its marker says before the segment is read
 abbrev pub RoleLeadsOn : ℕ → ℕ → Role → Type 0
@@ -56,16 +56,16 @@ pub record Seen (count : ℕ) (largest : Option ImageSize) (sizes : List ImageSi
 -- one more entry of an icon was read; `after` is how many were read, and `largest` the largest of them
 abbrev pub IconsOn : ℕ → Option ImageSize → ℕ → Option ImageSize → Said ImageSize ImageSize → Type 0
 IconsOn seen best after largest (Decided size) = Unit {0}
-IconsOn seen best after largest (Next size place) = (after ≡ seen + 1) × (largest ≡ later_largest best size) × ForSome largest IsIcon
+IconsOn seen best after largest (Next size offset) = (after ≡ seen + 1) × (largest ≡ later_largest best size) × ForSome largest IsIcon
 
 -- the first bytes of the entry at an offset, or `None` after the last entry
 abbrev pub entry_in : ℕ → ℕ → ℕ → Layout (Option (List ℕ))
-entry_in count seen place = if seen == count then done None else if_there place 2 done
+entry_in count seen offset = if seen == count then done None else if_there offset 2 done
 
 -- one more entry of a TIFF was read; `after` is how many were read, and these are the width and the height from them
 abbrev pub EntriesOn : ℕ → Option ℕ → Option ℕ → ℕ → Option ℕ → Option ℕ → Said Entry ImageSize → Type 0
 EntriesOn seen width height after wide high (Decided size) = Unit {0}
-EntriesOn seen width height after wide high (Next entry place) =
+EntriesOn seen width height after wide high (Next entry offset) =
     (after ≡ seen + 1) × (wide ≡ side_with 0x100 width entry) × (high ≡ side_with 0x101 height entry)
 
 -- `count` entries of a TIFF were read, and these are the width and the height from them.

@@ -31,11 +31,11 @@ pub fn matches(head: &[u8; 12]) -> bool
 #[tactic(auto, using(imagesize_source::proofs::Runs::steps), unfolding(crate::specs::Heif::heif_compression))]
 pub fn detect_compression<S: Source>(
     source: &mut S,
-    place: u64,
+    offset: u64,
     head: &[u8; 12],
 ) -> Result<Compression, Halt>
     requires { IsSound (S.state source.old) }
-    ensures { Follows (S.state source.old) (S.state source.new) result (heif_compression place head.now) }
+    ensures { Follows (S.state source.old) (S.state source.new) result (heif_compression offset head.now) }
 {
     let brand = &head[8..];
     if !is_general(brand) {
@@ -43,7 +43,7 @@ pub fn detect_compression<S: Source>(
     }
     // The version and the first two compatible brands.
     let mut brands = [0u8; 12];
-    if !read_whole_behind(source, place, 12, &mut brands)? {
+    if !read_whole_behind(source, offset, 12, &mut brands)? {
         return Ok(Compression::Unknown);
     }
     Ok(compatible_compression(&brands))
@@ -99,8 +99,8 @@ fn size_in_meta<S: Source>(source: &mut S, meta: FoundBox) -> Result<ImageSize, 
     ensures { Runs (S.state source.old) (S.state source.new) result
         (heif_in_meta meta (S.state source.old).held.input) }
 {
-    read_content::<S, 4>(source, meta.place)?;
-    let iprp = search(source, meta.place, 12, b"iprp")?;
+    read_content::<S, 4>(source, meta.offset)?;
+    let iprp = search(source, meta.offset, 12, b"iprp")?;
     size_in_iprp(source, iprp)
 }
 
@@ -111,7 +111,7 @@ fn size_in_iprp<S: Source>(source: &mut S, iprp: FoundBox) -> Result<ImageSize, 
     ensures { Runs (S.state source.old) (S.state source.new) result
         (heif_in_iprp iprp (S.state source.old).held.input) }
 {
-    let ipco = search(source, iprp.place, 8, b"ipco")?;
+    let ipco = search(source, iprp.offset, 8, b"ipco")?;
     largest(source, ipco)
 }
 
@@ -119,24 +119,24 @@ fn size_in_iprp<S: Source>(source: &mut S, iprp: FoundBox) -> Result<ImageSize, 
 #[derive(Clone, Copy)]
 pub struct FoundBox {
     /// Its offset.
-    pub place: u64,
+    pub offset: u64,
     /// How many bytes it has.
     pub size: u32,
 }
 
-// Finds the first box with a name, from `place + distance` on. An offset above 2^64 - 1 is past the end of every input.
+// Finds the first box with a name, from `offset + distance` on. An offset above 2^64 - 1 is past the end of every input.
 #[inline(always)]
 #[tactic(auto, using(crate::proofs::Heif::search_saturated))]
 fn search<S: Source>(
     source: &mut S,
-    place: u64,
+    offset: u64,
     distance: u64,
     name: &[u8; 4],
 ) -> Result<FoundBox, Halt>
     ensures { Runs (S.state source.old) (S.state source.new) result
-        (chain_at (search_for name.now (place + distance)) (S.state source.old).held.input) }
+        (chain_at (search_for name.now (offset + distance)) (S.state source.old).held.input) }
 {
-    search_from(source, place.saturating_add(distance), name)
+    search_from(source, offset.saturating_add(distance), name)
 }
 
 // Finds the first box with a name, from an offset on.
@@ -159,9 +159,9 @@ impl Records for Boxes {
 
     type Answer = FoundBox;
 
-    ghost said = { λ boxes passed place. searched_box boxes.name place };
+    ghost said = { λ boxes passed offset. searched_box boxes.name offset };
 
-    ghost keeps = { λ _ passed place. Unit {0} };
+    ghost keeps = { λ _ passed offset. Unit {0} };
 
     // Reads the box at an offset.
     #[inline(always)]
@@ -169,9 +169,9 @@ impl Records for Boxes {
     fn read_record<S: Source>(
         &mut self,
         source: &mut S,
-        place: u64,
+        offset: u64,
     ) -> Result<Found<(), FoundBox>, Halt> {
-        read_box(source, place, &self.name)
+        read_box(source, offset, &self.name)
     }
 
     // The input ends before a box of this name.
@@ -187,17 +187,17 @@ impl Records for Boxes {
 #[tactic(auto, using(imagesize_source::proofs::Runs::steps))]
 pub fn read_box<S: Source>(
     source: &mut S,
-    place: u64,
+    offset: u64,
     name: &[u8; 4],
 ) -> Result<Found<(), FoundBox>, Halt>
-    ensures pays { IfOk result (λ _. Paid (S.state source.old) (S.state source.new) place) }
-    ensures nears { IfOk result (λ found. Nears (S.state source.old) (S.state source.new) place (said_at place found)) }
-    ensures runs { Follows (S.state source.old) (S.state source.new) (map_answer (said_at place) result) (searched_box name.now place) }
+    ensures pays { IfOk result (λ _. Paid (S.state source.old) (S.state source.new) offset) }
+    ensures nears { IfOk result (λ found. Nears (S.state source.old) (S.state source.new) offset (said_at offset found)) }
+    ensures runs { Follows (S.state source.old) (S.state source.new) (map_answer (said_at offset) result) (searched_box name.now offset) }
 {
-    let head = read_bytes::<S, 8>(source, place)?;
+    let head = read_bytes::<S, 8>(source, offset)?;
     let size = box_size(&head);
     if is_named(&head, name) {
-        return Ok(Found::Answer(FoundBox { place, size }));
+        return Ok(Found::Answer(FoundBox { offset, size }));
     }
     if size < 8 {
         return Err(Halt::InvalidHeifBoxSize { size: size as u8 });
@@ -228,12 +228,12 @@ fn is_named(head: &[u8; 8], name: &[u8; 4]) -> bool
 
 /// The first `N` bytes of a box's content, after its size and its name.
 #[inline(always)]
-pub fn read_content<S: Source, const N: usize>(source: &mut S, place: u64) -> Result<[u8; N], Halt>
+pub fn read_content<S: Source, const N: usize>(source: &mut S, offset: u64) -> Result<[u8; N], Halt>
     requires { 0 < N }
     ensures { Runs (S.state source.old) (S.state source.new) result
-        (bytes_read (S.state source.old).held.input (place + 8) N) }
+        (bytes_read (S.state source.old).held.input (offset + 8) N) }
 {
-    read_bytes_behind::<S, N>(source, place, 8)
+    read_bytes_behind::<S, N>(source, offset, 8)
 }
 
 /// What a property says.
@@ -263,9 +263,9 @@ pub struct Gathered {
 #[tactic(auto, using(crate::proofs::Heif::list_saturated))]
 fn largest<S: Source>(source: &mut S, ipco: FoundBox) -> Result<ImageSize, Halt>
     ensures { Runs (S.state source.old) (S.state source.new) result
-        (chain_at (properties ipco.size (ipco.place + 8)) (S.state source.old).held.input) }
+        (chain_at (properties ipco.size (ipco.offset + 8)) (S.state source.old).held.input) }
 {
-    largest_from(source, ipco.place.saturating_add(8), ipco.size)
+    largest_from(source, ipco.offset.saturating_add(8), ipco.size)
 }
 
 // The size from the properties that begin at an offset, in a box of `all` bytes.
@@ -293,18 +293,18 @@ impl Records for Properties {
 
     type Answer = ImageSize;
 
-    ghost said = { λ list held place. (properties list.all 0).said held place };
+    ghost said = { λ list held offset. (properties list.all 0).said held offset };
 
-    ghost keeps = { λ list held place. Amounts list.all list.gathered held };
+    ghost keeps = { λ list held offset. Amounts list.all list.gathered held };
 
     // Reads the property at an offset.
     #[inline(always)]
     fn read_record<S: Source>(
         &mut self,
         source: &mut S,
-        place: u64,
+        offset: u64,
     ) -> Result<Found<Property, ImageSize>, Halt> {
-        let Some(property) = read_property(source, place, self.gathered.left)? else {
+        let Some(property) = read_property(source, offset, self.gathered.left)? else {
             return Ok(Found::Answer(answer(self.gathered)?));
         };
         self.gathered = gather(self.gathered, property);
@@ -327,14 +327,14 @@ impl Records for Properties {
 #[tactic(auto, using(imagesize_source::proofs::Runs::steps, imagesize_source::proofs::Runs::missed_before))]
 pub fn read_property<S: Source>(
     source: &mut S,
-    place: u64,
+    offset: u64,
     left: u32,
 ) -> Result<Option<Property>, Halt>
-    ensures nears { IfOk result (λ found. Nears (S.state source.old) (S.state source.new) place (property_said place found)) }
+    ensures nears { IfOk result (λ found. Nears (S.state source.old) (S.state source.new) offset (property_said offset found)) }
     ensures fits { IfOk result (λ found. IsLeftFor left found) }
-    ensures runs { Follows (S.state source.old) (S.state source.new) result (property_at left place) }
+    ensures runs { Follows (S.state source.old) (S.state source.new) result (property_at left offset) }
 {
-    let Some(head) = read_if_there::<S, 8>(source, place)? else {
+    let Some(head) = read_if_there::<S, 8>(source, offset)? else {
         return Ok(None);
     };
     let size = box_size(&head);
@@ -346,11 +346,11 @@ pub fn read_property<S: Source>(
         };
     }
     if is_named(&head, b"ispe") {
-        let content = read_content::<S, 12>(source, place)?;
+        let content = read_content::<S, 12>(source, offset)?;
         return Ok(Some(Property::Extents(extents_size(&content))));
     }
     if is_named(&head, b"irot") {
-        let [quarters] = read_content::<S, 1>(source, place)?;
+        let [quarters] = read_content::<S, 1>(source, offset)?;
         return Ok(Some(Property::Rotation(quarters)));
     }
     if left <= size {

@@ -67,7 +67,7 @@ pub fn read_start<S: Source>(source: &mut S) -> Result<Option<Front>, Halt>
     if !header::has_signature(&start) {
         return Ok(None);
     }
-    let mut room = [0u8; 14];
-    let there = source.read_at(2, &mut room)?;
-    Ok(Some(Front::of_start(start, room, there)))
+    let mut buffer = [0u8; 14];
+    let there = source.read_at(2, &mut buffer)?;
+    Ok(Some(Front::of_start(start, buffer, there)))
 }

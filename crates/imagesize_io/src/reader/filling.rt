@@ -47,11 +47,11 @@ fn read_retrying<R: Told>(
     reader: &mut R,
     retries: &mut u64,
     fault: &mut Option<io::Error>,
-    room: &mut [u8],
+    buffer: &mut [u8],
 ) -> Result<usize, Halt>
-    ensures bound { IfOk result (λ n. n ≤ length room.new) }
+    ensures bound { IfOk result (λ n. n ≤ length buffer.new) }
     ensures steady { GivesSome (steady (R.telling reader.old) retries.old) (steady (R.telling reader.new) retries.new)
-        room.new result }
+        buffer.new result }
     ensures counts { R.count reader.new ≡ count_after (R.count reader.old) result }
     ensures tried { retries.old ≤ retries.new }
     ensures limit { retries.old ≤ most_retries → retries.new ≤ most_retries }
@@ -63,7 +63,7 @@ fn read_retrying<R: Told>(
     ensures kept { IfErr result (λ _. last_failed fault.new (R.failure reader.new) ≡ Some (kept_error fault.new)) }
 {
     loop {
-        match reader.read_told(room) {
+        match reader.read_told(buffer) {
             Ok(count) => return Ok(count),
             Err(stop) => match ending(stop, *retries) {
                 Some(error) => return keep_fault(Err(error), fault),
@@ -73,29 +73,29 @@ fn read_retrying<R: Told>(
     }
 }
 
-// One read from the reader's offset `place`. Counts the bytes, and advances the offset.
+// One read from the reader's offset `offset`. Counts the bytes, and advances the offset.
 #[inline(always)]
 fn read_counted<R: Told>(
     reader: &mut R,
     progress: &mut Progress,
-    place: u64,
-    room: &mut [u8],
+    offset: u64,
+    buffer: &mut [u8],
 ) -> Result<usize, Halt>
-    requires fits { progress.old.taken + length room.old ≤ progress.old.budget }
-    requires stands { progress.old.place ≡ place }
+    requires fits { progress.old.taken + length buffer.old ≤ progress.old.budget }
+    requires stands { progress.old.offset ≡ offset }
     ensures reads { ReadsOnce progress.old progress.new (account R.telling R.count R.failure reader.old)
-        (account R.telling R.count R.failure reader.new) room.new result }
+        (account R.telling R.count R.failure reader.new) buffer.new result }
     ensures failed { IfErr result (λ halt. halt ≡ Halt.Failed) }
 {
-    let count = read_retrying(reader, &mut progress.retries, &mut progress.fault, room)?;
+    let count = read_retrying(reader, &mut progress.retries, &mut progress.fault, buffer)?;
     // Most reads fill the buffer, whose length the compiler knows.
-    if count == room.len() {
-        progress.taken += room.len() as u64;
-        progress.place = place.saturating_add(room.len() as u64);
-        return Ok(room.len());
+    if count == buffer.len() {
+        progress.taken += buffer.len() as u64;
+        progress.offset = offset.saturating_add(buffer.len() as u64);
+        return Ok(buffer.len());
     }
     progress.taken += count as u64;
-    progress.place = place.saturating_add(count as u64);
+    progress.offset = offset.saturating_add(count as u64);
     Ok(count)
 }
 
@@ -104,43 +104,43 @@ fn read_counted<R: Told>(
 fn read_some<R: Told>(
     reader: &mut R,
     progress: &mut Progress,
-    room: &mut [u8],
+    buffer: &mut [u8],
 ) -> Result<usize, Halt>
     ensures { ReadsOnce progress.old progress.new (account R.telling R.count R.failure reader.old)
-        (account R.telling R.count R.failure reader.new) room.new result }
+        (account R.telling R.count R.failure reader.new) buffer.new result }
 {
-    let place = progress.place;
+    let offset = progress.offset;
     let left = progress.budget - progress.taken;
-    if room.len() as u64 <= left {
-        return read_counted(reader, progress, place, room);
+    if buffer.len() as u64 <= left {
+        return read_counted(reader, progress, offset, buffer);
     }
     if left == 0 {
         return Err(Halt::Spent);
     }
-    read_counted(reader, progress, place, &mut room[..left as usize])
+    read_counted(reader, progress, offset, &mut buffer[..left as usize])
 }
 
-// Reads from the reader's offset `place` until the buffer is full or the input ends.
+// Reads from the reader's offset `offset` until the buffer is full or the input ends.
 #[inline(always)]
 fn fill<R: Told>(
     reader: &mut R,
     progress: &mut Progress,
-    place: u64,
-    room: &mut [u8],
+    offset: u64,
+    buffer: &mut [u8],
 ) -> Result<usize, Halt>
-    requires { progress.old.place ≡ place }
+    requires { progress.old.offset ≡ offset }
     ensures { Fills progress.old progress.new (stand (R.telling reader.old) progress.old) (stand (R.telling reader.new) progress.new)
         (account R.telling R.count R.failure reader.old)
-        (account R.telling R.count R.failure reader.new) room.new result }
+        (account R.telling R.count R.failure reader.new) buffer.new result }
 {
-    if room.len() as u64 > progress.budget - progress.taken {
-        return fill_behind(reader, progress, room);
+    if buffer.len() as u64 > progress.budget - progress.taken {
+        return fill_behind(reader, progress, buffer);
     }
-    let count = read_counted(reader, progress, place, room)?;
-    if count == room.len() || count == 0 {
+    let count = read_counted(reader, progress, offset, buffer)?;
+    if count == buffer.len() || count == 0 {
         return Ok(count);
     }
-    let rest = fill_behind(reader, progress, &mut room[count..])?;
+    let rest = fill_behind(reader, progress, &mut buffer[count..])?;
     Ok(count + rest)
 }
 
@@ -149,14 +149,14 @@ fn fill<R: Told>(
 fn fill_behind<R: Told>(
     reader: &mut R,
     progress: &mut Progress,
-    room: &mut [u8],
+    buffer: &mut [u8],
 ) -> Result<usize, Halt>
-    requires { progress.old.place < 2 ^ 64 }
+    requires { progress.old.offset < 2 ^ 64 }
     ensures { Fills progress.old progress.new (stand (R.telling reader.old) progress.old) (stand (R.telling reader.new) progress.new)
         (account R.telling R.count R.failure reader.old)
-        (account R.telling R.count R.failure reader.new) room.new result }
+        (account R.telling R.count R.failure reader.new) buffer.new result }
 {
-    let count = fill_rest(reader, progress, room)?;
+    let count = fill_rest(reader, progress, buffer)?;
     Ok(count)
 }
 
@@ -166,16 +166,16 @@ fn fill_behind<R: Told>(
 fn fill_rest<R: Told>(
     reader: &mut R,
     progress: &mut Progress,
-    room: &mut [u8],
+    buffer: &mut [u8],
 ) -> Result<usize, Halt>
-    requires { progress.old.place < 2 ^ 64 }
+    requires { progress.old.offset < 2 ^ 64 }
     ensures { Fills progress.old progress.new (stand (R.telling reader.old) progress.old) (stand (R.telling reader.new) progress.new)
         (account R.telling R.count R.failure reader.old)
-        (account R.telling R.count R.failure reader.new) room.new result }
+        (account R.telling R.count R.failure reader.new) buffer.new result }
 {
     let mut filled = 0;
-    while filled < room.len() {
-        let count = read_some(reader, progress, &mut room[filled..])?;
+    while filled < buffer.len() {
+        let count = read_some(reader, progress, &mut buffer[filled..])?;
         if count == 0 {
             break;
         }
@@ -187,13 +187,13 @@ fn fill_rest<R: Told>(
 // Seeks to an offset, and returns whether the reader is there: it does not seek past the reported length. The offset that the
 // seek returns is not checked.
 #[inline(always)]
-fn go_to<R: Told>(reader: &mut R, progress: &mut Progress, place: u64) -> Result<bool, Halt>
+fn go_to<R: Told>(reader: &mut R, progress: &mut Progress, offset: u64) -> Result<bool, Halt>
     ensures stand { GoesTo (stand (R.telling reader.old) progress.old)
-        (stand (R.telling reader.new) progress.new) place progress.new.place result }
-    ensures asked { IfOk result (λ there. there ≡ true → progress.new.place ≡ place) }
-    ensures short { IfOk result (λ there. there ≡ true → place ≤ max progress.old.told progress.old.place) }
-    ensures far { IfOk result (λ there. there ≡ false → progress.old.told < place) }
-    ensures stays { progress.old.place ≡ place → (result ≡ Ok true) × (reader.new ≡ reader.old) }
+        (stand (R.telling reader.new) progress.new) offset progress.new.offset result }
+    ensures asked { IfOk result (λ there. there ≡ true → progress.new.offset ≡ offset) }
+    ensures short { IfOk result (λ there. there ≡ true → offset ≤ max progress.old.told progress.old.offset) }
+    ensures far { IfOk result (λ there. there ≡ false → progress.old.told < offset) }
+    ensures stays { progress.old.offset ≡ offset → (result ≡ Ok true) × (reader.new ≡ reader.old) }
     ensures since { drift (R.count reader.new) progress.new.taken ≡ drift (R.count reader.old) progress.old.taken }
     ensures behind { behind (R.telling reader.new) progress.new ≡ behind (R.telling reader.old) progress.old }
     ensures calm { OnOk result (progress.new.fault ≡ progress.old.fault) }
@@ -201,17 +201,17 @@ fn go_to<R: Told>(reader: &mut R, progress: &mut Progress, place: u64) -> Result
     ensures keeps { KeepsCounts progress.old progress.new }
     ensures stops { IfErr result (StopsBy progress.new (R.failure reader.new)) }
 {
-    if progress.place == place {
+    if progress.offset == offset {
         return Ok(true);
     }
-    if place > progress.told {
+    if offset > progress.told {
         return Ok(false);
     }
     keep_fault(
-        reader.seek_told(SeekFrom::Start(place)),
+        reader.seek_told(SeekFrom::Start(offset)),
         &mut progress.fault,
     )?;
-    progress.place = place;
+    progress.offset = offset;
     Ok(true)
 }
 
@@ -220,16 +220,16 @@ fn go_to<R: Told>(reader: &mut R, progress: &mut Progress, place: u64) -> Result
 pub(super) fn read_from<R: Told>(
     reader: &mut R,
     progress: &mut Progress,
-    place: u64,
-    room: &mut [u8],
+    offset: u64,
+    buffer: &mut [u8],
 ) -> Result<usize, Halt>
     ensures { ReadsFrom progress.old progress.new (stand (R.telling reader.old) progress.old) (stand (R.telling reader.new) progress.new)
         (account R.telling R.count R.failure reader.old)
-        (account R.telling R.count R.failure reader.new) place room.new result }
+        (account R.telling R.count R.failure reader.new) offset buffer.new result }
 {
-    if !go_to(reader, progress, place)? {
+    if !go_to(reader, progress, offset)? {
         return Ok(0);
     }
-    let count = fill(reader, progress, place, room)?;
+    let count = fill(reader, progress, offset, buffer)?;
     Ok(count)
 }

@@ -15,42 +15,42 @@ use imagesize_source::Text;
 pub(super) fn read_held<R: Told>(
     reader: &mut R,
     ledger: &mut Ledger,
-    place: u64,
+    offset: u64,
     text: Text,
-    room: &mut [u8],
+    buffer: &mut [u8],
 ) -> Option<usize>
-    ensures bound { IfSome result (λ n. n ≤ length room.new) }
-    ensures whole { IfSome result (λ n. IsWhole text (take n room.new)) }
+    ensures bound { IfSome result (λ n. n ≤ length buffer.new) }
+    ensures whole { IfSome result (λ n. IsWhole text (take n buffer.new)) }
     ensures none { result ≡ None → (account R.telling R.count R.failure reader.new ≡ account R.telling R.count R.failure reader.old)
         × (ledger.new ≡ ledger.old) }
     ensures reads { IfSome result (λ n. ReadsAt ledger.old ledger.new (account R.telling R.count R.failure reader.old)
-        (account R.telling R.count R.failure reader.new) place (take n room.new) (Ok n)) }
+        (account R.telling R.count R.failure reader.new) offset (take n buffer.new) (Ok n)) }
 {
-    if !pays_there(ledger, place, room.len() as u64) {
+    if !pays_there(ledger, offset, buffer.len() as u64) {
         return None;
     }
-    let count = reader.read_held(text, room)?;
+    let count = reader.read_held(text, buffer)?;
     ledger.progress.taken += count as u64;
-    ledger.progress.place = place.saturating_add(count as u64);
-    ledger.present = ledger.progress.place;
+    ledger.progress.offset = offset.saturating_add(count as u64);
+    ledger.present = ledger.progress.offset;
     Some(count)
 }
 
 // Whether the reader is at an offset, and the budget allows `most` bytes there. The offset must lie within the reported
 // length and past the end of the window, so that the window keeps none of the bytes.
 #[inline(always)]
-fn pays_there(ledger: &Ledger, place: u64, most: u64) -> bool
-    ensures stands { result ≡ true → ledger.now.progress.place ≡ place }
-    ensures told { result ≡ true → place ≤ ledger.now.progress.told }
-    ensures behind { result ≡ true → length ledger.now.window.items < place }
+fn pays_there(ledger: &Ledger, offset: u64, most: u64) -> bool
+    ensures stands { result ≡ true → ledger.now.progress.offset ≡ offset }
+    ensures told { result ≡ true → offset ≤ ledger.now.progress.told }
+    ensures behind { result ≡ true → length ledger.now.window.items < offset }
     ensures small { length ledger.now.window.items ≤ most_held }
     ensures pays { result ≡ true → ledger.now.progress.taken + most ≤ ledger.now.progress.budget }
     ensures fits { result ≡ true → ledger.now.progress.taken + most < 2 ^ 64 }
 {
     let window = ledger.window.len() as u64;
     let progress = &ledger.progress;
-    place == progress.place
-        && place <= progress.told
-        && place > window
+    offset == progress.offset
+        && offset <= progress.told
+        && offset > window
         && most <= progress.budget - progress.taken
 }

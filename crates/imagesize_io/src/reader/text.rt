@@ -14,17 +14,17 @@ use imagesize_source::{Halt, Text};
 pub(super) fn read_text<R: Told>(
     reader: &mut R,
     ledger: &mut Ledger,
-    place: u64,
+    offset: u64,
     text: Text,
-    room: &mut [u8],
+    buffer: &mut [u8],
 ) -> Result<usize, Halt>
     ensures { ReadsText ledger.old ledger.new (account R.telling R.count R.failure reader.old)
-        (account R.telling R.count R.failure reader.new) text place room.new result }
+        (account R.telling R.count R.failure reader.new) text offset buffer.new result }
 {
-    if let Some(count) = read_held(reader, ledger, place, text, room) {
+    if let Some(count) = read_held(reader, ledger, offset, text, buffer) {
         return Ok(count);
     }
-    read_by_bytes(reader, ledger, place, text, room)
+    read_by_bytes(reader, ledger, offset, text, buffer)
 }
 
 // Reads the text byte by byte. Not inlined, since a buffered reader holds most texts.
@@ -32,21 +32,21 @@ pub(super) fn read_text<R: Told>(
 fn read_by_bytes<R: Told>(
     reader: &mut R,
     ledger: &mut Ledger,
-    place: u64,
+    offset: u64,
     text: Text,
-    room: &mut [u8],
+    buffer: &mut [u8],
 ) -> Result<usize, Halt>
     ensures { ReadsText ledger.old ledger.new (account R.telling R.count R.failure reader.old)
-        (account R.telling R.count R.failure reader.new) text place room.new result }
+        (account R.telling R.count R.failure reader.new) text offset buffer.new result }
 {
     let mut begun = false;
     let mut count = 0;
-    while count < room.len() {
-        let next = place.saturating_add(count as u64);
-        if read_on(reader, ledger, next, &mut room[count..count + 1])? == 0 {
+    while count < buffer.len() {
+        let next = offset.saturating_add(count as u64);
+        if read_on(reader, ledger, next, &mut buffer[count..count + 1])? == 0 {
             break;
         }
-        let byte = room[count];
+        let byte = buffer[count];
         count += 1;
         if is_end(text, begun, byte) {
             break;

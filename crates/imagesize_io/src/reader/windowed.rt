@@ -16,21 +16,21 @@ use imagesize_source::Halt;
 fn read_windowed<R: Told>(
     reader: &mut R,
     ledger: &mut Ledger,
-    place: u64,
-    room: &mut [u8],
+    offset: u64,
+    buffer: &mut [u8],
 ) -> Result<usize, Halt>
-    requires { place ≤ ledger.old.progress.told }
+    requires { offset ≤ ledger.old.progress.told }
     ensures { ReadsOn reader.old reader.new ledger.old ledger.new (account R.telling R.count R.failure reader.old)
-        (account R.telling R.count R.failure reader.new) place room.new result }
+        (account R.telling R.count R.failure reader.new) offset buffer.new result }
 {
-    if place < ledger.window.len() as u64 || room.is_empty() {
-        let count = read_within(reader, ledger, place, room)?;
-        ledger.present = place + count as u64;
+    if offset < ledger.window.len() as u64 || buffer.is_empty() {
+        let count = read_within(reader, ledger, offset, buffer)?;
+        ledger.present = offset + count as u64;
         return Ok(count);
     }
-    let count = read_from(reader, &mut ledger.progress, place, room)?;
-    ledger.present = ledger.progress.place;
-    keep_front(&mut ledger.window, place, room, count);
+    let count = read_from(reader, &mut ledger.progress, offset, buffer)?;
+    ledger.present = ledger.progress.offset;
+    keep_front(&mut ledger.window, offset, buffer, count);
     Ok(count)
 }
 
@@ -39,19 +39,19 @@ fn read_windowed<R: Told>(
 fn read_within<R: Told>(
     reader: &mut R,
     ledger: &mut Ledger,
-    place: u64,
-    room: &mut [u8],
+    offset: u64,
+    buffer: &mut [u8],
 ) -> Result<usize, Halt>
     ensures { ReadsAt ledger.old ledger.new (account R.telling R.count R.failure reader.old)
-        (account R.telling R.count R.failure reader.new) place room.new result }
+        (account R.telling R.count R.failure reader.new) offset buffer.new result }
 {
-    let copied = copy_kept(&ledger.window, place, room);
-    if copied == room.len() {
-        return Ok(room.len());
+    let copied = copy_kept(&ledger.window, offset, buffer);
+    if copied == buffer.len() {
+        return Ok(buffer.len());
     }
-    let next = place + copied as u64;
-    let count = read_across(reader, &mut ledger.progress, next, &mut room[copied..])?;
-    keep(&mut ledger.window, next, &room[copied..copied + count]);
+    let next = offset + copied as u64;
+    let count = read_across(reader, &mut ledger.progress, next, &mut buffer[copied..])?;
+    keep(&mut ledger.window, next, &buffer[copied..copied + count]);
     Ok(copied + count)
 }
 
@@ -61,14 +61,14 @@ fn read_within<R: Told>(
 fn read_across<R: Told>(
     reader: &mut R,
     progress: &mut Progress,
-    place: u64,
-    room: &mut [u8],
+    offset: u64,
+    buffer: &mut [u8],
 ) -> Result<usize, Halt>
     ensures { ReadsFrom progress.old progress.new (stand (R.telling reader.old) progress.old) (stand (R.telling reader.new) progress.new)
         (account R.telling R.count R.failure reader.old)
-        (account R.telling R.count R.failure reader.new) place room.new result }
+        (account R.telling R.count R.failure reader.new) offset buffer.new result }
 {
-    read_from(reader, progress, place, room)
+    read_from(reader, progress, offset, buffer)
 }
 
 // Reads from an offset on.
@@ -76,16 +76,16 @@ fn read_across<R: Told>(
 pub(super) fn read_on<R: Told>(
     reader: &mut R,
     ledger: &mut Ledger,
-    place: u64,
-    room: &mut [u8],
+    offset: u64,
+    buffer: &mut [u8],
 ) -> Result<usize, Halt>
     ensures { ReadsOn reader.old reader.new ledger.old ledger.new (account R.telling R.count R.failure reader.old)
-        (account R.telling R.count R.failure reader.new) place room.new result }
+        (account R.telling R.count R.failure reader.new) offset buffer.new result }
 {
-    if ledger.progress.told < place {
-        return read_beyond(reader, ledger, place, room);
+    if ledger.progress.told < offset {
+        return read_beyond(reader, ledger, offset, buffer);
     }
-    read_windowed(reader, ledger, place, room)
+    read_windowed(reader, ledger, offset, buffer)
 }
 
 // Calls `read_above`. Inlined, so that stack space for its result is set up on this path alone.
@@ -93,14 +93,14 @@ pub(super) fn read_on<R: Told>(
 fn read_beyond<R: Told>(
     reader: &mut R,
     ledger: &mut Ledger,
-    place: u64,
-    room: &mut [u8],
+    offset: u64,
+    buffer: &mut [u8],
 ) -> Result<usize, Halt>
-    requires { ledger.old.progress.told < place }
+    requires { ledger.old.progress.told < offset }
     ensures { ReadsOn reader.old reader.new ledger.old ledger.new (account R.telling R.count R.failure reader.old)
-        (account R.telling R.count R.failure reader.new) place room.new result }
+        (account R.telling R.count R.failure reader.new) offset buffer.new result }
 {
-    let count = read_above(reader, ledger, place, room)?;
+    let count = read_above(reader, ledger, offset, buffer)?;
     Ok(count)
 }
 
@@ -111,17 +111,17 @@ fn read_beyond<R: Told>(
 fn read_above<R: Told>(
     reader: &mut R,
     ledger: &mut Ledger,
-    place: u64,
-    room: &mut [u8],
+    offset: u64,
+    buffer: &mut [u8],
 ) -> Result<usize, Halt>
-    requires { ledger.old.progress.told < place }
+    requires { ledger.old.progress.told < offset }
     ensures { ReadsOn reader.old reader.new ledger.old ledger.new (account R.telling R.count R.failure reader.old)
-        (account R.telling R.count R.failure reader.new) place room.new result }
+        (account R.telling R.count R.failure reader.new) offset buffer.new result }
 {
-    if place != ledger.present {
+    if offset != ledger.present {
         return Ok(0);
     }
-    let count = read_within(reader, ledger, place, room)?;
-    ledger.present = place.saturating_add(count as u64);
+    let count = read_within(reader, ledger, offset, buffer)?;
+    ledger.present = offset.saturating_add(count as u64);
     Ok(count)
 }

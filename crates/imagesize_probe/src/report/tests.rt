@@ -122,7 +122,7 @@ impl Told for Unseekable {
 
     ghost failure = { λ _. None };
 
-    fn read_told(&mut self, _room: &mut [u8]) -> Result<usize, Stop> {
+    fn read_told(&mut self, _buffer: &mut [u8]) -> Result<usize, Stop> {
         Ok(0)
     }
 

@@ -2,7 +2,7 @@
 //! misses.
 ghost use Rattle.std.specs.Prelude.{◌≡◌, ℕ, ◌+◌, ◌-◌, ◌<◌, ◌≤◌, ◌++◌, ◌&&◌, [], ◌∷◌, if◌then◌else◌, min, take, drop, length, slice_index, not, nat_le, nat_lt, is_some, true, false, None, Some, IfOk, IfSome};
 ghost use Rattle.std.specs.Option.{ForSome};
-ghost use Rattle.imagesize_source.specs.Agreement.{has_place};
+ghost use Rattle.imagesize_source.specs.Agreement.{has_offset};
 ghost use Rattle.imagesize_source.specs.Input.{part, span_at};
 ghost use Rattle.imagesize_source.specs.Known.{AllKnown, Lacks, filled_input, byte_in_parts, parts_state, length_within};
 ghost use Rattle.imagesize_source.specs.Reading.{part_read, map_answer};
@@ -98,7 +98,7 @@ impl<'a> PartsSource<'a> {
     // Records a span.
     #[inline(always)]
     fn push(&mut self, span: Span)
-        requires { (place : ℕ) → has_place span place ≡ true → is_some (byte_in_parts self.old.told self.old.spans.now self.old.bytes.now place) ≡ true }
+        requires { (offset : ℕ) → has_offset span offset ≡ true → is_some (byte_in_parts self.old.told self.old.spans.now self.old.bytes.now offset) ≡ true }
         ensures spans { self.new.spans.now ≡ self.old.spans.now }
         ensures bytes { self.new.bytes.now ≡ self.old.bytes.now }
         ensures told { self.new.told ≡ self.old.told }
@@ -134,20 +134,20 @@ impl<'a> PartsSource<'a> {
     // Copies the known bytes of a read into the buffer, up to the first missing byte. Returns how many it copied, and how many
     // bytes of the buffer lie within the input.
     #[inline(always)]
-    fn fill_known(&self, place: u64, room: &mut [u8]) -> (usize, usize)
-        ensures wanted { result.1 ≡ min (length room.new) (self.now.told - place) }
+    fn fill_known(&self, offset: u64, buffer: &mut [u8]) -> (usize, usize)
+        ensures wanted { result.1 ≡ min (length buffer.new) (self.now.told - offset) }
         ensures within { result.0 ≤ result.1 }
-        ensures copied { take result.0 room.new ≡ part (filled_input self.now.told self.now.spans.now self.now.bytes.now) place result.0 }
-        ensures known { (i : ℕ) → i < result.0 → is_some (byte_in_parts self.now.told self.now.spans.now self.now.bytes.now (place + i)) ≡ true }
-        ensures missing { result.0 < result.1 → is_some (byte_in_parts self.now.told self.now.spans.now self.now.bytes.now (place + result.0)) ≡ false }
+        ensures copied { take result.0 buffer.new ≡ part (filled_input self.now.told self.now.spans.now self.now.bytes.now) offset result.0 }
+        ensures known { (i : ℕ) → i < result.0 → is_some (byte_in_parts self.now.told self.now.spans.now self.now.bytes.now (offset + i)) ≡ true }
+        ensures missing { result.0 < result.1 → is_some (byte_in_parts self.now.told self.now.spans.now self.now.bytes.now (offset + result.0)) ≡ false }
     {
-        let wanted = count_there(self.told, place, room.len());
+        let wanted = count_there(self.told, offset, buffer.len());
         let found = gather(
             self.spans,
             self.bytes,
             self.told,
-            place,
-            &mut room[..wanted],
+            offset,
+            &mut buffer[..wanted],
         );
         (found, wanted)
     }
@@ -155,20 +155,20 @@ impl<'a> PartsSource<'a> {
     // A read that `front` does not contain as a whole.
     #[cold]
     #[inline(never)]
-    fn gather_at(&mut self, place: u64, room: &mut [u8]) -> Result<usize, Halt>
-        ensures bound { IfOk result (λ n. n ≤ length room.new) }
-        ensures there { IfOk result (λ n. n ≤ self.old.told - place) }
+    fn gather_at(&mut self, offset: u64, buffer: &mut [u8]) -> Result<usize, Halt>
+        ensures bound { IfOk result (λ n. n ≤ length buffer.new) }
+        ensures there { IfOk result (λ n. n ≤ self.old.told - offset) }
         ensures runs { Runs (parts_state self.old.told self.old.spans.now self.old.bytes.now self.old.log.spans self.old.missed)
             (parts_state self.new.told self.new.spans.now self.new.bytes.now self.new.log.spans self.new.missed)
-            (map_answer (λ n. take n room.new) result)
-            (part_read (filled_input self.old.told self.old.spans.now self.old.bytes.now) place (length room.new)) }
+            (map_answer (λ n. take n buffer.new) result)
+            (part_read (filled_input self.old.told self.old.spans.now self.old.bytes.now) offset (length buffer.new)) }
     {
-        let (found, wanted) = self.fill_known(place, room);
+        let (found, wanted) = self.fill_known(offset, buffer);
         if found < wanted {
             let missing = wanted - found;
-            return Err(self.miss(place, found, missing, missing));
+            return Err(self.miss(offset, found, missing, missing));
         }
-        self.see(place, found);
+        self.see(offset, found);
         Ok(found)
     }
 }
@@ -189,22 +189,22 @@ impl Source for PartsSource<'_> {
     }
 
     #[inline(always)]
-    fn read_at(&mut self, place: u64, room: &mut [u8]) -> Result<usize, Halt> {
-        let Some(found) = whole_part(self.front, place, room.len()) else {
-            return self.gather_at(place, room);
+    fn read_at(&mut self, offset: u64, buffer: &mut [u8]) -> Result<usize, Halt> {
+        let Some(found) = whole_part(self.front, offset, buffer.len()) else {
+            return self.gather_at(offset, buffer);
         };
-        room.copy_from_slice(found);
-        self.see(place, found.len());
+        buffer.copy_from_slice(found);
+        self.see(offset, found.len());
         Ok(found.len())
     }
 
-    fn read_text(&mut self, place: u64, text: Text, room: &mut [u8]) -> Result<usize, Halt> {
-        let (found, wanted) = self.fill_known(place, room);
-        if is_cut(text, &room[..found], wanted) {
-            return Err(self.miss(place, found, 1, wanted - found));
+    fn read_text(&mut self, offset: u64, text: Text, buffer: &mut [u8]) -> Result<usize, Halt> {
+        let (found, wanted) = self.fill_known(offset, buffer);
+        if is_cut(text, &buffer[..found], wanted) {
+            return Err(self.miss(offset, found, 1, wanted - found));
         }
-        let count = text_length(text, &room[..found]);
-        self.see(place, count);
+        let count = text_length(text, &buffer[..found]);
+        self.see(offset, count);
         Ok(count)
     }
 }
@@ -212,11 +212,11 @@ impl Source for PartsSource<'_> {
 // The `count` bytes from an offset on, or `None` if the slice ends earlier.
 #[inline(always)]
 #[tactic(auto, unfolding(crate::specs::Input::part))]
-fn whole_part(bytes: &[u8], place: u64, count: usize) -> Option<&[u8]>
-    ensures { IfSome result (λ found. (found.now ≡ part bytes.now place count) × (length found.now ≡ count)
-        × (place + count ≤ length bytes.now)) }
+fn whole_part(bytes: &[u8], offset: u64, count: usize) -> Option<&[u8]>
+    ensures { IfSome result (λ found. (found.now ≡ part bytes.now offset count) × (length found.now ≡ count)
+        × (offset + count ≤ length bytes.now)) }
 {
-    let start = place as usize;
+    let start = offset as usize;
     if start > bytes.len() {
         return None;
     }
@@ -228,14 +228,14 @@ fn whole_part(bytes: &[u8], place: u64, count: usize) -> Option<&[u8]>
 }
 
 /// How many bytes from an offset on lie within an input of this length, up to the length of the buffer.
-pub fn count_there(told: u64, place: u64, room: usize) -> usize
-    ensures { result ≡ min room (told - place) }
+pub fn count_there(told: u64, offset: u64, buffer: usize) -> usize
+    ensures { result ≡ min buffer (told - offset) }
 {
-    let left = told.saturating_sub(place);
-    if left < room as u64 {
+    let left = told.saturating_sub(offset);
+    if left < buffer as u64 {
         left as usize
     } else {
-        room
+        buffer
     }
 }
 
@@ -247,50 +247,50 @@ pub fn is_cut(text: Text, bytes: &[u8], wanted: usize) -> bool
 }
 
 // Copies the known bytes of a read into the buffer, up to the first missing byte, and returns how many it copied.
-fn gather(spans: &[Span], bytes: &[u8], told: u64, place: u64, room: &mut [u8]) -> usize
-    requires { length room.old ≤ told - place }
-    ensures within { result ≤ length room.old }
-    ensures copied { take result room.new ≡ part (filled_input told spans.now bytes.now) place result }
-    ensures known { (i : ℕ) → i < result → is_some (byte_in_parts told spans.now bytes.now (place + i)) ≡ true }
-    ensures missing { result < length room.old → is_some (byte_in_parts told spans.now bytes.now (place + result)) ≡ false }
+fn gather(spans: &[Span], bytes: &[u8], told: u64, offset: u64, buffer: &mut [u8]) -> usize
+    requires { length buffer.old ≤ told - offset }
+    ensures within { result ≤ length buffer.old }
+    ensures copied { take result buffer.new ≡ part (filled_input told spans.now bytes.now) offset result }
+    ensures known { (i : ℕ) → i < result → is_some (byte_in_parts told spans.now bytes.now (offset + i)) ≡ true }
+    ensures missing { result < length buffer.old → is_some (byte_in_parts told spans.now bytes.now (offset + result)) ≡ false }
 {
     let mut count = 0;
-    while count < room.len() {
-        let run = known_from(spans, bytes, told, place + count as u64);
+    while count < buffer.len() {
+        let run = known_from(spans, bytes, told, offset + count as u64);
         if run.is_empty() {
             return count;
         }
-        count += put(run, room, count);
+        count += put(run, buffer, count);
     }
     count
 }
 
 /// Copies the first of these bytes into the buffer from an index on, as many as fit, and returns how many it copied.
-pub fn put(run: &[u8], room: &mut [u8], index: usize) -> usize
-    requires { index ≤ length room.old }
-    ensures count { result ≡ min (length run.now) (length room.old - index) }
-    ensures copied { room.new ≡ take index room.old ++ take result run.now ++ drop (index + result) room.old }
+pub fn put(run: &[u8], buffer: &mut [u8], index: usize) -> usize
+    requires { index ≤ length buffer.old }
+    ensures count { result ≡ min (length run.now) (length buffer.old - index) }
+    ensures copied { buffer.new ≡ take index buffer.old ++ take result run.now ++ drop (index + result) buffer.old }
 {
-    let count = run.len().min(room.len() - index);
-    room[index..index + count].copy_from_slice(&run[..count]);
+    let count = run.len().min(buffer.len() - index);
+    buffer[index..index + count].copy_from_slice(&run[..count]);
     count
 }
 
 // The known bytes from an offset on, from the first part that contains it. They end where the part ends, or where an earlier part
 // of the list begins.
-fn known_from<'a>(spans: &[Span], bytes: &'a [u8], told: u64, place: u64) -> &'a [u8]
-    ensures known { (i : ℕ) → i < length result.now → byte_in_parts told spans.now bytes.now (place + i) ≡ Some (slice_index result.now i) }
-    ensures none { length result.now ≡ 0 → is_some (byte_in_parts told spans.now bytes.now place) ≡ false }
+fn known_from<'a>(spans: &[Span], bytes: &'a [u8], told: u64, offset: u64) -> &'a [u8]
+    ensures known { (i : ℕ) → i < length result.now → byte_in_parts told spans.now bytes.now (offset + i) ≡ Some (slice_index result.now i) }
+    ensures none { length result.now ≡ 0 → is_some (byte_in_parts told spans.now bytes.now offset) ≡ false }
 {
     let mut rest = bytes;
     let mut most = u64::MAX;
     for span in spans {
         let len = length_within(span, told);
-        if has_place(span.start, len, place) {
-            let offset = place - span.start;
-            return part_of(rest, offset, most.min(len - offset));
+        if has_offset(span.start, len, offset) {
+            let index = offset - span.start;
+            return part_of(rest, index, most.min(len - index));
         }
-        most = count_before(span.start, place, most);
+        most = count_before(span.start, offset, most);
         rest = bytes_behind(rest, len);
     }
     &rest[..0]
@@ -304,18 +304,18 @@ fn length_within(span: &Span, told: u64) -> u64
 }
 
 // Whether the `len` bytes from `start` on contain the offset.
-fn has_place(start: u64, len: u64, place: u64) -> bool
-    ensures { result ≡ (nat_le start place && nat_lt (place - start) len) }
+fn has_offset(start: u64, len: u64, offset: u64) -> bool
+    ensures { result ≡ (nat_le start offset && nat_lt (offset - start) len) }
 {
-    start <= place && place - start < len
+    start <= offset && offset - start < len
 }
 
 // The lesser of `most` and the distance to `start`, if `start` is after the offset. Else `most`.
-fn count_before(start: u64, place: u64, most: u64) -> u64
-    ensures { result ≡ (if nat_lt place start then min most (start - place) else most) }
+fn count_before(start: u64, offset: u64, most: u64) -> u64
+    ensures { result ≡ (if nat_lt offset start then min most (start - offset) else most) }
 {
-    if place < start {
-        most.min(start - place)
+    if offset < start {
+        most.min(start - offset)
     } else {
         most
     }

@@ -85,20 +85,20 @@ impl Source for RecordingSource<'_, '_> {
         halt.error(Reason::EndOfInput, 0)
     }
 
-    fn read_at(&mut self, place: u64, room: &mut [u8]) -> Result<usize, Halt> {
+    fn read_at(&mut self, offset: u64, buffer: &mut [u8]) -> Result<usize, Halt> {
         // The proof needs that the length is below 2^63.
         let _length = self.bytes.len();
-        let count = copy_part(self.bytes, place, room);
-        self.record(place, count);
+        let count = copy_part(self.bytes, offset, buffer);
+        self.record(offset, count);
         Ok(count)
     }
 
-    fn read_text(&mut self, place: u64, text: Text, room: &mut [u8]) -> Result<usize, Halt> {
+    fn read_text(&mut self, offset: u64, text: Text, buffer: &mut [u8]) -> Result<usize, Halt> {
         // The proof needs that the length is below 2^63.
         let _length = self.bytes.len();
-        let found = text_at(self.bytes, place, text, room.len());
-        self.record(place, found.len());
-        room[..found.len()].copy_from_slice(found);
+        let found = text_at(self.bytes, offset, text, buffer.len());
+        self.record(offset, found.len());
+        buffer[..found.len()].copy_from_slice(found);
         Ok(found.len())
     }
 }

@@ -31,18 +31,18 @@ impl Source for SliceSource<'_> {
     }
 
     #[inline(always)]
-    fn read_at(&mut self, place: u64, room: &mut [u8]) -> Result<usize, Halt> {
+    fn read_at(&mut self, offset: u64, buffer: &mut [u8]) -> Result<usize, Halt> {
         // The proof needs that the length is below 2^63.
         let _length = self.bytes.len();
-        Ok(copy_part(self.bytes, place, room))
+        Ok(copy_part(self.bytes, offset, buffer))
     }
 
     #[inline]
-    fn read_text(&mut self, place: u64, text: Text, room: &mut [u8]) -> Result<usize, Halt> {
+    fn read_text(&mut self, offset: u64, text: Text, buffer: &mut [u8]) -> Result<usize, Halt> {
         // The proof needs that the length is below 2^63.
         let _length = self.bytes.len();
-        let found = text_at(self.bytes, place, text, room.len());
-        room[..found.len()].copy_from_slice(found);
+        let found = text_at(self.bytes, offset, text, buffer.len());
+        buffer[..found.len()].copy_from_slice(found);
         Ok(found.len())
     }
 }

@@ -60,7 +60,7 @@ fn find_window<S: Source>(source: &mut S, names: usize) -> Result<ImageSize, Hal
 {
     let attributes = Attributes {
         names,
-        room: [0; 256],
+        buffer: [0; 256],
     };
     walk(attributes, source, 8)
 }
@@ -71,7 +71,7 @@ pub struct Attributes {
     /// Their names have at most this many bytes.
     pub names: usize,
     /// The names are read into this buffer.
-    pub room: [u8; 256],
+    pub buffer: [u8; 256],
 }
 
 impl Records for Attributes {
@@ -79,28 +79,28 @@ impl Records for Attributes {
 
     type Answer = ImageSize;
 
-    ghost said = { λ attributes passed place. exr_attribute attributes.names place };
+    ghost said = { λ attributes passed offset. exr_attribute attributes.names offset };
 
-    ghost keeps = { λ attributes passed place. (0 < attributes.names) × (attributes.names ≤ 256) };
+    ghost keeps = { λ attributes passed offset. (0 < attributes.names) × (attributes.names ≤ 256) };
 
     // Reads the attribute at an offset.
     #[tactic(auto, using(imagesize_source::proofs::Runs::steps, imagesize_source::proofs::Runs::missed_before))]
     fn read_record<S: Source>(
         &mut self,
         source: &mut S,
-        place: u64,
+        offset: u64,
     ) -> Result<Found<(), ImageSize>, Halt> {
         let names = self.names;
-        let name = read_name(source, place, names, &mut self.room)?;
+        let name = read_name(source, offset, names, &mut self.buffer)?;
         if name.is_empty() {
             return Err(Halt::DataWindowNotFound);
         }
         let is_window = is_data_window(name);
         let typed = name.len() as u64 + 1;
-        let type_name = read_name_behind(source, place, typed, names, &mut self.room)?;
+        let type_name = read_name_behind(source, offset, typed, names, &mut self.buffer)?;
         let is_window = is_window && is_box(type_name);
         let sized = typed + (type_name.len() as u64 + 1);
-        let size = read_u32_behind(source, place, sized, Endian::Little)?;
+        let size = read_u32_behind(source, offset, sized, Endian::Little)?;
         let taken = sized + 4;
         if !is_window {
             return Ok(Found::Other {
@@ -108,7 +108,7 @@ impl Records for Attributes {
                 length: taken + size as u64,
             });
         }
-        let window = read_bytes_behind::<S, 16>(source, place, taken)?;
+        let window = read_bytes_behind::<S, 16>(source, offset, taken)?;
         Ok(match window_size(&window) {
             Some(size) => Found::Answer(size),
             None => Found::Other {
@@ -129,35 +129,35 @@ impl Records for Attributes {
 // The name at an offset, up to a zero byte that must be among the first `names` bytes.
 fn read_name<'a, S: Source>(
     source: &mut S,
-    place: u64,
+    offset: u64,
     names: usize,
-    room: &'a mut [u8; 256],
+    buffer: &'a mut [u8; 256],
 ) -> Result<&'a str, Halt>
     requires { names ≤ 256 }
     ensures bound { IfOk result (λ text. length text.now < names) }
-    ensures pays { IfOk result (λ text. Paid (S.state source.old) (S.state source.new) place) }
+    ensures pays { IfOk result (λ text. Paid (S.state source.old) (S.state source.new) offset) }
     ensures runs { Runs (S.state source.old) (S.state source.new)
         (map_answer (λ text. text.now) result)
-        (line_read (S.state source.old).held.input 0 place names) }
+        (line_read (S.state source.old).held.input 0 offset names) }
 {
-    read_line_capped(source, place, 0, &mut room[..names])
+    read_line_capped(source, offset, 0, &mut buffer[..names])
 }
 
-// The name at `place + distance`. An offset above 2^64 - 1 is past the end of every input.
+// The name at `offset + distance`. An offset above 2^64 - 1 is past the end of every input.
 fn read_name_behind<'a, S: Source>(
     source: &mut S,
-    place: u64,
+    offset: u64,
     distance: u64,
     names: usize,
-    room: &'a mut [u8; 256],
+    buffer: &'a mut [u8; 256],
 ) -> Result<&'a str, Halt>
     requires { names ≤ 256 }
     ensures bound { IfOk result (λ text. length text.now < names) }
     ensures runs { Runs (S.state source.old) (S.state source.new)
         (map_answer (λ text. text.now) result)
-        (line_read (S.state source.old).held.input 0 (place + distance) names) }
+        (line_read (S.state source.old).held.input 0 (offset + distance) names) }
 {
-    read_name(source, place.saturating_add(distance), names, room)
+    read_name(source, offset.saturating_add(distance), names, buffer)
 }
 
 // Whether this is the name of the data window.
@@ -193,15 +193,15 @@ fn window_size(bytes: &[u8; 16]) -> Option<ImageSize>
 
 // The signed number that the four bytes from an offset on encode.
 #[tactic(auto, using(crate::proofs::Exr::signed_four))]
-fn signed_at(bytes: &[u8; 16], place: usize) -> i32
-    requires { place ≤ 12 }
-    ensures { result ≡ signed_at place bytes.now }
+fn signed_at(bytes: &[u8; 16], offset: usize) -> i32
+    requires { offset ≤ 12 }
+    ensures { result ≡ signed_at offset bytes.now }
 {
     i32::from_le_bytes([
-        bytes[place],
-        bytes[place + 1],
-        bytes[place + 2],
-        bytes[place + 3],
+        bytes[offset],
+        bytes[offset + 1],
+        bytes[offset + 2],
+        bytes[offset + 3],
     ])
 }
 

@@ -56,7 +56,7 @@ pub fn size<S: Source>(source: &mut S) -> Result<ImageSize, Halt>
 {
     let first = read_identifier(source)?;
     let lines = Lines {
-        room: [0; LINE_ROOM],
+        buffer: [0; LINE_ROOM],
     };
     walk(lines, source, first)
 }
@@ -66,8 +66,8 @@ pub fn size<S: Source>(source: &mut S) -> Result<ImageSize, Halt>
 pub fn read_identifier<S: Source>(source: &mut S) -> Result<u64, Halt>
     ensures { Follows (S.state source.old) (S.state source.new) result hdr_identifier }
 {
-    let mut room = [0u8; 11];
-    let line = read_line_capped(source, 0, b'\n', &mut room)?;
+    let mut buffer = [0u8; 11];
+    let line = read_line_capped(source, 0, b'\n', &mut buffer)?;
     if !is_identifier(line) {
         return Err(Halt::InvalidHdrIdentifier);
     }
@@ -78,7 +78,7 @@ pub fn read_identifier<S: Source>(source: &mut S) -> Result<u64, Halt>
 #[derive(Drop)]
 pub struct Lines {
     /// A line is read into this buffer.
-    pub room: [u8; LINE_ROOM],
+    pub buffer: [u8; LINE_ROOM],
 }
 
 impl Records for Lines {
@@ -86,18 +86,18 @@ impl Records for Lines {
 
     type Answer = ImageSize;
 
-    ghost said = { λ _ passed place. line_at 0x0A place 256 (hdr_line place) };
+    ghost said = { λ _ passed offset. line_at 0x0A offset 256 (hdr_line offset) };
 
-    ghost keeps = { λ _ passed place. Unit {0} };
+    ghost keeps = { λ _ passed offset. Unit {0} };
 
     // Reads the line at an offset.
     #[tactic(auto, using(imagesize_source::proofs::Runs::steps))]
     fn read_record<S: Source>(
         &mut self,
         source: &mut S,
-        place: u64,
+        offset: u64,
     ) -> Result<Found<(), ImageSize>, Halt> {
-        let line = read_line_capped(source, place, b'\n', &mut self.room)?;
+        let line = read_line_capped(source, offset, b'\n', &mut self.buffer)?;
         if is_resolution(line) {
             let Some((height, width)) = lengths(line) else {
                 return Err(Halt::InvalidHdrDimensionsLine);

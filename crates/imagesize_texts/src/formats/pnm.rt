@@ -34,7 +34,7 @@ pub fn size<S: Source>(source: &mut S) -> Result<ImageSize, Halt>
         (pnm (S.state source.old).held.input) }
 {
     let words = Words {
-        room: [0; WORD_ROOM],
+        buffer: [0; WORD_ROOM],
     };
     walk(words, source, 2)
 }
@@ -43,7 +43,7 @@ pub fn size<S: Source>(source: &mut S) -> Result<ImageSize, Halt>
 #[derive(Drop)]
 pub struct Words {
     /// A word is read into this buffer.
-    pub room: [u8; WORD_ROOM],
+    pub buffer: [u8; WORD_ROOM],
 }
 
 impl Records for Words {
@@ -51,9 +51,9 @@ impl Records for Words {
 
     type Answer = ImageSize;
 
-    ghost said = { λ _ passed place. word place (pnm_word place) };
+    ghost said = { λ _ passed offset. word offset (pnm_word offset) };
 
-    ghost keeps = { λ _ passed place. Unit {0} };
+    ghost keeps = { λ _ passed offset. Unit {0} };
 
     // Reads the word at an offset. After the width it reads the height too, and at the start of a comment the rest of the
     // comment.
@@ -61,22 +61,22 @@ impl Records for Words {
     fn read_record<S: Source>(
         &mut self,
         source: &mut S,
-        place: u64,
+        offset: u64,
     ) -> Result<Found<(), ImageSize>, Halt> {
-        let word = read_word(source, place, &mut self.room)?;
+        let word = read_word(source, offset, &mut self.buffer)?;
         let taken = word.taken as u64;
         if is_comment(word.text) {
             if word.ended_by == b'\n' {
                 return Ok(pass(taken));
             }
-            let rest = pass_line_behind(source, place, taken, b'\n', &mut self.room)?;
+            let rest = pass_line_behind(source, offset, taken, b'\n', &mut self.buffer)?;
             return Ok(pass(taken + rest as u64));
         }
         if is_blank(word.text) {
             return Ok(pass(taken));
         }
         let width = number(word.text);
-        let next = read_word_behind(source, place, taken, &mut self.room)?;
+        let next = read_word_behind(source, offset, taken, &mut self.buffer)?;
         let size = size_if_known(width, number(next.text.trim()));
         let size = size.ok_or(Halt::PnmDimensionsNotFound)?;
         Ok(Found::Answer(size))

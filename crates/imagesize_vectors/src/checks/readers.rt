@@ -104,20 +104,20 @@ impl<R: Told> Told for Sent<'_, R> {
 
     ghost failure = { λ _. None };
 
-    fn read_told(&mut self, room: &mut [u8]) -> Result<usize, Stop> {
-        self.reader.read_told(room)
+    fn read_told(&mut self, buffer: &mut [u8]) -> Result<usize, Stop> {
+        self.reader.read_told(buffer)
     }
 
     fn seek_told(&mut self, to: SeekFrom) -> io::Result<u64> {
-        if let SeekFrom::Start(place) = to {
-            *self.greatest = place.max(*self.greatest);
+        if let SeekFrom::Start(offset) = to {
+            *self.greatest = offset.max(*self.greatest);
         }
         self.reader.seek_told(to)
     }
 }
 
 /// A size is read without a seek past the end.
-pub fn check_places(alloc: Global, row: &Row<'_>) -> Result<(), Wrong> {
+pub fn check_offsets(alloc: Global, row: &Row<'_>) -> Result<(), Wrong> {
     let mut greatest = 0;
     let answer = reader_size(Sent {
         reader: Cursor::new(row.bytes.as_slice()),
@@ -132,12 +132,12 @@ pub fn check_places(alloc: Global, row: &Row<'_>) -> Result<(), Wrong> {
 
 /// The type reads the size, whatever the reader's offset is.
 pub fn check_size_as(alloc: Global, row: &Row<'_>, kind: ImageType) -> Result<(), Wrong> {
-    for place in [0, 4, 1000] {
+    for offset in [0, 4, 1000] {
         let mut cursor = Cursor::new(row.bytes.as_slice());
-        cursor.set_position(place);
+        cursor.set_position(offset);
         let answer = kind.reader_size(&mut cursor);
         holds(is_answer(alloc, row, &answer)?, "the size by the type")?;
-        cursor.set_position(place);
+        cursor.set_position(offset);
         let mut reader = Cutting::one_byte(cursor);
         let answer = kind.reader_size(&mut reader);
         holds(

@@ -67,9 +67,9 @@ impl Records for Entries {
 
     type Answer = ImageSize;
 
-    ghost said = { λ entries sizes place. (icon_entries entries.count).said sizes place };
+    ghost said = { λ entries sizes offset. (icon_entries entries.count).said sizes offset };
 
-    ghost keeps = { λ entries sizes place. Seen entries.seen entries.largest sizes };
+    ghost keeps = { λ entries sizes offset. Seen entries.seen entries.largest sizes };
 
     // Reads the entry at an offset.
     #[inline]
@@ -77,9 +77,9 @@ impl Records for Entries {
     fn read_record<S: Source>(
         &mut self,
         source: &mut S,
-        place: u64,
+        offset: u64,
     ) -> Result<Found<ImageSize, ImageSize>, Halt> {
-        self.read_icon(source, place)
+        self.read_icon(source, offset)
     }
 
     // The largest size so far.
@@ -96,17 +96,17 @@ impl Entries {
     pub fn read_icon<S: Source>(
         &mut self,
         source: &mut S,
-        place: u64,
+        offset: u64,
     ) -> Result<Found<ImageSize, ImageSize>, Halt>
         requires { ForSome self.now.largest IsIcon }
         ensures count { self.new.count ≡ self.old.count }
-        ensures nears { IfOk result (λ found. Nears (S.state source.old) (S.state source.new) place (said_at place found)) }
-        ensures on { IfOk result (λ found. IconsOn self.old.seen self.old.largest self.new.seen self.new.largest (said_at place found)) }
+        ensures nears { IfOk result (λ found. Nears (S.state source.old) (S.state source.new) offset (said_at offset found)) }
+        ensures on { IfOk result (λ found. IconsOn self.old.seen self.old.largest self.new.seen self.new.largest (said_at offset found)) }
         ensures stays { IfErr result (λ _. (self.new.seen ≡ self.old.seen) × (self.new.largest ≡ self.old.largest)) }
-        ensures runs { Follows (S.state source.old) (S.state source.new) (map_answer (said_at place) result)
-            (icon_in self.old.count self.old.seen self.old.largest place) }
+        ensures runs { Follows (S.state source.old) (S.state source.new) (map_answer (said_at offset) result)
+            (icon_in self.old.count self.old.seen self.old.largest offset) }
     {
-        let Some(bytes) = self.read_entry(source, place)? else {
+        let Some(bytes) = self.read_entry(source, offset)? else {
             return Ok(Found::Answer(answer(self.largest)?));
         };
         let size = icon_size(bytes);
@@ -121,17 +121,17 @@ impl Entries {
     // The first two bytes of the next entry. `None` if all are read, or if the input ends before the second byte.
     #[inline(always)]
     #[tactic(auto, using(imagesize_source::proofs::Runs::steps))]
-    fn read_entry<S: Source>(&self, source: &mut S, place: u64) -> Result<Option<[u8; 2]>, Halt>
-        ensures pays { IfOk result (λ entry. IfSome entry (λ _. Paid (S.state source.old) (S.state source.new) place)) }
+    fn read_entry<S: Source>(&self, source: &mut S, offset: u64) -> Result<Option<[u8; 2]>, Halt>
+        ensures pays { IfOk result (λ entry. IfSome entry (λ _. Paid (S.state source.old) (S.state source.new) offset)) }
         ensures more { IfOk result (λ entry. IfSome entry (λ _. self.now.seen < self.now.count)) }
-        ensures runs { Follows (S.state source.old) (S.state source.new) result (entry_in self.now.count self.now.seen place) }
+        ensures runs { Follows (S.state source.old) (S.state source.new) result (entry_in self.now.count self.now.seen offset) }
     {
         if self.seen == self.count {
             // The proof needs that the length is below 2^63.
             let _told = source.told();
             return Ok(None);
         }
-        read_if_there::<S, 2>(source, place)
+        read_if_there::<S, 2>(source, offset)
     }
 }
 

@@ -38,21 +38,21 @@ impl Records for Chunks {
 
     type Answer = ImageSize;
 
-    ghost said = { λ _ passed place. ilbm_chunk place };
+    ghost said = { λ _ passed offset. ilbm_chunk offset };
 
-    ghost keeps = { λ _ passed place. Unit {0} };
+    ghost keeps = { λ _ passed offset. Unit {0} };
 
     // Reads the chunk at an offset.
     #[tactic(auto, using(imagesize_source::proofs::Runs::steps))]
     fn read_record<S: Source>(
         &mut self,
         source: &mut S,
-        place: u64,
+        offset: u64,
     ) -> Result<Found<(), ImageSize>, Halt> {
-        let head = read_bytes::<S, 8>(source, place)?;
+        let head = read_bytes::<S, 8>(source, offset)?;
         if is_bitmap_header(&head) {
-            let width = read_u16_behind(source, place, 8, Endian::Big)? as usize;
-            let height = read_u16_behind(source, place, 10, Endian::Big)? as usize;
+            let width = read_u16_behind(source, offset, 8, Endian::Big)? as usize;
+            let height = read_u16_behind(source, offset, 10, Endian::Big)? as usize;
             return Ok(Found::Answer(ImageSize { width, height }));
         }
         if is_body(&head) {

@@ -43,9 +43,9 @@ impl Records for Segments {
 
     type Answer = ImageSize;
 
-    ghost said = { λ _ markers place. jpeg_segment (depth markers) place };
+    ghost said = { λ _ markers offset. jpeg_segment (depth markers) offset };
 
-    ghost keeps = { λ segments markers place. Stands segments.depth markers place };
+    ghost keeps = { λ segments markers offset. Stands segments.depth markers offset };
 
     // Reads the segment at an offset.
     #[inline]
@@ -53,9 +53,9 @@ impl Records for Segments {
     fn read_record<S: Source>(
         &mut self,
         source: &mut S,
-        place: u64,
+        offset: u64,
     ) -> Result<Found<u8, ImageSize>, Halt> {
-        self.read_segment(source, place)
+        self.read_segment(source, offset)
     }
 
     // The input ends before the size.
@@ -106,27 +106,27 @@ impl Segments {
     pub fn read_segment<S: Source>(
         &mut self,
         source: &mut S,
-        place: u64,
+        offset: u64,
     ) -> Result<Found<u8, ImageSize>, Halt>
         requires { self.now.depth + 1 < 2 ^ 64 }
-        ensures nears { IfOk result (λ found. Nears (S.state source.old) (S.state source.new) place (said_at place found)) }
-        ensures depth { IfOk result (λ found. LeadsOn self.old.depth self.new.depth (said_at place found)) }
+        ensures nears { IfOk result (λ found. Nears (S.state source.old) (S.state source.new) offset (said_at offset found)) }
+        ensures depth { IfOk result (λ found. LeadsOn self.old.depth self.new.depth (said_at offset found)) }
         ensures stays { IfErr result (λ _. self.new.depth ≡ self.old.depth) }
-        ensures runs { Follows (S.state source.old) (S.state source.new) (map_answer (said_at place) result) (jpeg_segment self.old.depth place) }
+        ensures runs { Follows (S.state source.old) (S.state source.new) (map_answer (said_at offset) result) (jpeg_segment self.old.depth offset) }
     {
-        let [first, marker] = read_bytes::<S, 2>(source, place)?;
+        let [first, marker] = read_bytes::<S, 2>(source, offset)?;
         if first != 0xFF {
             return Err(Halt::Corrupted);
         }
         match role_of(self.depth, marker) {
             Role::Frame => {
-                let height = read_u16_behind(source, place, 5, Endian::Big)? as usize;
-                let width = read_u16_behind(source, place, 7, Endian::Big)? as usize;
+                let height = read_u16_behind(source, offset, 5, Endian::Big)? as usize;
+                let width = read_u16_behind(source, offset, 7, Endian::Big)? as usize;
                 Ok(Found::Answer(ImageSize { width, height }))
             }
             Role::End => Err(Halt::Corrupted),
             Role::Other { depth } => {
-                let length = read_u16_behind(source, place, 2, Endian::Big)? as u64;
+                let length = read_u16_behind(source, offset, 2, Endian::Big)? as u64;
                 self.depth = depth;
                 Ok(Found::Other {
                     held: marker,

@@ -1,6 +1,6 @@
 //! TIFF, by "TIFF Revision 6.0" (section 2), and BigTIFF, by "The BigTIFF File Format".
 ghost use Rattle.std.specs.Prelude.{◌≡◌, ◌+◌, ◌<◌, ◌≤◌, IfErr, IfOk, ◌==◌, if◌then◌else◌, false, take, length};
-ghost use Rattle.imagesize_walked.specs.Tiff.{byte_order, count_bytes, directory_at, entry_behind, head_bytes, is_tiff, field_type_in, field_type_of, stated_place, tag_in, tiff, tiff_entries, tiff_entry, tiff_head, tiff_header, tiff_value, value_bytes, value_of, version_of};
+ghost use Rattle.imagesize_walked.specs.Tiff.{byte_order, count_bytes, directory_at, entry_behind, head_bytes, is_tiff, field_type_in, field_type_of, stated_offset, tag_in, tiff, tiff_entries, tiff_entry, tiff_head, tiff_header, tiff_value, value_bytes, value_of, version_of};
 ghost use Rattle.imagesize_types.specs.Sides.{size_if_known};
 ghost use Rattle.imagesize_source.specs.Chain.{chain_at};
 ghost use Rattle.imagesize_source.specs.Paying.{Nears, ahead_of};
@@ -67,8 +67,8 @@ pub fn read_header<S: Source>(source: &mut S) -> Result<Header, Halt>
     let mark = read_bytes::<S, 2>(source, 0)?;
     let order = byte_order(mark)?;
     let version = version_of(read_u16(source, 2, order)?)?;
-    let place = read_place(source, order, version)?;
-    let header = directory_at(order, version, place)?;
+    let offset = read_offset(source, order, version)?;
+    let header = directory_at(order, version, offset)?;
     Ok(header)
 }
 
@@ -98,37 +98,37 @@ fn version_of(number: u16) -> Result<Version, Halt>
 
 // The header for a directory at this offset, which must not be 0.
 #[inline(always)]
-fn directory_at(order: Endian, version: Version, place: u64) -> Result<Header, Halt>
-    ensures { result ≡ directory_at order version place }
+fn directory_at(order: Endian, version: Version, offset: u64) -> Result<Header, Halt>
+    ensures { result ≡ directory_at order version offset }
 {
-    if place == 0 {
+    if offset == 0 {
         return Err(Halt::InvalidIfdOffset);
     }
     Ok(Header {
         order,
         version,
-        directory: place,
+        directory: offset,
     })
 }
 
 // Reads the offset of the first directory, as the file states it.
-#[tactic(auto, using(imagesize_source::proofs::Runs::steps), unfolding(crate::specs::Tiff::stated_place))]
-fn read_place<S: Source>(source: &mut S, order: Endian, version: Version) -> Result<u64, Halt>
-    ensures { Follows (S.state source.old) (S.state source.new) result (stated_place order version) }
+#[tactic(auto, using(imagesize_source::proofs::Runs::steps), unfolding(crate::specs::Tiff::stated_offset))]
+fn read_offset<S: Source>(source: &mut S, order: Endian, version: Version) -> Result<u64, Halt>
+    ensures { Follows (S.state source.old) (S.state source.new) result (stated_offset order version) }
 {
     match version {
         Version::Tiff => {
-            let place = read_u32(source, 4, order)?;
-            Ok(place as u64)
+            let offset = read_u32(source, 4, order)?;
+            Ok(offset as u64)
         }
-        Version::BigTiff => read_big_place(source, order),
+        Version::BigTiff => read_big_offset(source, order),
     }
 }
 
 // Reads the offset of the first directory in a BigTIFF. Before it come the size of an offset and two bytes that must be zero.
-#[tactic(auto, using(imagesize_source::proofs::Runs::steps), unfolding(crate::specs::Tiff::stated_place))]
-fn read_big_place<S: Source>(source: &mut S, order: Endian) -> Result<u64, Halt>
-    ensures { Follows (S.state source.old) (S.state source.new) result (stated_place order Version.BigTiff) }
+#[tactic(auto, using(imagesize_source::proofs::Runs::steps), unfolding(crate::specs::Tiff::stated_offset))]
+fn read_big_offset<S: Source>(source: &mut S, order: Endian) -> Result<u64, Halt>
+    ensures { Follows (S.state source.old) (S.state source.new) result (stated_offset order Version.BigTiff) }
 {
     if read_u16(source, 4, order)? != 8 {
         return Err(Halt::BigTiffOffsetSize);
@@ -136,8 +136,8 @@ fn read_big_place<S: Source>(source: &mut S, order: Endian) -> Result<u64, Halt>
     if read_u16(source, 6, order)? != 0 {
         return Err(Halt::InvalidBigTiffHeader);
     }
-    let place = read_u64(source, 8, order)?;
-    Ok(place)
+    let offset = read_u64(source, 8, order)?;
+    Ok(offset)
 }
 
 /// Reads how many entries the directory states that it has.
@@ -215,9 +215,9 @@ impl<const HEAD: usize, const VALUE: usize> Records for Entries<HEAD, VALUE> {
 
     type Answer = ImageSize;
 
-    ghost said = { λ entries held place. (tiff_entries entries.header entries.count).said held place };
+    ghost said = { λ entries held offset. (tiff_entries entries.header entries.count).said held offset };
 
-    ghost keeps = { λ entries held place. Known entries.seen entries.width entries.height held };
+    ghost keeps = { λ entries held offset. Known entries.seen entries.width entries.height held };
 
     // Reads the entry at an offset.
     #[inline(always)]
@@ -225,9 +225,9 @@ impl<const HEAD: usize, const VALUE: usize> Records for Entries<HEAD, VALUE> {
     fn read_record<S: Source>(
         &mut self,
         source: &mut S,
-        place: u64,
+        offset: u64,
     ) -> Result<Found<Entry, ImageSize>, Halt> {
-        self.read_next(source, place)
+        self.read_next(source, offset)
     }
 
     // No entry is left, or the input ends before the next one.
@@ -246,22 +246,22 @@ impl<const HEAD: usize, const VALUE: usize> Entries<HEAD, VALUE> {
     pub fn read_next<S: Source>(
         &mut self,
         source: &mut S,
-        place: u64,
+        offset: u64,
     ) -> Result<Found<Entry, ImageSize>, Halt>
         ensures header { self.new.header ≡ self.old.header }
         ensures count { self.new.count ≡ self.old.count }
-        ensures nears { IfOk result (λ found. Nears (S.state source.old) (S.state source.new) place (said_at place found)) }
-        ensures on { IfOk result (λ found. EntriesOn self.old.seen self.old.width self.old.height self.new.seen self.new.width self.new.height (said_at place found)) }
+        ensures nears { IfOk result (λ found. Nears (S.state source.old) (S.state source.new) offset (said_at offset found)) }
+        ensures on { IfOk result (λ found. EntriesOn self.old.seen self.old.width self.old.height self.new.seen self.new.width self.new.height (said_at offset found)) }
         ensures stays { IfErr result (λ _. (self.new.seen ≡ self.old.seen) × (self.new.width ≡ self.old.width) × (self.new.height ≡ self.old.height)) }
-        ensures runs { Follows (S.state source.old) (S.state source.new) (map_answer (said_at place) result)
-            (entry_behind self.old.header self.old.count self.old.seen self.old.width self.old.height place) }
+        ensures runs { Follows (S.state source.old) (S.state source.new) (map_answer (said_at offset) result)
+            (entry_behind self.old.header self.old.count self.old.seen self.old.width self.old.height offset) }
     {
         if self.seen == self.count {
             // The proof needs that the length is below 2^63.
             let _told = source.told();
             return Err(Halt::NoDimensionsInIfd);
         }
-        let entry = read_entry::<S, HEAD, VALUE>(source, &self.header, place)?;
+        let entry = read_entry::<S, HEAD, VALUE>(source, &self.header, offset)?;
         self.seen += 1;
         self.width = side_behind(0x100, self.width, &entry);
         self.height = side_behind(0x101, self.height, &entry);
@@ -329,16 +329,16 @@ fn side_behind(tag: u16, side: Option<u32>, entry: &Entry) -> Option<u32>
 fn read_entry<S: Source, const HEAD: usize, const VALUE: usize>(
     source: &mut S,
     header: &Header,
-    place: u64,
+    offset: u64,
 ) -> Result<Entry, Halt>
     requires head { HEAD ≡ head_bytes header.now.version }
     requires value { VALUE ≡ value_bytes header.now.version }
-    ensures nears { IfOk result (λ entry. ahead_of (S.state source.new) (place + 1) < ahead_of (S.state source.old) place) }
-    ensures runs { Follows (S.state source.old) (S.state source.new) result (tiff_entry header.now place) }
+    ensures nears { IfOk result (λ entry. ahead_of (S.state source.new) (offset + 1) < ahead_of (S.state source.old) offset) }
+    ensures runs { Follows (S.state source.old) (S.state source.new) result (tiff_entry header.now offset) }
 {
-    let head = read_head::<S, HEAD>(source, header.version, place)?;
+    let head = read_head::<S, HEAD>(source, header.version, offset)?;
     let field_type = field_type_of(header.version, field_type_in(header.order, head))?;
-    let value = read_value::<S, VALUE>(source, header.version, place, HEAD as u64)?;
+    let value = read_value::<S, VALUE>(source, header.version, offset, HEAD as u64)?;
     Ok(Entry {
         tag: tag_in(header.order, head),
         value: value_of(header.order, field_type, value),
@@ -351,14 +351,14 @@ fn read_entry<S: Source, const HEAD: usize, const VALUE: usize>(
 fn read_head<S: Source, const HEAD: usize>(
     source: &mut S,
     version: Version,
-    place: u64,
+    offset: u64,
 ) -> Result<[u8; 4], Halt>
     requires { HEAD ≡ head_bytes version }
-    ensures nears { IfOk result (λ head. ahead_of (S.state source.new) (place + 1) < ahead_of (S.state source.old) place) }
-    ensures runs { Follows (S.state source.old) (S.state source.new) result (tiff_head version place) }
+    ensures nears { IfOk result (λ head. ahead_of (S.state source.new) (offset + 1) < ahead_of (S.state source.old) offset) }
+    ensures runs { Follows (S.state source.old) (S.state source.new) result (tiff_head version offset) }
 {
     let mut head = [0u8; HEAD];
-    read_exact_at(source, place, &mut head)?;
+    read_exact_at(source, offset, &mut head)?;
     Ok(first_four(&head))
 }
 
@@ -368,14 +368,14 @@ fn read_head<S: Source, const HEAD: usize>(
 fn read_value<S: Source, const VALUE: usize>(
     source: &mut S,
     version: Version,
-    place: u64,
+    offset: u64,
     distance: u64,
 ) -> Result<[u8; 4], Halt>
     requires { VALUE ≡ value_bytes version }
-    ensures { Follows (S.state source.old) (S.state source.new) result (tiff_value version (place + distance)) }
+    ensures { Follows (S.state source.old) (S.state source.new) result (tiff_value version (offset + distance)) }
 {
     let mut value = [0u8; VALUE];
-    if !read_whole_behind(source, place, distance, &mut value)? {
+    if !read_whole_behind(source, offset, distance, &mut value)? {
         return Err(Halt::InvalidIfdValueLength);
     }
     Ok(first_four(&value))

@@ -18,17 +18,17 @@ returns-clause-short c = λ few. (search rules) ∙ no_meaning c.args.«data».n
 
 pub returns-clause-local : goal.returns-clause-local
 returns-clause-local c =
-    λ place. λ e agrees. ap outcome_of
-    (same_by_local (λ d. meaning_reads d place) (local_meaning place) c.args.«data».now e agrees)
+    λ offset. λ e agrees. ap outcome_of
+    (same_by_local (λ d. meaning_reads d offset) (local_meaning offset) c.args.«data».now e agrees)
 
 pub returns-clause-stated : goal.returns-clause-stated
-returns-clause-stated c = λ place. cost_stated c.args.«data».now place
+returns-clause-stated c = λ offset. cost_stated c.args.«data».now offset
 
 pub returns-clause-most : goal.returns-clause-most
-returns-clause-most c = λ place. cost_most c.args.«data».now place
+returns-clause-most c = λ offset. cost_most c.args.«data».now offset
 
 pub returns-clause-within : goal.returns-clause-within
-returns-clause-within c = λ place. omega (arith, cost_within c.args.«data».now place)
+returns-clause-within c = λ offset. omega (arith, cost_within c.args.«data».now offset)
 
 pub returns-clause-lasts : goal.returns-clause-lasts
 returns-clause-lasts c = size_lasts c.args.«data».now 0 _ (search rules)

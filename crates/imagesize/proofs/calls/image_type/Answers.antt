@@ -16,8 +16,8 @@ returns-clause-value c = c.with_error.ensures
     ∙ slice_answer _ _ _ _ refl (never_stopped _ _ refl refl refl c.detect.ensures) c.detect.ensures
 
 pub returns-clause-local : goal.returns-clause-local
-returns-clause-local c = λ place e agrees.
-    ap outcome_of (same_by_local (λ d. kind_reads d place) (local_kind place) c.args.header.now e agrees)
+returns-clause-local c = λ offset e agrees.
+    ap outcome_of (same_by_local (λ d. kind_reads d offset) (local_kind offset) c.args.header.now e agrees)
 
 pub returns-clause-short : goal.returns-clause-short
 returns-clause-short c = λ few. returns-clause-value c ∙ no_kind c.args.header.now 0 few

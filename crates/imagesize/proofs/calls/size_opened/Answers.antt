@@ -11,7 +11,7 @@ use Rattle.imagesize.proofs.calls.size_opened.Goals as goal
 
 pub returns-clause-answers : goal.returns-clause-answers
 returns-clause-answers g c =
-    λ telling opens. subst (λ r. Answers telling (λ d place. size_of c.args.kind d) r) (sym c.with_error.ensures)
+    λ telling opens. subst (λ r. Answers telling (λ d offset. size_of c.args.kind d) r) (sym c.with_error.ensures)
     (size_answers telling _ _ _ c.args.opened _ _ c.args.kind _ c.new-source.ensures.state refl opens
     c.size-found.ensures)
 

@@ -41,18 +41,18 @@ impl Records for Boxes {
 
     type Answer = Front;
 
-    ghost said = { λ boxes held place. jxl_box (concat held) place };
+    ghost said = { λ boxes held offset. jxl_box (concat held) offset };
 
-    ghost keeps = { λ boxes held place. concat held ≡ boxes.front };
+    ghost keeps = { λ boxes held offset. concat held ≡ boxes.front };
 
     // Reads the box at an offset.
     #[tactic(auto, using(crate::proofs::JxlBoxes::joined))]
     fn read_record<S: Source>(
         &mut self,
         source: &mut S,
-        place: u64,
+        offset: u64,
     ) -> Result<Found<Front, Front>, Halt> {
-        match read_box(source, place, &self.front)? {
+        match read_box(source, offset, &self.front)? {
             Found::Answer(front) => Ok(Found::Answer(front)),
             Found::Other { held, length } => {
                 self.front.extend(held.as_slice());
@@ -83,32 +83,32 @@ pub struct BoxHead {
 #[tactic(auto, using(imagesize_source::proofs::Runs::steps, imagesize_source::proofs::Layouts::binding))]
 pub fn read_box<S: Source>(
     source: &mut S,
-    place: u64,
+    offset: u64,
     front: &Front,
 ) -> Result<Found<Front, Front>, Halt>
     requires { length front.now ≤ 16 }
-    ensures nears { IfOk result (λ found. Nears (S.state source.old) (S.state source.new) place (said_at place found)) }
-    ensures fits { IfOk result (λ found. FitsBehind front.now (said_at place found)) }
-    ensures runs { Follows (S.state source.old) (S.state source.new) (map_answer (said_at place) result) (jxl_box front.now place) }
+    ensures nears { IfOk result (λ found. Nears (S.state source.old) (S.state source.new) offset (said_at offset found)) }
+    ensures fits { IfOk result (λ found. FitsBehind front.now (said_at offset found)) }
+    ensures runs { Follows (S.state source.old) (S.state source.new) (map_answer (said_at offset) result) (jxl_box front.now offset) }
 {
-    let head = read_head(source, place)?;
-    read_content(source, place, &head, front)
+    let head = read_head(source, offset)?;
+    read_content(source, offset, &head, front)
 }
 
 // Reads the header of the box at an offset.
 #[tactic(auto, using(imagesize_source::proofs::Runs::steps), unfolding(crate::specs::Jxl::box_head))]
-fn read_head<S: Source>(source: &mut S, place: u64) -> Result<BoxHead, Halt>
-    ensures nears { IfOk result (λ head. ahead_of (S.state source.new) (place + 1) < ahead_of (S.state source.old) place) }
-    ensures is { IfOk result (λ head. IsHead place head) }
-    ensures runs { Follows (S.state source.old) (S.state source.new) result (box_head place) }
+fn read_head<S: Source>(source: &mut S, offset: u64) -> Result<BoxHead, Halt>
+    ensures nears { IfOk result (λ head. ahead_of (S.state source.new) (offset + 1) < ahead_of (S.state source.old) offset) }
+    ensures is { IfOk result (λ head. IsHead offset head) }
+    ensures runs { Follows (S.state source.old) (S.state source.new) result (box_head offset) }
 {
-    let head = read_bytes::<S, 8>(source, place)?;
+    let head = read_bytes::<S, 8>(source, offset)?;
     let tag = tag(&head);
     match short_size(&head) {
         1 => {
-            let size = read_long_size(source, place)?;
+            let size = read_long_size(source, offset)?;
             check_head(
-                place,
+                offset,
                 BoxHead {
                     tag,
                     size,
@@ -117,7 +117,7 @@ fn read_head<S: Source>(source: &mut S, place: u64) -> Result<BoxHead, Halt>
             )
         }
         size => check_head(
-            place,
+            offset,
             BoxHead {
                 tag,
                 size: size as u64,
@@ -145,21 +145,21 @@ fn tag(head: &[u8; 8]) -> [u8; 4]
 }
 
 // Reads the size of eight bytes after the first eight bytes of a box.
-fn read_long_size<S: Source>(source: &mut S, place: u64) -> Result<u64, Halt>
+fn read_long_size<S: Source>(source: &mut S, offset: u64) -> Result<u64, Halt>
     ensures { Runs (S.state source.old) (S.state source.new) result
-        (number_read (S.state source.old).held.input endian.Big (place + 8) 8) }
+        (number_read (S.state source.old).held.input endian.Big (offset + 8) 8) }
 {
-    read_u64(source, place.saturating_add(8), Endian::Big)
+    read_u64(source, offset.saturating_add(8), Endian::Big)
 }
 
 // The header. It is an error if the box ends above 2^64-1, or within its own header.
 #[tactic(auto, using(std::proofs::lemmas::Nat::be_bytes_4))]
-fn check_head(place: u64, head: BoxHead) -> Result<BoxHead, Halt>
+fn check_head(offset: u64, head: BoxHead) -> Result<BoxHead, Halt>
     requires { head.length ≤ 16 }
-    ensures is { IfOk result (λ found. IsHead place found) }
-    ensures answer { result ≡ box_checked place head }
+    ensures is { IfOk result (λ found. IsHead offset found) }
+    ensures answer { result ≡ box_checked offset head }
 {
-    if place.checked_add(head.size).is_none() {
+    if offset.checked_add(head.size).is_none() {
         return Err(Halt::Corrupted);
     }
     if head.size != 0 && head.size < head.length {
@@ -176,24 +176,24 @@ fn check_head(place: u64, head: BoxHead) -> Result<BoxHead, Halt>
 #[tactic(auto, using(imagesize_source::proofs::Runs::steps, imagesize_source::proofs::Layouts::binding))]
 fn read_content<S: Source>(
     source: &mut S,
-    place: u64,
+    offset: u64,
     head: &BoxHead,
     front: &Front,
 ) -> Result<Found<Front, Front>, Halt>
     requires sound { IsSound (S.state source.old) }
-    requires is { IsHead place head.now }
+    requires is { IsHead offset head.now }
     requires few { length front.now ≤ 16 }
-    ensures further { IfOk result (λ found. IsFurther place (said_at place found)) }
-    ensures fits { IfOk result (λ found. FitsBehind front.now (said_at place found)) }
-    ensures runs { Follows (S.state source.old) (S.state source.new) (map_answer (said_at place) result) (box_content front.now place head.now) }
+    ensures further { IfOk result (λ found. IsFurther offset (said_at offset found)) }
+    ensures fits { IfOk result (λ found. FitsBehind front.now (said_at offset found)) }
+    ensures runs { Follows (S.state source.old) (S.state source.new) (map_answer (said_at offset) result) (box_content front.now offset head.now) }
 {
     if is_codestream_box(head) {
-        return Ok(Found::Answer(read_whole(source, place, head)?));
+        return Ok(Found::Answer(read_whole(source, offset, head)?));
     }
     if is_partial_box(head) {
-        return read_partial(source, place, head, front);
+        return read_partial(source, offset, head, front);
     }
-    Ok(found_behind(place, head, front, Front::new()))
+    Ok(found_behind(offset, head, front, Front::new()))
 }
 
 #[inline]
@@ -212,7 +212,7 @@ fn is_partial_box(head: &BoxHead) -> bool
 
 // The length of a box's content in bytes. Of a box that extends to the end of the input, no more than `MOST` are needed.
 #[inline]
-fn room(head: &BoxHead) -> u64
+fn buffer(head: &BoxHead) -> u64
     requires { 0 < head.now.size → head.now.length ≤ head.now.size }
     ensures { result ≡ box_room head.now }
 {
@@ -224,104 +224,104 @@ fn room(head: &BoxHead) -> u64
 
 // Reads the first bytes of the codestream from a box that has all of it.
 #[tactic(auto, using(imagesize_source::proofs::Runs::steps, imagesize_source::proofs::Layouts::binding))]
-fn read_whole<S: Source>(source: &mut S, place: u64, head: &BoxHead) -> Result<Front, Halt>
+fn read_whole<S: Source>(source: &mut S, offset: u64, head: &BoxHead) -> Result<Front, Halt>
     requires sound { IsSound (S.state source.old) }
-    requires is { IsHead place head.now }
-    ensures { Follows (S.state source.old) (S.state source.new) (map_answer (λ front. Decided front) result) (codestream_box place head.now) }
+    requires is { IsHead offset head.now }
+    ensures { Follows (S.state source.old) (S.state source.new) (map_answer (λ front. Decided front) result) (codestream_box offset head.now) }
 {
-    let most = room(head).min(MOST as u64) as usize;
-    read_piece(source, place, head.length, most)
+    let most = buffer(head).min(MOST as u64) as usize;
+    read_piece(source, offset, head.length, most)
 }
 
 // Reads a part of the codestream, which follows its index in the box.
 #[tactic(auto, using(imagesize_source::proofs::Runs::steps, imagesize_source::proofs::Layouts::binding))]
 fn read_partial<S: Source>(
     source: &mut S,
-    place: u64,
+    offset: u64,
     head: &BoxHead,
     front: &Front,
 ) -> Result<Found<Front, Front>, Halt>
     requires sound { IsSound (S.state source.old) }
-    requires is { IsHead place head.now }
-    ensures further { IfOk result (λ found. IsFurther place (said_at place found)) }
-    ensures fits { IfOk result (λ found. FitsBehind front.now (said_at place found)) }
-    ensures runs { Follows (S.state source.old) (S.state source.new) (map_answer (said_at place) result) (partial_box front.now place head.now) }
+    requires is { IsHead offset head.now }
+    ensures further { IfOk result (λ found. IsFurther offset (said_at offset found)) }
+    ensures fits { IfOk result (λ found. FitsBehind front.now (said_at offset found)) }
+    ensures runs { Follows (S.state source.old) (S.state source.new) (map_answer (said_at offset) result) (partial_box front.now offset head.now) }
 {
-    let room = room(head);
-    if room < 4 {
+    let buffer = buffer(head);
+    if buffer < 4 {
         return Err(Halt::Ended);
     }
-    let index = read_bytes_behind::<S, 4>(source, place, head.length)?;
-    let most = (room - 4).min(front.room() as u64) as usize;
-    let piece = read_piece(source, place, head.length + 4, most)?;
-    Ok(behind_piece(place, head, front, index, piece))
+    let index = read_bytes_behind::<S, 4>(source, offset, head.length)?;
+    let most = (buffer - 4).min(front.buffer() as u64) as usize;
+    let piece = read_piece(source, offset, head.length + 4, most)?;
+    Ok(behind_piece(offset, head, front, index, piece))
 }
 
 // Reads at most `most` bytes at a distance from an offset. For 0 bytes nothing is read.
 fn read_piece<S: Source>(
     source: &mut S,
-    place: u64,
+    offset: u64,
     distance: u64,
     most: usize,
 ) -> Result<Front, Halt>
     requires sound { IsSound (S.state source.old) }
     requires few { most ≤ 16 }
     ensures few { IfOk result (λ bytes. length bytes ≤ most) }
-    ensures runs { Follows (S.state source.old) (S.state source.new) result (piece_at (place + distance) most) }
+    ensures runs { Follows (S.state source.old) (S.state source.new) result (piece_at (offset + distance) most) }
 {
     let mut piece = Front::new();
     if most == 0 {
         return Ok(piece);
     }
     let mut all = [0u8; MOST];
-    let room = &mut all[..most];
-    let there = read_there(source, place, distance, room)?;
-    piece.extend(&room[..there]);
+    let buffer = &mut all[..most];
+    let there = read_there(source, offset, distance, buffer)?;
+    piece.extend(&buffer[..there]);
     Ok(piece)
 }
 
 // Reads the bytes at a distance from an offset into the buffer, and returns how many there are.
 fn read_there<S: Source>(
     source: &mut S,
-    place: u64,
+    offset: u64,
     distance: u64,
-    room: &mut [u8],
+    buffer: &mut [u8],
 ) -> Result<usize, Halt>
-    ensures bound { IfOk result (λ n. n ≤ length room.new) }
+    ensures bound { IfOk result (λ n. n ≤ length buffer.new) }
     ensures runs { Runs (S.state source.old) (S.state source.new)
-        (map_answer (λ n. take n room.new) result)
-        (part_read (S.state source.old).held.input (place + distance) (length room.new)) }
+        (map_answer (λ n. take n buffer.new) result)
+        (part_read (S.state source.old).held.input (offset + distance) (length buffer.new)) }
 {
-    source.read_at(place.saturating_add(distance), room)
+    source.read_at(offset.saturating_add(distance), buffer)
 }
 
 // The result of a part: it is the last one if all bytes are there, or if its index says so.
 fn behind_piece(
-    place: u64,
+    offset: u64,
     head: &BoxHead,
     front: &Front,
     index: [u8; 4],
     piece: Front,
 ) -> Found<Front, Front>
-    requires is { IsHead place head.now }
+    requires is { IsHead offset head.now }
     requires fits { length front.now + length piece ≤ 16 }
-    ensures further { IsFurther place (said_at place result) }
-    ensures fits { FitsBehind front.now (said_at place result) }
-    ensures is { said_at place result ≡ partial_said front.now place head.now index piece }
+    ensures further { IsFurther offset (said_at offset result) }
+    ensures fits { FitsBehind front.now (said_at offset result) }
+    ensures is { said_at offset result ≡ partial_said front.now offset head.now index piece }
 {
-    if front.room() == piece.len() || index[0] >= 0x80 {
+    if front.buffer() == piece.len() || index[0] >= 0x80 {
         return Found::Answer(join(front, &piece));
     }
-    found_behind(place, head, front, piece)
+    found_behind(offset, head, front, piece)
 }
 
 // The result of a box with this part. A box that extends to the end of the input is the last one.
-fn found_behind(place: u64, head: &BoxHead, front: &Front, piece: Front) -> Found<Front, Front>
-    requires is { IsHead place head.now }
+fn found_behind(offset: u64, head: &BoxHead, front: &Front, piece: Front) -> Found<Front, Front>
+    requires is { IsHead offset head.now }
     requires fits { length front.now + length piece ≤ 16 }
-    ensures further { IsFurther place (said_at place result) }
-    ensures fits { FitsBehind front.now (said_at place result) }
-    ensures is { said_at place result ≡ said_behind front.now place head.now piece }
+    ensures further { IsFurther offset (said_at offset result) }
+    ensures fits { FitsBehind front.now (said_at offset result) }
+    ensures is { said_at offset result ≡ said_behind front.now offset head.now piece }
 {
     if head.size == 0 {
         return Found::Answer(join(front, &piece));

@@ -67,7 +67,7 @@ impl Front {
     }
 
     /// How many more bytes fit.
-    pub fn room(&self) -> usize
+    pub fn buffer(&self) -> usize
         ensures is { result ≡ 16 - length self.now }
         ensures few { length self.now ≤ 16 }
     {

@@ -1,4 +1,4 @@
--- `imagesize_parts_new` meets its contract: what `begin` returns is written into the room behind the pointer.
+-- `imagesize_parts_new` meets its contract: what `begin` returns is written into the memory behind the pointer.
 use Rattle.imagesize_c.proofs.Walks.{[], ◌∷◌, refl, w64, proved, full_share, id⊢, sep, ftrue, vunit, vint, fact, tables, WpFn, sem, ‵, raw, ◌⊛◌, some, later, prop, ◌$◌, ◌∵◌, !, qed, done, move, keep, drop, use2, use1, split, join, feq_i, pick, await, regoal, suffices, frame, group, show, enter, of_opd, stop, unit_lit, no_more, and_then, assigns, init, returns, alloc_all, pass_all, free_all, look_at, get, through, sets, lands_as, u64, yes, Is, shows, part_at, part_in, Ptr, ptr_val, RawPtr, block_ptr, lies_at, room_at, in_a_block, rawptr_vals, rawptr_Tells, uint_vals, uint_Tells, plain, nothing, heard, peeks, calls_at, lasts, triple_of, framed, Stays, walk_of, says, stay_dropped, Goes-dropped, ends_at}
 use Rattle.imagesize_stream.specs.contracts.parts.PartsProbe.{the_row as R}
 use Rattle.imagesize_stream.proofs.parts.PartsProbe.TheLaws.{the_row_laws}
@@ -27,7 +27,7 @@ imagesize_parts_new_spec 𝓤 𝓛 𝓜 𝓡 wired =
     let Total = ‵ (u64.own_val total ts) ⊛ ‵ ftrue in
     qed 𝓛 ((‵ ftrue ⊛ ‵ (RawPtr.own_val a.0 (rawptr_vals a.0)) ⊛ Total) ∷ ‵ (room_at R a.0) ∷ []) ∵
     split ! $ move ! (1 ∷ []) $ split ! $
-    -- [the pointer; the number; nothing; the room]
+    -- [the pointer; the number; nothing; the memory]
     keep ! (3 ∷ 1 ∷ 2 ∷ []) $
     in_a_block ! a.0 (λ p. room_at R p) (id⊢ 𝓤 _) (λ b o e.
     regoal ! (λ p. prop (WpFn 𝓤 𝓛.H 𝓣.C 𝓣.Λ code.function (ptr_val p ∷ vint w64 total ∷ []) (W.post (y p)))) e refl $
@@ -42,7 +42,7 @@ imagesize_parts_new_spec 𝓤 𝓛 𝓜 𝓡 wired =
     ⊛ raw (fact 𝓤 (Opens r total)))))) (id⊢ 𝓤 _) $
     await ! tt $ pick ! (λ r. split ! $ split ! $ drop ! $ move ! (1 ∷ []) $ pick ! (λ ws. split ! $ drop ! $
     heard ! _ (λ begun.
-    -- [the value; the room; the locals]
+    -- [the value; the memory; the locals]
     peeks ! R (Is R) (shows 𝓛 R) r (v ∷ []) (λ is. let good = ((the_row_laws.lawful 𝓛).typed r (v ∷ []) is).0 in
     lands_as ! refl refl good $
     assigns ! (of_opd ! (get ! refl)) (through ! refl (stop !)) (init ! 1 refl good) $

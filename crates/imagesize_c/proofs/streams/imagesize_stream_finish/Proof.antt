@@ -1,4 +1,4 @@
--- `imagesize_stream_finish` meets its contract: the stream is moved out from behind the pointer, which leaves room
+-- `imagesize_stream_finish` meets its contract: the stream is moved out from behind the pointer, which leaves free memory
 -- there.
 use Rattle.imagesize_c.proofs.Walks.{◌≡◌, ℕ, false, List, [], ◌∷◌, refl, w32, proved, full_share, id⊢, fat, froom, named, Val, vptr, fact, tables, WpFn, ‵, raw, ◌⊛◌, some, later, prop, ◌$◌, ◌∵◌, !, qed, done, move, keep, drop, use1, use2, split, join, fsplit, pick, await, regoal, suffices, frame, group, enter, of_opd, addr, stop, load, look, no_more, and_then, returns, alloc_all, pass_all, free_all, look_at, get, through, sets, lands_as, u32, u64, yes, Is, shows, lone, part_out, uint_Lawful, Ptr, ptr_val, RawPtr, block_ptr, lies_at, in_a_block, rawptr_vals, rawptr_Tells, MutRef, mut_vals, mut_Tells, plain, nothing, peeks, calls_at, lasts, triple_of, framed, Stays, walk_of, stay_dropped, Goes-dropped, gave_ref, Goes-gave_ref, ends_at, RattleType, owns, alive}
 use Rattle.imagesize_stream.specs.contracts.probe.StreamProbe.{the_row as R}
@@ -101,12 +101,12 @@ imagesize_stream_finish_spec 𝓤 𝓛 𝓜 𝓡 wired =
     await ! tt $ pick ! (λ r. split ! $ split ! $ move ! (2 ∷ []) $ pick ! (λ ws. split ! $
     -- [the last values; the facts; the tokens; the result; the cell]
     fsplit ! $ drop ! $ move ! (4 ∷ []) $ use1 𝓛 (‵ (froom (lone R.mir) b o)) (𝓛.laws.at_room (lone R.mir) b o v) $
-    -- [the room; the last values; the facts; the tokens; the result]
+    -- [the memory; the last values; the facts; the tokens; the result]
     move ! (4 ∷ []) $ peeks ! u32 (Is u32) (shows 𝓛 u32) r (w ∷ []) (λ fits.
     lands_as ! refl refl ((uint_Lawful 𝓛 w32).typed r _ fits).0 $ returns ! (look_at ! 0 refl) $ free_all ! refl $
     suffices ! _ (ends_at 𝓛 f.ended stayed c (y (block_ptr b o)) w r (tt, ws.1) (tt, (tt, (tt, (tt, (tt, tt)))))) $
-    -- [the result; the room; the last values; the facts; the tokens]
+    -- [the result; the memory; the last values; the facts; the tokens]
     move ! (2 ∷ []) $ nothing ! $ join ! $ move ! (4 ∷ 0 ∷ 1 ∷ []) $ group ! 3 $ frame ! $
-    -- [the room; the facts]
+    -- [the memory; the facts]
     move ! (1 ∷ []) $ split ! $ frame ! $ split ! $ frame ! $ split ! $ frame ! $
     split ! $ frame ! $ frame ! $ done !)))))))))

@@ -14,11 +14,11 @@ returns-clause-value c = c.with_error.ensures
     ∙ slice_answer _ _ _ _ refl (never_stopped _ _ refl refl refl c.size-found.ensures) c.size-found.ensures
 
 pub returns-clause-local : goal.returns-clause-local
-returns-clause-local c = λ place e agrees.
-    ap outcome_of (same_by_local (λ d. png_reads d place) (png_local place) c.args.«data».now e agrees)
+returns-clause-local c = λ offset e agrees.
+    ap outcome_of (same_by_local (λ d. png_reads d offset) (png_local offset) c.args.«data».now e agrees)
 
 pub returns-clause-few : goal.returns-clause-few
-returns-clause-few c = λ place. png_within c.args.«data».now place
+returns-clause-few c = λ offset. png_within c.args.«data».now offset
 
 pub returns-clause-lasts : goal.returns-clause-lasts
 returns-clause-lasts c = png_lasts c.args.«data».now 0 _ (returns-clause-value c)

@@ -3,8 +3,8 @@ use Rattle.imagesize_source.proofs.Runs.{bytes_there, bytes_missing, bytes_stopp
 use Rattle.imagesize_source.specs.declared.halt.Halt.{Halt}
 use Rattle.imagesize_source.proofs.readings.read_exact_at.Goals as goal
 
-pub returns-then-count-room-clause-runs : goal.returns-then-count-room-clause-runs
-returns-then-count-room-clause-runs g c =
+pub returns-then-count-buffer-clause-runs : goal.returns-then-count-buffer-clause-runs
+returns-then-count-buffer-clause-runs g c =
     bytes_missing _ _ _ _ _ c.in_ok-count.ensures.runs (search rules) (omega arith)
 
 pub returns-clause-runs : goal.returns-clause-runs

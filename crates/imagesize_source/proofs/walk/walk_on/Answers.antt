@@ -6,8 +6,8 @@ pub loop-answer-init : goal.loop-answer-init
 loop-answer-init g c = record {
   same = refl;
   some = c.requires.keeps;
-  strides = λ first held keeps. strides_start _ (λ held. g.R.Records.keeps c.args.records.now held c.args.place.now) _
-      (record { held = held; place = c.args.place.now }) keeps;
+  strides = λ first held keeps. strides_start _ (λ held. g.R.Records.keeps c.args.records.now held c.args.offset.now) _
+      (record { held = held; offset = c.args.offset.now }) keeps;
 }
 
 pub returns-in-Ok-Answer-clause-runs : goal.returns-in-Ok-Answer-clause-runs

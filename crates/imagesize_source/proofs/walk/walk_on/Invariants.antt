@@ -8,9 +8,9 @@ abbrev pub invariant-loop-answer : goal.invariant-loop-answer
 invariant-loop-answer g l = record {
   same : g.R.Records.said l.records ≡ g.R.Records.said l.fn.records;
   some : (held : List _) × g.R.Records.keeps l.records held l.at;
-  strides : (first : ℕ) (held : List _) → g.R.Records.keeps l.fn.records held l.fn.place
+  strides : (first : ℕ) (held : List _) → g.R.Records.keeps l.fn.records held l.fn.offset
       → Strides (chain_of first (g.R.Records.said l.fn.records)) (λ held. g.R.Records.keeps l.records held l.at)
-      (g.S.Source.state l.fn.source) (g.S.Source.state l.source) (record { held = held; place = l.fn.place }) l.at;
+      (g.S.Source.state l.fn.source) (g.S.Source.state l.source) (record { held = held; offset = l.fn.offset }) l.at;
 }
 
 abbrev pub decreases-loop-answer : goal.decreases-loop-answer

@@ -10,14 +10,14 @@ use Rattle.imagesize_stream.proofs.awaited.read_entry_of.Goals as goal
 pub returns-in_err-size-clause-runs : goal.returns-in_err-size-clause-runs
 returns-in_err-size-clause-runs g c =
     let l = c.args.listed in
-    let h = runs_off (entry_behind l.header l.count l.seen l.width l.height c.args.place)
+    let h = runs_off (entry_behind l.header l.count l.seen l.width l.height c.args.offset)
     (after (λ entry. Entry (listed_with l entry)) decides) _ c.in_err-size.ensures.runs in
     search (rules, h)
 
 pub returns-in-Answer-clause-runs : goal.returns-in-Answer-clause-runs
 returns-in-Answer-clause-runs g c =
     let l = c.args.listed in
-    runs_on (entry_behind l.header l.count l.seen l.width l.height c.args.place)
+    runs_on (entry_behind l.header l.count l.seen l.width l.height c.args.offset)
     (after (λ entry. Entry (listed_with l entry)) decides) (Decided c.in-Answer.size) _ refl
     (rw c.in-Answer.is at c.in_ok-size.ensures.runs)
 
@@ -25,24 +25,24 @@ pub returns-in-Other-clause-runs : goal.returns-in-Other-clause-runs
 returns-in-Other-clause-runs g c =
     let l = c.args.listed in let new = c.read_next.new.self in
     let on = rw c.in-Other.is at c.in_ok-size.ensures.on in
-    runs_on (entry_behind l.header l.count l.seen l.width l.height c.args.place)
+    runs_on (entry_behind l.header l.count l.seen l.width l.height c.args.offset)
     (after (λ entry. Entry (listed_with l entry)) decides)
-    (Next c.in-Other.held (c.args.place + c.in-Other.length)) _
+    (Next c.in-Other.held (c.args.offset + c.in-Other.length)) _
     (ap (λ n. «done» (Next (Entry (record {
       header = l.header;
       count = l.count;
       seen = n;
       width = side_with 0x100 l.width c.in-Other.held;
       height = side_with 0x101 l.height c.in-Other.held;
-    })) (c.args.place + c.in-Other.length))) (sym on.0)
+    })) (c.args.offset + c.in-Other.length))) (sym on.0)
     ∙ ap (λ w. «done» (Next (Entry (record {
       header = l.header;
       count = l.count;
       seen = new.seen;
       width = w;
       height = side_with 0x101 l.height c.in-Other.held;
-    })) (c.args.place + c.in-Other.length))) (sym on.1)
+    })) (c.args.offset + c.in-Other.length))) (sym on.1)
     ∙ ap (λ h. «done» (Next
     (Entry (record { header = l.header; count = l.count; seen = new.seen; width = new.width; height = h }))
-    (c.args.place + c.in-Other.length))) (sym on.2))
+    (c.args.offset + c.in-Other.length))) (sym on.2))
     (rw c.in-Other.is at c.in_ok-size.ensures.runs)

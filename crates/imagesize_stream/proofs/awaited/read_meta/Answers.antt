@@ -15,9 +15,9 @@ pub returns-in_err-read_content-in-Answer-clause-runs : goal.returns-in_err-read
 returns-in_err-read_content-in-Answer-clause-runs g c =
     let first = rw c.in-Answer.is at c.in_ok-read_box.ensures.runs in
     let input = (g.S.Source.state c.read_box.new.source).held.input in
-    let second = runs_refused (bytes_read input (c.args.place + 8) 4)
-    (λ bs. layout_reads input («done» (Next Iprp (c.args.place + 12))))
+    let second = runs_refused (bytes_read input (c.args.offset + 8) 4)
+    (λ bs. layout_reads input («done» (Next Iprp (c.args.offset + 12))))
     c.in_err-read_content-in-Answer.ensures in
-    let h = runs_next (searched_box (codes "meta") c.args.place) (after (λ _. Meta) (meta_leads c.args.place))
+    let h = runs_next (searched_box (codes "meta") c.args.offset) (after (λ _. Meta) (meta_leads c.args.offset))
     (Decided c.in-Answer.field-0) _ first second in
     search (rules, h)

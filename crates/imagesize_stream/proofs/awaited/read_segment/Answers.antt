@@ -11,7 +11,7 @@ use Rattle.imagesize_stream.proofs.awaited.read_segment.Goals as goal
 
 pub returns-in_err-size-clause-runs : goal.returns-in_err-size-clause-runs
 returns-in_err-size-clause-runs g c =
-    let h = runs_off (jpeg_segment c.args.depth c.args.place)
+    let h = runs_off (jpeg_segment c.args.depth c.args.offset)
     (after (λ marker. Segment (depth_behind c.args.depth marker)) decides) _ c.in_err-size.ensures.runs in
     search (rules, h)
 
@@ -24,8 +24,8 @@ returns-in-Other-clause-steady g c =
 pub returns-in-Other-clause-runs : goal.returns-in-Other-clause-runs
 returns-in-Other-clause-runs g c =
     let leads = leads_as _ _ _ (rw c.in-Other.is at c.in_ok-size.ensures.depth) in
-    runs_on (jpeg_segment c.args.depth c.args.place)
+    runs_on (jpeg_segment c.args.depth c.args.offset)
     (after (λ marker. Segment (depth_behind c.args.depth marker)) decides)
-    (Next c.in-Other.held (c.args.place + c.in-Other.length)) _
-    (ap (λ depth. «done» (Next (Segment depth) (c.args.place + c.in-Other.length))) (sym leads))
+    (Next c.in-Other.held (c.args.offset + c.in-Other.length)) _
+    (ap (λ depth. «done» (Next (Segment depth) (c.args.offset + c.in-Other.length))) (sym leads))
     (rw c.in-Other.is at c.in_ok-size.ensures.runs)

@@ -49,7 +49,7 @@ returns-in-Records-clause-hears c =
     let is = subst (λ (x : Opening). Says c.args.bytes.now c.args.told (λ d. layout_reads d (opening c.args.image))
     (Ok x)) c.in-Records.is said in (
       steady_said c.args.bytes.now c.args.told c.args.image c.requires.image c.requires.fits c.in-Records.next
-          c.in-Records.place is,
+          c.in-Records.offset is,
       c.requires.image,
       is,
       kind_typed c.args.bytes.now c.args.told c.requires.fits c.args.image c.requires.image,

@@ -10,10 +10,10 @@ use Rattle.imagesize_stream.proofs.stage.begun.Goals as goal
 pub returns-in-Records-clause-goes_on : goal.returns-in-Records-clause-goes_on
 returns-in-Records-clause-goes_on c =
     let hears = c.in-Records.ensures.hears in
-    c.walk.ensures.goes_on (Some c.in-Records.image) (take c.args.stand.now.passed c.args.room.now) (
-      type_is (take c.args.stand.now.passed c.args.room.now) c.args.stand.now.told _ hears.1,
-      opened_came c.args.room.now c.args.stand.now.passed c.args.stand.now.start c.args.stand.now.told
-          c.in-Records.place c.in-Records.next c.in-Records.image
+    c.walk.ensures.goes_on (Some c.in-Records.image) (take c.args.stand.now.passed c.args.buffer.now) (
+      type_is (take c.args.stand.now.passed c.args.buffer.now) c.args.stand.now.told _ hears.1,
+      opened_came c.args.buffer.now c.args.stand.now.passed c.args.stand.now.start c.args.stand.now.told
+          c.in-Records.offset c.in-Records.next c.in-Records.image
           c.requires.first (omega (arith, c.requires.few)) hears.0 hears.1 hears.2,
     )
 
@@ -21,26 +21,26 @@ pub returns-in-Records-clause-complete : goal.returns-in-Records-clause-complete
 returns-in-Records-clause-complete c =
     let hears = c.in-Records.ensures.hears in
     awaiting_map c.walk.result
-    (λ rests. rests (Some c.in-Records.image) (take c.args.stand.now.passed c.args.room.now) (
-      type_is (take c.args.stand.now.passed c.args.room.now) c.args.stand.now.told _ hears.1,
-      opened_came c.args.room.now c.args.stand.now.passed c.args.stand.now.start c.args.stand.now.told
-          c.in-Records.place c.in-Records.next c.in-Records.image
+    (λ rests. rests (Some c.in-Records.image) (take c.args.stand.now.passed c.args.buffer.now) (
+      type_is (take c.args.stand.now.passed c.args.buffer.now) c.args.stand.now.told _ hears.1,
+      opened_came c.args.buffer.now c.args.stand.now.passed c.args.stand.now.start c.args.stand.now.told
+          c.in-Records.offset c.in-Records.next c.in-Records.image
           c.requires.first (omega (arith, c.requires.few)) hears.0 hears.1 hears.2,
     )) c.walk.ensures.complete
 
 pub returns-in-Footer-clause-goes_on : goal.returns-in-Footer-clause-goes_on
 returns-in-Footer-clause-goes_on c =
     let hears = c.in-Footer.ensures.hears in
-    let last = last_kept c.args.room.now c.keep_behind.new.room c.args.stand.now.passed (c.args.stand.now.passed - 18)
+    let last = last_kept c.args.buffer.now c.keep_behind.new.buffer c.args.stand.now.passed (c.args.stand.now.passed - 18)
     (omega (arith, c.requires.few)) hears.0 refl
     c.keep_behind.ensures in
-    c.wait.ensures.goes_on (take c.args.stand.now.passed c.args.room.now) (last.0, last.1, tt, hears.1)
+    c.wait.ensures.goes_on (take c.args.stand.now.passed c.args.buffer.now) (last.0, last.1, tt, hears.1)
 
 pub returns-in-Missing-clause-marked : goal.returns-in-Missing-clause-marked
 returns-in-Missing-clause-marked c = λ d begins as_long out.
-    let front = take c.args.stand.now.passed c.args.room.now in
+    let front = take c.args.stand.now.passed c.args.buffer.now in
     let many : length front ≡ c.args.stand.now.passed =
-    length-take c.args.stand.now.passed c.args.room.now ∙ omega (arith, c.requires.few) in
+    length-take c.args.stand.now.passed c.args.buffer.now ∙ omega (arith, c.requires.few) in
     let marked = c.in-Missing.ensures.hears.2 (subst OutOfHeader (sym many) out) d
     (begins_left front c.args.chunk.now c.args.stand.now.told d begins) as_long in (
       marked.0,
@@ -52,27 +52,27 @@ returns-in-Missing-clause-marked c = λ d begins as_long out.
 pub returns-in-Records-clause-marked : goal.returns-in-Records-clause-marked
 returns-in-Records-clause-marked c =
     let hears = c.in-Records.ensures.hears in
-    c.walk.ensures.marked (Some c.in-Records.image) (take c.args.stand.now.passed c.args.room.now) (
-      type_is (take c.args.stand.now.passed c.args.room.now) c.args.stand.now.told _ hears.1,
-      opened_came c.args.room.now c.args.stand.now.passed c.args.stand.now.start c.args.stand.now.told
-          c.in-Records.place c.in-Records.next c.in-Records.image
+    c.walk.ensures.marked (Some c.in-Records.image) (take c.args.stand.now.passed c.args.buffer.now) (
+      type_is (take c.args.stand.now.passed c.args.buffer.now) c.args.stand.now.told _ hears.1,
+      opened_came c.args.buffer.now c.args.stand.now.passed c.args.stand.now.start c.args.stand.now.told
+          c.in-Records.offset c.in-Records.next c.in-Records.image
           c.requires.first (omega (arith, c.requires.few)) hears.0 hears.1 hears.2,
     )
 
 pub returns-in-Footer-clause-complete : goal.returns-in-Footer-clause-complete
 returns-in-Footer-clause-complete c =
     let hears = c.in-Footer.ensures.hears in
-    let last = last_kept c.args.room.now c.keep_behind.new.room c.args.stand.now.passed (c.args.stand.now.passed - 18)
+    let last = last_kept c.args.buffer.now c.keep_behind.new.buffer c.args.stand.now.passed (c.args.stand.now.passed - 18)
     (omega (arith, c.requires.few)) hears.0 refl
     c.keep_behind.ensures in
     awaiting_map c.wait.result
-    (λ rests. rests (take c.args.stand.now.passed c.args.room.now) (last.0, last.1, tt, hears.1))
+    (λ rests. rests (take c.args.stand.now.passed c.args.buffer.now) (last.0, last.1, tt, hears.1))
     c.wait.ensures.complete
 
 pub returns-in-Footer-clause-marked : goal.returns-in-Footer-clause-marked
 returns-in-Footer-clause-marked c =
     let hears = c.in-Footer.ensures.hears in
-    let last = last_kept c.args.room.now c.keep_behind.new.room c.args.stand.now.passed (c.args.stand.now.passed - 18)
+    let last = last_kept c.args.buffer.now c.keep_behind.new.buffer c.args.stand.now.passed (c.args.stand.now.passed - 18)
     (omega (arith, c.requires.few)) hears.0 refl
     c.keep_behind.ensures in
-    c.wait.ensures.marked (take c.args.stand.now.passed c.args.room.now) (last.0, last.1, tt, hears.1)
+    c.wait.ensures.marked (take c.args.stand.now.passed c.args.buffer.now) (last.0, last.1, tt, hears.1)

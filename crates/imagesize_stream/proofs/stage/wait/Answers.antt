@@ -12,7 +12,7 @@ returns-then-stand-clause-goes_on c = λ front came.
     let as_many = came.0 in
     let some : 18 ≤ length front = omega (arith, as_many, c.requires.some) in (
       omega (arith, as_many, length-append front c.args.chunk.now),
-      last_on front c.args.chunk.now (take 18 c.args.room.now) c.keep_behind.new.room
+      last_on front c.args.chunk.now (take 18 c.args.buffer.now) c.keep_behind.new.buffer
           (length c.args.chunk.now) some came.1 refl c.keep_behind.ensures,
       says_on front c.args.chunk.now c.args.stand.now.told c.args.stand.now.told c.args.kind.now refl came.2,
       λ d begins. came.3 d (begins_left front c.args.chunk.now c.args.stand.now.told d begins),
@@ -22,9 +22,9 @@ pub returns-then-is_footer-clause-goes_on : goal.returns-then-is_footer-clause-g
 returns-then-is_footer-clause-goes_on c = λ front came.
     let as_many = came.0 in
     let some : 18 ≤ length front = omega (arith, as_many, c.requires.some) in
-    footer_tells front c.args.chunk.now (take 18 c.keep_behind.new.room) c.args.stand.now.told c.args.size true some
+    footer_tells front c.args.chunk.now (take 18 c.keep_behind.new.buffer) c.args.stand.now.told c.args.size true some
     (omega (arith, as_many, c.if-stand.false, length-append front c.args.chunk.now))
-    (last_on front c.args.chunk.now (take 18 c.args.room.now) c.keep_behind.new.room
+    (last_on front c.args.chunk.now (take 18 c.args.buffer.now) c.keep_behind.new.buffer
     (length c.args.chunk.now) some came.1 refl c.keep_behind.ensures)
     came.3 (ap is_tga_footer (sym c.copy_from_slice.ensures.after) ∙ sym c.is_footer.ensures ∙ c.if-is_footer.true)
     (omega (arith, as_many, c.requires.fits, length-append front c.args.chunk.now))
@@ -33,9 +33,9 @@ pub returns-clause-goes_on : goal.returns-clause-goes_on
 returns-clause-goes_on c = λ front came.
     let as_many = came.0 in
     let some : 18 ≤ length front = omega (arith, as_many, c.requires.some) in
-    footer_tells front c.args.chunk.now (take 18 c.keep_behind.new.room) c.args.stand.now.told c.args.size false some
+    footer_tells front c.args.chunk.now (take 18 c.keep_behind.new.buffer) c.args.stand.now.told c.args.size false some
     (omega (arith, as_many, c.if-stand.false, length-append front c.args.chunk.now))
-    (last_on front c.args.chunk.now (take 18 c.args.room.now) c.keep_behind.new.room
+    (last_on front c.args.chunk.now (take 18 c.args.buffer.now) c.keep_behind.new.buffer
     (length c.args.chunk.now) some came.1 refl c.keep_behind.ensures)
     came.3 (ap is_tga_footer (sym c.copy_from_slice.ensures.after) ∙ sym c.is_footer.ensures ∙ c.if-is_footer.false)
     (omega (arith, as_many, c.requires.fits, length-append front c.args.chunk.now))
@@ -43,7 +43,7 @@ returns-clause-goes_on c = λ front came.
 pub returns-then-stand-clause-parts : goal.returns-then-stand-clause-parts
 returns-then-stand-clause-parts c = λ d given part.
     let stand = c.args.stand.now in let chunk = c.args.chunk.now in
-    let footer = footer_on d c.args.room.now c.keep_behind.new.room chunk stand.passed stand.told (length chunk)
+    let footer = footer_on d c.args.buffer.now c.keep_behind.new.buffer chunk stand.passed stand.told (length chunk)
     given.as_long c.requires.fits (omega arith) refl given.known.1 part c.keep_behind.ensures in
     record {
       given = record {
@@ -71,13 +71,13 @@ returns-then-stand-clause-marked c = λ front came d begins as_long. (
 pub returns-then-is_footer-clause-parts : goal.returns-then-is_footer-clause-parts
 returns-then-is_footer-clause-parts c = λ d given part.
     let stand = c.args.stand.now in let chunk = c.args.chunk.now in
-    let footer = footer_on d c.args.room.now c.keep_behind.new.room chunk stand.passed stand.told (length chunk)
+    let footer = footer_on d c.args.buffer.now c.keep_behind.new.buffer chunk stand.passed stand.told (length chunk)
     given.as_long c.requires.fits (omega arith) refl given.known.1 part c.keep_behind.ensures in
     record {
       given = record {
         as_long = given.as_long;
-        known = footer_known d (take 18 c.keep_behind.new.room) c.args.size true given.known.0
-            (footer_came d c.keep_behind.new.room (stand.passed + length chunk) stand.told given.as_long
+        known = footer_known d (take 18 c.keep_behind.new.buffer) c.args.size true given.known.0
+            (footer_came d c.keep_behind.new.buffer (stand.passed + length chunk) stand.told given.as_long
             (omega (arith, c.requires.some, c.requires.fits)) c.if-stand.false footer)
             (ap is_tga_footer (sym c.copy_from_slice.ensures.after) ∙ sym c.is_footer.ensures ∙ c.if-is_footer.true);
       };
@@ -88,13 +88,13 @@ returns-then-is_footer-clause-parts c = λ d given part.
 pub returns-clause-parts : goal.returns-clause-parts
 returns-clause-parts c = λ d given part.
     let stand = c.args.stand.now in let chunk = c.args.chunk.now in
-    let footer = footer_on d c.args.room.now c.keep_behind.new.room chunk stand.passed stand.told (length chunk)
+    let footer = footer_on d c.args.buffer.now c.keep_behind.new.buffer chunk stand.passed stand.told (length chunk)
     given.as_long c.requires.fits (omega arith) refl given.known.1 part c.keep_behind.ensures in
     record {
       given = record {
         as_long = given.as_long;
-        known = footer_known d (take 18 c.keep_behind.new.room) c.args.size false given.known.0
-            (footer_came d c.keep_behind.new.room (stand.passed + length chunk) stand.told given.as_long
+        known = footer_known d (take 18 c.keep_behind.new.buffer) c.args.size false given.known.0
+            (footer_came d c.keep_behind.new.buffer (stand.passed + length chunk) stand.told given.as_long
             (omega (arith, c.requires.some, c.requires.fits)) c.if-stand.false footer)
             (ap is_tga_footer (sym c.copy_from_slice.ensures.after) ∙ sym c.is_footer.ensures ∙ c.if-is_footer.false);
       };

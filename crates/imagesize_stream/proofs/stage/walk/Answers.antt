@@ -15,9 +15,9 @@ pub read_on-requires-clause-keeps : goal.read_on-requires-clause-keeps
 read_on-requires-clause-keeps c = (c.args.next ∷ [], (refl, c.requires.steady))
 
 pub read_on-requires-clause-reaches : goal.read_on-requires-clause-reaches
-read_on-requires-clause-reaches c = λ held place.
-    reach_more place (place + 1024) (place + (length c.args.room.now + 1)) (step (last_awaited held) place)
-    (omega arith) (step_far (last_awaited held) place)
+read_on-requires-clause-reaches c = λ held offset.
+    reach_more offset (offset + 1024) (offset + (length c.args.buffer.now + 1)) (step (last_awaited held) offset)
+    (omega arith) (step_far (last_awaited held) offset)
 
 pub returns-in-Some-clause-goes_on : goal.returns-in-Some-clause-goes_on
 returns-in-Some-clause-goes_on c = λ kind front came. (

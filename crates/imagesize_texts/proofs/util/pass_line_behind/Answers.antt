@@ -6,5 +6,5 @@ use Rattle.imagesize_texts.proofs.util.pass_line_behind.Goals as goal
 
 pub returns-clause-runs : goal.returns-clause-runs
 returns-clause-runs g c =
-    text_saturated (Line c.args.delimiter) (c.args.place + c.args.distance) _ (length c.args.room.now)
-    (line_length c.args.delimiter (length c.args.room.now)) c.pass_line_capped.ensures.runs (omega arith)
+    text_saturated (Line c.args.delimiter) (c.args.offset + c.args.distance) _ (length c.args.buffer.now)
+    (line_length c.args.delimiter (length c.args.buffer.now)) c.pass_line_capped.ensures.runs (omega arith)

@@ -5,14 +5,14 @@ use Rattle.imagesize_texts.proofs.util.read_word.Goals as goal
 
 pub returns-clause-bound : goal.returns-clause-bound
 returns-clause-bound g c =
-    word_bound read_word_of c.read_text.new.room c.in_ok-count.count c.word_text.result c.word_text.ensures
+    word_bound read_word_of c.read_text.new.buffer c.in_ok-count.count c.word_text.result c.word_text.ensures
 
 pub returns-clause-pays : goal.returns-clause-pays
 returns-clause-pays g c =
-    word_pays read_word_of c.read_text.new.room c.in_ok-count.count c.word_text.result c.word_text.ensures
+    word_pays read_word_of c.read_text.new.buffer c.in_ok-count.count c.word_text.result c.word_text.ensures
     c.in_ok-count.ensures.pays
 
 pub returns-clause-runs : goal.returns-clause-runs
 returns-clause-runs g c =
-    word_runs _ c.read_text.new.room c.args.place c.in_ok-count.count _ (search rules) c.in_ok-count.ensures.runs
+    word_runs _ c.read_text.new.buffer c.args.offset c.in_ok-count.count _ (search rules) c.in_ok-count.ensures.runs
     c.word_text.ensures

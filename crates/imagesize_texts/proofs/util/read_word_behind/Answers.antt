@@ -5,5 +5,5 @@ use Rattle.imagesize_texts.proofs.Texts.{text_saturated}
 use Rattle.imagesize_texts.proofs.util.read_word_behind.Goals as goal
 
 pub returns : goal.returns
-returns g c = text_saturated Word (c.args.place + c.args.distance) _ word_room word_text c.read_word.ensures.runs
+returns g c = text_saturated Word (c.args.offset + c.args.distance) _ word_room word_text c.read_word.ensures.runs
     (omega arith)

@@ -19,10 +19,10 @@ rounds-preserved g c =
     let d = g.R.Remote.input c.args.remote.now in
     let says = c.in-Wanted.ensures in
     let w = c.in-Wanted.span in
-    let room = c.rounds.room in
-    let got = c.fetch_part.new.room in
-    let long : length (take w.len room) ≡ w.len =
-    omega (arith, length-take w.len room, c.rounds.invariant.2, says.short) in (
+    let buffer = c.rounds.buffer in
+    let got = c.fetch_part.new.buffer in
+    let long : length (take w.len buffer) ≡ w.len =
+    omega (arith, length-take w.len buffer, c.rounds.invariant.2, says.short) in (
       c.fetch_part.ensures.same ∙ c.rounds.invariant.0,
       fetched w c.rounds.invariant.1 says.is (says.within d) says.fits says.short c.supply.new.self got
           c.supply.ensures.beyond
@@ -31,9 +31,9 @@ rounds-preserved g c =
           (c.supply.ensures.goes_on d) c.fetch_part.ensures.counts (omega (arith, c.fetch_part.ensures.asks, long)),
       omega (
         arith,
-        length-append got (drop w.len room),
-        length-drop w.len room,
-        c.fetch_part.auto.room,
+        length-append got (drop w.len buffer),
+        length-drop w.len buffer,
+        c.fetch_part.auto.buffer,
         long,
         c.rounds.invariant.2,
         says.short,
@@ -45,9 +45,9 @@ rounds-smaller g c =
     let d = g.R.Remote.input c.args.remote.now in
     let says = c.in-Wanted.ensures in
     let w = c.in-Wanted.span in
-    let long : length (take w.len c.rounds.room) ≡ w.len =
-    omega (arith, length-take w.len c.rounds.room, c.rounds.invariant.2, says.short) in
-    smaller w c.rounds.invariant.1 says.is (says.within d) says.fits says.short c.supply.new.self c.fetch_part.new.room
+    let long : length (take w.len c.rounds.buffer) ≡ w.len =
+    omega (arith, length-take w.len c.rounds.buffer, c.rounds.invariant.2, says.short) in
+    smaller w c.rounds.invariant.1 says.is (says.within d) says.fits says.short c.supply.new.self c.fetch_part.new.buffer
     c.supply.ensures.beyond
     (c.in_ok-fetch_part-in-Wanted.ensures.bytes ∙ ap (part (g.R.Remote.input c.rounds.remote) w.start) long
     ∙ ap (λ e. part e w.start w.len) c.rounds.invariant.0)
@@ -67,7 +67,7 @@ pub returns-in_err-fetch_part-in-Wanted-clause-most : goal.returns-in_err-fetch_
 returns-in_err-fetch_part-in-Wanted-clause-most g c =
     let says = c.in-Wanted.ensures in
     most_by c.in-Wanted.span c.rounds.invariant.1 says.is (says.within (g.R.Remote.input c.args.remote.now)) says.fits
-    says.short (omega (arith, c.fetch_part.ensures.asks, length-take c.in-Wanted.span.len c.rounds.room))
+    says.short (omega (arith, c.fetch_part.ensures.asks, length-take c.in-Wanted.span.len c.rounds.buffer))
 
 pub returns-in_err-fetch_part-in-Wanted-clause-some : goal.returns-in_err-fetch_part-in-Wanted-clause-some
 returns-in_err-fetch_part-in-Wanted-clause-some g c =

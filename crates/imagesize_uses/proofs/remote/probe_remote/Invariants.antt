@@ -8,7 +8,7 @@ abbrev pub invariant-rounds : goal.invariant-rounds
 invariant-rounds g l = (g.R.Remote.input l.remote ≡ g.R.Remote.input l.fn.remote)
     × Fetching (g.R.Remote.input l.fn.remote) l.probe (g.R.Remote.fetches l.fn.remote) (g.R.Remote.fetches l.remote)
     (g.R.Remote.asked l.fn.remote) (g.R.Remote.asked l.remote)
-    × (length l.room ≡ 1024)
+    × (length l.buffer ≡ 1024)
 
 abbrev pub decreases-rounds : goal.decreases-rounds
 decreases-rounds g l =

@@ -8,7 +8,7 @@ abbrev pub invariant-loop-filled : goal.invariant-loop-filled
 invariant-loop-filled g l = Filling
     (stand (g.R.Told.telling l.initial.reader) l.initial.progress) (stand (g.R.Told.telling l.reader) l.progress)
     (account g.R.Told.telling g.R.Told.count g.R.Told.failure l.initial.reader)
-    (account g.R.Told.telling g.R.Told.count g.R.Told.failure l.reader) l.initial.progress l.progress l.filled l.room
+    (account g.R.Told.telling g.R.Told.count g.R.Told.failure l.reader) l.initial.progress l.progress l.filled l.buffer
 
 abbrev pub decreases-loop-filled : goal.decreases-loop-filled
-decreases-loop-filled g l = length l.room - l.filled
+decreases-loop-filled g l = length l.buffer - l.filled

@@ -30,7 +30,7 @@ returns g c =
       stand = from_there _ _
           (g.R.Told.telling c.fill.new.reader) c.fill.new.progress _ _ _ _ _ goes.stand c.if-not-branch.false
           filled.stand;
-      stands = λ near. omega (arith, filled.place, goes.asked, c.if-not-branch.false);
+      stands = λ near. omega (arith, filled.offset, goes.asked, c.if-not-branch.false);
       taken = omega (arith, goes.taken, filled.taken);
       within = within_reached
           (stand (g.R.Told.telling c.args.reader.now) c.args.progress.now) _ _ _ _ _ _ _ _ goes.stand

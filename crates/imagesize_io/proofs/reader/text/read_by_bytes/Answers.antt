@@ -7,19 +7,19 @@ use Rattle.imagesize_io.proofs.reader.text.read_by_bytes.Goals as goal
 pub loop-count-init : goal.loop-count-init
 loop-count-init g c = λ home.
     let ledger = c.args.ledger.now in
-    taking_none _ c.args.text c.args.place (length c.args.room.now)
+    taking_none _ c.args.text c.args.offset (length c.args.buffer.now)
     (reader_sound (account g.R.Told.telling g.R.Told.count g.R.Told.failure c.args.reader.now) home ledger.progress
     ledger.window.items)
 
 pub loop-count-preserved : goal.loop-count-preserved
 loop-count-preserved g c = λ home.
     let read = c.in_ok-read_on.ensures.reads in
-    text_goes_on c.loop-count.room (c.loop-count.invariant home) c.saturating_add-next.result c.in_ok-read_on.field-0
-    (c.loop-count.count + 1 - c.loop-count.count) c.read_on.new.room
+    text_goes_on c.loop-count.buffer (c.loop-count.invariant home) c.saturating_add-next.result c.in_ok-read_on.field-0
+    (c.loop-count.count + 1 - c.loop-count.count) c.read_on.new.buffer
     (omega (arith, c.saturating_add-next.ensures)) c.loop-count-test.true (omega arith)
-    (one_long c.loop-count.count c.loop-count.room c.read_on.new.room
-    c.loop-count-test.true c.read_on.auto.room) (read.runs home) (omega (arith, c.if-branch-eq0.false)) read.bound
-    c.is_ascii_whitespace.result c.is_end.result (refl, refl) c.ranges.place.fits
+    (one_long c.loop-count.count c.loop-count.buffer c.read_on.new.buffer
+    c.loop-count-test.true c.read_on.auto.buffer) (read.runs home) (omega (arith, c.if-branch-eq0.false)) read.bound
+    c.is_ascii_whitespace.result c.is_end.result (refl, refl) c.ranges.offset.fits
     (read.pays (omega (arith, c.if-branch-eq0.false)))
     c.is_ascii_whitespace.ensures.value c.is_end.ensures c.if-is_end.false
 
@@ -30,11 +30,11 @@ returns-in_err-read_on g c =
     record {
       bound = search rules;
       pays = search rules;
-      runs = λ home. rw is (text_stopped c.loop-count.room (c.loop-count.invariant home) c.saturating_add-next.result
-          (c.loop-count.count + 1 - c.loop-count.count) c.read_on.new.room
+      runs = λ home. rw is (text_stopped c.loop-count.buffer (c.loop-count.invariant home) c.saturating_add-next.result
+          (c.loop-count.count + 1 - c.loop-count.count) c.read_on.new.buffer
           (omega (arith, c.saturating_add-next.ensures)) c.loop-count-test.true (omega arith)
-          (one_long c.loop-count.count c.loop-count.room
-          c.read_on.new.room c.loop-count-test.true c.read_on.auto.room) (c.in_err-read_on.ensures.reads.runs home)
+          (one_long c.loop-count.count c.loop-count.buffer
+          c.read_on.new.buffer c.loop-count-test.true c.read_on.auto.buffer) (c.in_err-read_on.ensures.reads.runs home)
           (reader_sound (account g.R.Told.telling g.R.Told.count g.R.Told.failure c.args.reader.now) home
           ledger.progress ledger.window.items) refl);
     }
@@ -58,12 +58,12 @@ returns-then-branch-eq0 g c =
     record {
       bound = search (rules, so_far.fits);
       pays = λ some far. omega (arith, so_far.pays some far, read.keeps.taken);
-      runs = λ home. input_ends c.loop-count.room
+      runs = λ home. input_ends c.loop-count.buffer
           (c.loop-count.invariant home) c.saturating_add-next.result c.in_ok-read_on.field-0
-          (c.loop-count.count + 1 - c.loop-count.count) c.read_on.new.room
+          (c.loop-count.count + 1 - c.loop-count.count) c.read_on.new.buffer
           (omega (arith, c.saturating_add-next.ensures)) c.loop-count-test.true (omega arith)
-          (one_long c.loop-count.count c.loop-count.room
-          c.read_on.new.room c.loop-count-test.true c.read_on.auto.room) (read.runs home)
+          (one_long c.loop-count.count c.loop-count.buffer
+          c.read_on.new.buffer c.loop-count-test.true c.read_on.auto.buffer) (read.runs home)
           (reader_sound (account g.R.Told.telling g.R.Told.count g.R.Told.failure c.args.reader.now) home
           ledger.progress ledger.window.items)
           c.if-branch-eq0.true;
@@ -79,14 +79,14 @@ returns-then-is_end g c =
       bound = search (rules, so_far.fits);
       pays = λ some far.
           let paid = read.pays (omega (arith, c.if-branch-eq0.false))
-          (omega (arith, far, told, c.saturating_add-next.ensures, c.ranges.place.fits)) in
+          (omega (arith, far, told, c.saturating_add-next.ensures, c.ranges.offset.fits)) in
           omega (arith, paid.0, so_far.took.taken);
-      runs = λ home. text_ends c.loop-count.room
+      runs = λ home. text_ends c.loop-count.buffer
           (c.loop-count.invariant home) c.saturating_add-next.result c.in_ok-read_on.field-0
-          (c.loop-count.count + 1 - c.loop-count.count) c.read_on.new.room
+          (c.loop-count.count + 1 - c.loop-count.count) c.read_on.new.buffer
           (omega (arith, c.saturating_add-next.ensures)) c.loop-count-test.true (omega arith)
-          (one_long c.loop-count.count c.loop-count.room
-          c.read_on.new.room c.loop-count-test.true c.read_on.auto.room) (read.runs home)
+          (one_long c.loop-count.count c.loop-count.buffer
+          c.read_on.new.buffer c.loop-count-test.true c.read_on.auto.buffer) (read.runs home)
           (omega (arith, c.if-branch-eq0.false)) read.bound
           c.is_end.result (refl, refl)
           (reader_sound (account g.R.Told.telling g.R.Told.count g.R.Told.failure c.args.reader.now) home

@@ -11,7 +11,7 @@ invariant-loop-count g l = (home : ℕ) → Taking
     l.initial.ledger.window.items)
     (reader_state (account g.R.Told.telling g.R.Told.count g.R.Told.failure l.reader) home l.ledger.progress
     l.ledger.window.items)
-    l.text l.place l.count l.begun (length l.room) (take l.count l.room)
+    l.text l.offset l.count l.begun (length l.buffer) (take l.count l.buffer)
 
 abbrev pub decreases-loop-count : goal.decreases-loop-count
-decreases-loop-count g l = length l.room - l.count
+decreases-loop-count g l = length l.buffer - l.count

@@ -3,8 +3,8 @@ use Rattle.imagesize_io.specs.Telling.{account}
 use Rattle.imagesize_io.proofs.Windows.{behind_end, told_by}
 use Rattle.imagesize_io.proofs.reader.windowed.read_above.Goals as goal
 
-pub returns-then-place-ledger : goal.returns-then-place-ledger
-returns-then-place-ledger g c =
+pub returns-then-offset-ledger : goal.returns-then-offset-ledger
+returns-then-offset-ledger g c =
     let old = c.args.ledger.now.progress in
     record {
       reads =

@@ -8,7 +8,7 @@ pub loop-count-init : goal.loop-count-init
 loop-count-init c =
     let s = c.args.self.now in (
       refl,
-      sym (part_none (stream_input s.told s.start s.kept.now s.chunk.now) c.args.place),
+      sym (part_none (stream_input s.told s.start s.kept.now s.chunk.now) c.args.offset),
       λ i below. absurd (omega (arith, below)),
       omega arith,
     )
@@ -17,18 +17,18 @@ pub loop-count-preserved : goal.loop-count-preserved
 loop-count-preserved c =
     let s = c.args.self.now in
     let so_far = c.loop-count.invariant in
-    let long : length c.put-count.new.room ≡ length c.loop-count.room = c.put-count.auto.room in
+    let long : length c.put-count.new.buffer ≡ length c.loop-count.buffer = c.put-count.auto.buffer in
     let few : c.put-count.result ≤ length c.known_from-run.result.now = omega (arith, c.put-count.ensures.count) in
-    let fits : c.args.place + c.loop-count.count + c.put-count.result ≤ s.told =
+    let fits : c.args.offset + c.loop-count.count + c.put-count.result ≤ s.told =
     omega (arith, c.put-count.ensures.count, c.loop-count-test.true, c.requires, so_far.0) in (
       long ∙ so_far.0,
       gathered_run s.told (came s.start s.kept.now s.chunk.now)
-          (s.kept.now ++ s.chunk.now) c.known_from-run.result.now c.loop-count.room
-          c.put-count.new.room c.args.place c.loop-count.count c.put-count.result so_far.1 so_far.3 few fits
+          (s.kept.now ++ s.chunk.now) c.known_from-run.result.now c.loop-count.buffer
+          c.put-count.new.buffer c.args.offset c.loop-count.count c.put-count.result so_far.1 so_far.3 few fits
           c.put-count.ensures.copied
           c.known_from-run.ensures.known,
       known_run s.told (came s.start s.kept.now s.chunk.now)
-          (s.kept.now ++ s.chunk.now) c.known_from-run.result.now c.args.place
+          (s.kept.now ++ s.chunk.now) c.known_from-run.result.now c.args.offset
           c.loop-count.count c.put-count.result so_far.2 few c.known_from-run.ensures.known,
       omega (arith, long, c.put-count.ensures.count, so_far.3),
     )

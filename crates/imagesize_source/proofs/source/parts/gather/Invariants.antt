@@ -3,13 +3,13 @@ use Rattle.imagesize_source.specs.Input.{part}
 use Rattle.imagesize_source.specs.Known.{filled_input, byte_in_parts}
 use Rattle.imagesize_source.proofs.source.parts.gather.Given as goal
 
--- the bytes so far are known, and stand in the room
+-- the bytes so far are known, and stand in the buffer
 abbrev pub invariant-loop-count : goal.invariant-loop-count
 invariant-loop-count l =
-    (length l.room ≡ length l.initial.room) ×
-    (take l.count l.room ≡ part (filled_input l.told l.spans l.bytes) l.place l.count)
-    × ((i : ℕ) → i < l.count → is_some (byte_in_parts l.told l.spans l.bytes (l.place + i)) ≡ true) ×
-    (l.count ≤ length l.room)
+    (length l.buffer ≡ length l.initial.buffer) ×
+    (take l.count l.buffer ≡ part (filled_input l.told l.spans l.bytes) l.offset l.count)
+    × ((i : ℕ) → i < l.count → is_some (byte_in_parts l.told l.spans l.bytes (l.offset + i)) ≡ true) ×
+    (l.count ≤ length l.buffer)
 
 abbrev pub decreases-loop-count : goal.decreases-loop-count
-decreases-loop-count l = length l.room - l.count
+decreases-loop-count l = length l.buffer - l.count

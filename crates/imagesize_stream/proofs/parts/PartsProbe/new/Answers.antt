@@ -10,7 +10,7 @@ pub returns-clause-begins : goal.returns-clause-begins
 returns-clause-begins c = λ d as_long.
     let p = c.new-probe.result in
     c.skip.ensures.parts d (c.take_in.ensures.parts d
-    (none_given p.stage p.kind p.stand p.room d (as_long ∙ c.skip.ensures.told ∙ c.take_in.ensures.told)
+    (none_given p.stage p.kind p.stand p.buffer d (as_long ∙ c.skip.ensures.told ∙ c.take_in.ensures.told)
     (omega arith) p.holds c.new-probe.ensures.begins)
     (none_has d p.stand.passed))
 
@@ -20,15 +20,15 @@ returns-clause-first c =
     first_span (answer_of u) u.stand u.stand.told (λ none.
     let after = sym c.skip.ensures.keeps ∙ none in
     let before = none_before (answer_of p) (answer_of s) c.take_in.ensures.keeps after in
-    let begins : p.stand.passed ≡ 0 = as_many p.kind p.stage p.stand.start p.stand.place p.stand.passed p.stand.told
-    p.room [] before (omega arith) p.holds c.new-probe.ensures.begins in
+    let begins : p.stand.passed ≡ 0 = as_many p.kind p.stage p.stand.start p.stand.offset p.stand.passed p.stand.told
+    p.buffer [] before (omega arith) p.holds c.new-probe.ensures.begins in
     let many = awaiting_none s.kind s.stage after c.take_in.ensures.passed in
     let none_came : s.stand.passed ≡ 0 =
     omega (arith, many, begins, length-take {A = ℕ} (p.stand.told - p.stand.passed) []) in
-    let start = none_passed s.kind s.stage s.stand.start s.stand.place s.stand.passed after s.holds none_came in
+    let start = none_passed s.kind s.stage s.stand.start s.stand.offset s.stand.passed after s.holds none_came in
     let moved = awaiting_none u.kind u.stage none c.skip.ensures.passed in
     let at : u.stand.passed ≡ 0 = omega (arith, moved, none_came, start) in (
       at,
-      first_next u.kind u.stage u.stand.start u.stand.place u.stand.passed u.stand.end u.stand.told none u.holds
+      first_next u.kind u.stage u.stand.start u.stand.offset u.stand.passed u.stand.end u.stand.told none u.holds
           c.skip.ensures.next at,
     ))

@@ -12,7 +12,7 @@ returns-clause-complete c = λ none front came d begins as_long below.
 pub returns-clause-says : goal.returns-clause-says
 returns-clause-says c = λ front came.
     let new = c.take_in.new.self in let told = c.args.self.now.stand.told in
-    tells_all new.kind new.stage new.stand.start new.stand.place new.stand.passed new.stand.told told new.room
+    tells_all new.kind new.stage new.stand.start new.stand.offset new.stand.passed new.stand.told told new.buffer
     (front ++ take (told - length front) c.args.chunk.now) c.answer.result c.answer.ensures c.take_in.ensures.told
     (c.take_in.ensures.goes_on front came)
 

@@ -17,12 +17,12 @@ returns c =
       parts = λ d may. record {
         given = record {
           as_long = may.given.as_long;
-          known = known_behind s.stage s.kind stand.start stand.place stand.passed c.max-self.result stand.end
-              stand.told s.room d may.given.as_long c.max-self.ensures s.holds c.requires may.given.known;
+          known = known_behind s.stage s.kind stand.start stand.offset stand.passed c.max-self.result stand.end
+              stand.told s.buffer d may.given.as_long c.max-self.ensures s.holds c.requires may.given.known;
         };
-        depends = depends_behind s.stage stand.start stand.place stand.passed c.max-self.result stand.end d
+        depends = depends_behind s.stage stand.start stand.offset stand.passed c.max-self.result stand.end d
             c.max-self.ensures s.holds may.depends may.marked;
-        marked = marked_behind s.stage stand.start stand.place stand.passed c.max-self.result stand.end
+        marked = marked_behind s.stage stand.start stand.offset stand.passed c.max-self.result stand.end
             (meaning_reads d 0).marks c.max-self.ensures s.holds may.marked;
       };
     }

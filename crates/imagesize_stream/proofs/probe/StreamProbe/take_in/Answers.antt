@@ -18,21 +18,21 @@ returns-clause-complete c =
           (awaiting_map w.begin-self.result (λ rests front came.
           let here = rw w.in-First.is at came in
           rests_cut front c.args.chunk.now c.front_of-chunk.result.now s.stand.passed s.stand.told
-          (as_many s.kind s.stage s.stand.start s.stand.place s.stand.passed s.stand.told s.room front
+          (as_many s.kind s.stage s.stand.start s.stand.offset s.stand.passed s.stand.told s.buffer front
           (rw w.in-First.is refl) (omega arith) s.holds came)
           c.front_of-chunk.ensures (rests front here)) w.begin-self.ensures.complete)
       | in-Records w ↦ awaiting_as Rests c.match-self.self2 w.walk-self.result w.self2-is
           (awaiting_map w.walk-self.result (λ rests front came.
           let here = rw w.in-Records.is at came in
           rests_cut front c.args.chunk.now c.front_of-chunk.result.now s.stand.passed s.stand.told
-          (as_many s.kind s.stage s.stand.start s.stand.place s.stand.passed s.stand.told s.room front
+          (as_many s.kind s.stage s.stand.start s.stand.offset s.stand.passed s.stand.told s.buffer front
           (rw w.in-Records.is refl) (omega arith) s.holds came)
           c.front_of-chunk.ensures (rests s.kind front here)) w.walk-self.ensures.complete)
       | in-Footer w ↦ awaiting_as Rests c.match-self.self2 w.wait-self.result w.self2-is
           (awaiting_map w.wait-self.result (λ rests front came.
           let here = rw w.in-Footer.is at came in
           rests_cut front c.args.chunk.now c.front_of-chunk.result.now s.stand.passed s.stand.told
-          (as_many s.kind s.stage s.stand.start s.stand.place s.stand.passed s.stand.told s.room front
+          (as_many s.kind s.stage s.stand.start s.stand.offset s.stand.passed s.stand.told s.buffer front
           (rw w.in-Footer.is refl) (omega arith) s.holds came)
           c.front_of-chunk.ensures (rests front here)) w.wait-self.ensures.complete)
       | in-Done w ↦ awaiting_as Rests c.match-self.self2 s.stage w.self2-is
@@ -50,7 +50,7 @@ returns-clause-parts c = λ d given has.
           let here = rw w.in-First.is at given in
           let now = w.begin-self.new in
           rw (w.self-is, w.self2-is)
-          (given_on w.begin-self.result now.kind now.stand now.room d cut s.stand.passed s.stand.told given.as_long is
+          (given_on w.begin-self.result now.kind now.stand now.buffer d cut s.stand.passed s.stand.told given.as_long is
           w.begin-self.ensures.told w.begin-self.ensures.holds w.begin-self.ensures.passed
           (w.begin-self.ensures.goes_on (take s.stand.passed d) here.known)
           (awaiting_map w.begin-self.result (λ rests. rests (take s.stand.passed d) here.known)
@@ -60,7 +60,7 @@ returns-clause-parts c = λ d given has.
           let here = rw w.in-Records.is at given in
           let now = w.walk-self.new in
           rw (w.self-is, w.self2-is)
-          (given_on w.walk-self.result s.kind now.stand now.room d cut s.stand.passed s.stand.told given.as_long is
+          (given_on w.walk-self.result s.kind now.stand now.buffer d cut s.stand.passed s.stand.told given.as_long is
           w.walk-self.ensures.told w.walk-self.ensures.holds w.walk-self.ensures.passed
           (w.walk-self.ensures.goes_on s.kind (take s.stand.passed d) here.known)
           (awaiting_map w.walk-self.result (λ rests. rests s.kind (take s.stand.passed d) here.known)

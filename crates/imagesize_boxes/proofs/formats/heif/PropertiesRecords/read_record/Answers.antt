@@ -4,7 +4,7 @@ use Rattle.imagesize_boxes.proofs.formats.heif.PropertiesRecords.read_record.Goa
 
 pub returns-in_err-property-clause-runs : goal.returns-in_err-property-clause-runs
 returns-in_err-property-clause-runs g c = λ held amounts.
-    let h = listed_out c.args.self.now.all c.args.self.now.gathered c.args.place held amounts _
+    let h = listed_out c.args.self.now.all c.args.self.now.gathered c.args.offset held amounts _
     c.in_err-property.ensures.runs in
     search (rules, h)
 
@@ -14,5 +14,5 @@ returns-clause-keeps g c = λ held amounts. rw c.gather-self.ensures
 
 pub returns-clause-runs : goal.returns-clause-runs
 returns-clause-runs g c = λ held amounts. rw c.property_bytes.ensures
-    (listed_next c.args.self.now.all c.args.self.now.gathered c.args.place held amounts c.in-Some.property
+    (listed_next c.args.self.now.all c.args.self.now.gathered c.args.offset held amounts c.in-Some.property
     (rw c.in-Some.is at c.in_ok-property.ensures.runs))

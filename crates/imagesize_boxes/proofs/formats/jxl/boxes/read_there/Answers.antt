@@ -4,4 +4,4 @@ use Rattle.imagesize_boxes.proofs.formats.jxl.boxes.read_there.Goals as goal
 
 pub returns-clause-runs : goal.returns-clause-runs
 returns-clause-runs g c =
-    part_saturated (c.args.place + c.args.distance) _ (length c.read_at.new.room) c.read_at.ensures.runs (omega arith)
+    part_saturated (c.args.offset + c.args.distance) _ (length c.read_at.new.buffer) c.read_at.ensures.runs (omega arith)

@@ -6,9 +6,9 @@ pub returns-then-found-wanted-clause-runs : goal.returns-then-found-wanted-claus
 returns-then-found-wanted-clause-runs c =
     let s = c.args.self.now in
     let f = c.fill_known-found in
-    rw c.miss.ensures.halts (parts_missing s.told s.spans.now s.bytes.now s.log.spans s.missed _ _ c.args.place
+    rw c.miss.ensures.halts (parts_missing s.told s.spans.now s.bytes.now s.log.spans s.missed _ _ c.args.offset
     f.result.1 f.result.0
-    (record { start = c.args.place + f.result.0; sure = f.result.1 - f.result.0; most = f.result.1 - f.result.0 })
+    (record { start = c.args.offset + f.result.0; sure = f.result.1 - f.result.0; most = f.result.1 - f.result.0 })
     f.ensures.wanted c.if-found-wanted.true refl refl
     (state_is _ _ _ _ _ _ _ _ _ _ c.miss.ensures.told c.miss.ensures.spans c.miss.ensures.bytes c.miss.ensures.seen
     c.miss.ensures.missed))
@@ -17,7 +17,7 @@ pub returns-clause-runs : goal.returns-clause-runs
 returns-clause-runs c =
     let s = c.args.self.now in
     let f = c.fill_known-found in
-    parts_read s.told s.spans.now s.bytes.now s.log.spans s.missed _ f.new.room c.args.place
+    parts_read s.told s.spans.now s.bytes.now s.log.spans s.missed _ f.new.buffer c.args.offset
     f.result.1 f.result.0 f.ensures.wanted f.ensures.within c.if-found-wanted.false f.ensures.copied
     (state_is _ _ _ _ _ _ _ _ _ _ c.see.ensures.told c.see.ensures.spans c.see.ensures.bytes c.see.ensures.seen
     c.see.ensures.missed)

@@ -10,8 +10,8 @@ copy_from_slice-requires c = omega (arith, c.in-Some.ensures.1)
 pub returns-clause-pays : goal.returns-clause-pays
 returns-clause-pays c = λ some behind.
     let s = c.args.self.now in
-    let there = front_fits s.told s.spans.now s.bytes.now s.front.now s.front_known c.args.place
-    (length c.args.room.now) c.in-Some.ensures.2 in
+    let there = front_fits s.told s.spans.now s.bytes.now s.front.now s.front_known c.args.offset
+    (length c.args.buffer.now) c.in-Some.ensures.2 in
     absurd (omega (arith, some, behind, there, c.in-Some.ensures.1))
 
 pub returns-clause-runs : goal.returns-clause-runs
@@ -19,17 +19,17 @@ returns-clause-runs c =
     let s = c.args.self.now in
     let found = c.in-Some.found.now in
     let has = c.in-Some.ensures in
-    let there = front_fits s.told s.spans.now s.bytes.now s.front.now s.front_known c.args.place
-    (length c.args.room.now) has.2 in
+    let there = front_fits s.told s.spans.now s.bytes.now s.front.now s.front_known c.args.offset
+    (length c.args.buffer.now) has.2 in
     let same = c.copy_from_slice.ensures.after in
     let long = ap length same in
-    let wanted : length found ≡ min (length c.copy_from_slice.new.self) (s.told - c.args.place) =
+    let wanted : length found ≡ min (length c.copy_from_slice.new.self) (s.told - c.args.offset) =
     omega (arith, there, has.1, long) in
-    parts_read s.told s.spans.now s.bytes.now s.log.spans s.missed _ c.copy_from_slice.new.self c.args.place
+    parts_read s.told s.spans.now s.bytes.now s.log.spans s.missed _ c.copy_from_slice.new.self c.args.offset
     (length found) (length found) wanted
     (omega arith) (omega arith)
     (ap (take (length found)) same
-    ∙ front_part s.told s.spans.now s.bytes.now s.front.now s.front_known found c.args.place (length found)
-    (omega (arith, has.1, has.2)) (has.0 ∙ ap (part s.front.now c.args.place) (omega (arith, has.1))) refl)
+    ∙ front_part s.told s.spans.now s.bytes.now s.front.now s.front_known found c.args.offset (length found)
+    (omega (arith, has.1, has.2)) (has.0 ∙ ap (part s.front.now c.args.offset) (omega (arith, has.1))) refl)
     (state_is _ _ _ _ _ _ _ _ _ _ c.see.ensures.told c.see.ensures.spans c.see.ensures.bytes c.see.ensures.seen
     c.see.ensures.missed)

@@ -5,4 +5,4 @@ use Rattle.imagesize_source.proofs.source.recording.RecordingSourceSource.read_a
 pub returns-clause-runs : goal.returns-clause-runs
 returns-clause-runs c =
     recording_reads _ _ _ _ _ _ _ _ _ _ (omega arith) c.record.ensures.bytes c.record.ensures.same_reference
-    c.copy_part-count.ensures.count c.copy_part-count.ensures.copied c.copy_part-count.auto.room c.record.ensures.recorded
+    c.copy_part-count.ensures.count c.copy_part-count.ensures.copied c.copy_part-count.auto.buffer c.record.ensures.recorded

@@ -4,5 +4,5 @@ use Rattle.imagesize_source.proofs.source.slice.SliceSourceSource.read_at.Goals 
 
 pub returns-clause-runs : goal.returns-clause-runs
 returns-clause-runs c =
-    slice_reads _ _ _ _ _ _ (omega arith) c.copy_part.ensures.count c.copy_part.ensures.copied c.copy_part.auto.room
+    slice_reads _ _ _ _ _ _ (omega arith) c.copy_part.ensures.count c.copy_part.ensures.copied c.copy_part.auto.buffer
     (omega arith)

@@ -4,7 +4,7 @@ use Rattle.imagesize_source.proofs.source.slice.SliceSourceSource.read_text.Goal
 
 pub returns-clause-runs : goal.returns-clause-runs
 returns-clause-runs c =
-    slice_reads_text c.args.self.now.bytes.now c.args.room.now c.copy_from_slice.new.self c.text_at-found.result.now
+    slice_reads_text c.args.self.now.bytes.now c.args.buffer.now c.copy_from_slice.new.self c.text_at-found.result.now
     c.args.text
-    c.args.place
+    c.args.offset
     (omega arith) c.text_at-found.ensures.text c.text_at-found.ensures.fits c.copy_from_slice.ensures.after

@@ -6,19 +6,19 @@ use Rattle.imagesize_walked.proofs.formats.tiff.Entries.read_next.Goals as goal
 pub returns-then-self-clause-runs : goal.returns-then-self-clause-runs
 returns-then-self-clause-runs g c =
     let s = c.args.self.now in
-    none_left s.header s.count s.seen s.width s.height c.args.place c.told-told.ensures.sound c.if-self.true
+    none_left s.header s.count s.seen s.width s.height c.args.offset c.told-told.ensures.sound c.if-self.true
 
 pub returns-in_err-entry-clause-runs : goal.returns-in_err-entry-clause-runs
 returns-in_err-entry-clause-runs g c =
     let s = c.args.self.now in
-    let h = next_refused s.header s.count s.seen s.width s.height c.args.place c.if-self.false _
+    let h = next_refused s.header s.count s.seen s.width s.height c.args.offset c.if-self.false _
     c.in_err-entry.ensures.runs in
     search (rules, h)
 
 pub returns-in-Some-clause-runs : goal.returns-in-Some-clause-runs
 returns-in-Some-clause-runs g c =
     let s = c.args.self.now in
-    next_said s.header s.count s.seen s.width s.height c.args.place c.if-self.false c.in_ok-entry.entry
+    next_said s.header s.count s.seen s.width s.height c.args.offset c.if-self.false c.in_ok-entry.entry
     c.side_behind-self.result c.side_behind-self-2.result
     (Some c.in-Some.size) c.side_behind-self.ensures c.side_behind-self-2.ensures
     (sym c.size_of_sides.ensures ∙ c.in-Some.is) c.in_ok-entry.ensures.runs
@@ -27,6 +27,6 @@ pub returns-in-None-clause-runs : goal.returns-in-None-clause-runs
 returns-in-None-clause-runs g c =
     let s = c.args.self.now in
     let length : g.row.HEAD + g.row.VALUE ≡ entry_bytes s.header.version = omega (arith, s.head, s.value) in
-    rw length (next_said s.header s.count s.seen s.width s.height c.args.place c.if-self.false c.in_ok-entry.entry
+    rw length (next_said s.header s.count s.seen s.width s.height c.args.offset c.if-self.false c.in_ok-entry.entry
     c.side_behind-self.result c.side_behind-self-2.result None c.side_behind-self.ensures c.side_behind-self-2.ensures
     (sym c.size_of_sides.ensures ∙ c.in-None.is) c.in_ok-entry.ensures.runs)

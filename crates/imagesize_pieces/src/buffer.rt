@@ -27,17 +27,17 @@ pub fn bytes_behind(bytes: &[u8], count: u64) -> &[u8]
 /// Appends `more` to the first `count` bytes of the buffer, and drops the first `skip` of these bytes. The rest is at the front of
 /// the buffer.
 #[tactic(auto, using(crate::proofs::Keeping::more_kept, crate::proofs::Keeping::moved_kept))]
-pub fn keep_behind(room: &mut [u8], count: usize, more: &[u8], skip: u64)
-    requires within { count ≤ length room.old }
-    requires fits { count + length more.now - skip ≤ length room.old }
-    ensures { take (count + length more.now - skip) room.new ≡ drop skip (take count room.old ++ more.now) }
+pub fn keep_behind(buffer: &mut [u8], count: usize, more: &[u8], skip: u64)
+    requires within { count ≤ length buffer.old }
+    requires fits { count + length more.now - skip ≤ length buffer.old }
+    ensures { take (count + length more.now - skip) buffer.new ≡ drop skip (take count buffer.old ++ more.now) }
 {
     let kept = count as u64;
     if skip >= kept {
-        put(bytes_behind(more, skip - kept), room, 0);
+        put(bytes_behind(more, skip - kept), buffer, 0);
         return;
     }
     let first = skip as usize;
-    room.copy_within(first..count, 0);
-    put(more, room, count - first);
+    buffer.copy_within(first..count, 0);
+    put(more, buffer, count - first);
 }
