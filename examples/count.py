@@ -7,7 +7,7 @@ instructions, and the instructions of each call that `repeat` knows. The instruc
 The status is 1 if a call is above its bound. imagesize_size may take as many as the crate, and 10 more for the call. The other
 calls may take a multiple of imagesize_probe: code that finds a result twice, or reads a text byte by byte, takes more. 63 more
 parts may cost 400 instructions: they are counted once, and a read looks at the first part before the others. A push parser that
-gets all bytes at once may take four times imagesize_probe, and 250 more to begin.
+gets all bytes at once may take 3.1 times imagesize_probe, and 250 more to begin.
 """
 
 import concurrent.futures
@@ -27,7 +27,7 @@ BOUNDS = (
     ("spans", lambda crate, found: 5 * found["probe"] + 100),
     ("parts", lambda crate, found: 1.9 * found["probe"] + 250),
     ("many", lambda crate, found: found["parts"] + 400),
-    ("stream", lambda crate, found: 4 * found["probe"] + 250),
+    ("stream", lambda crate, found: 3.1 * found["probe"] + 250),
 )
 
 

@@ -13,12 +13,15 @@ use Rattle.imagesize_stream.specs.Parts.{IfWanted, MayBe, next_of, total_of}
 use Rattle.imagesize_stream.specs.declared.parts.PartsProbe.{PartsProbe}
 use Rattle.imagesize_types.specs.declared.size.ImageSize.{ImageSize}
 
--- The input may be each one of this length. A length of 2^63 or more is taken for the greatest one.
+-- The input may be each one of this length. A length of 2^63 or more is taken for the greatest one. The first span has 18
+-- bytes at least, or the whole input.
 abbrev pub Opens : PartsProbe → ℕ → Type 0
 Opens probe total = (total_of probe ≡ min total (2 ^ 63 - 1)) × ((d : List ℕ) → length d ≡ total_of probe → MayBe probe d)
+    × IfWanted (next_of probe) (λ w. (w.start ≡ 0) × (min 18 (total_of probe) ≤ w.len))
 
 -- The bytes from an offset on were passed. The length stays, and so does a result. The input may be each one that it might be
--- before and that has these bytes. After a gap nothing changes. With the first requested byte, a later span is requested.
+-- before and that has these bytes. After a gap nothing changes. With the first requested byte, a later span is requested. With
+-- the whole requested span, one after it is.
 pub record TakesPart (old new : PartsProbe) (offset : ℕ) (bytes : List ℕ) : Type 0 where
   pub total : total_of new ≡ total_of old
   pub keeps : IfFound (next_of old) (λ found. next_of new ≡ Found found)
@@ -26,6 +29,8 @@ pub record TakesPart (old new : PartsProbe) (offset : ℕ) (bytes : List ℕ) : 
   pub gap : IfWanted (next_of old) (λ w. w.start < offset → new ≡ old)
   pub further : IfWanted (next_of old) (λ w. offset ≤ w.start → w.start < offset + length bytes
       → IfWanted (next_of new) (λ next. w.start < next.start))
+  pub beyond : IfWanted (next_of old) (λ w. offset ≤ w.start → w.start + w.len ≤ offset + length bytes
+      → IfWanted (next_of new) (λ next. w.start + w.len ≤ next.start))
 
 -- The status of a result, with its type and its size. Without a result, the span that is requested.
 abbrev pub TellsNext : PartsAnswer (Option ImageType × Result ImageSize ImageError)

@@ -1,15 +1,15 @@
 //! Type and size of an image from spans of it that the caller fetches, in rounds. The caller keeps no span and no byte.
-ghost use Rattle.std.specs.Prelude.{◌≡◌, ℕ, ◌≤◌, List, true, false};
+ghost use Rattle.std.specs.Prelude.{◌≡◌, ◌⊎◌, ℕ, ◌<◌, ◌≤◌, List, true, false};
 ghost use Rattle.std.specs.Borrow.{full_share, sem};
 ghost use Rattle.std.specs.Ptr.{lies_at, room_at};
 ghost use Rattle.std.specs.Result.{result_ok};
 ghost use Rattle.imagesize.specs.Meaning.{kind_of, meaning};
 ghost use Rattle.imagesize.specs.Parted.{IsWithin};
 ghost use Rattle.imagesize_c.specs.Rounds.{Opens, TakesPart, TellsNext};
-ghost use Rattle.imagesize_c.specs.Status.{is_answered, is_wanted, status_of};
+ghost use Rattle.imagesize_c.specs.Status.{is_answered, is_stop_status, is_wanted, status_of};
 ghost use Rattle.imagesize_c.specs.Told.{TellsSize, TellsType};
 ghost use Rattle.imagesize_pieces.specs.Stream.{AllBelow};
-ghost use Rattle.imagesize_stream.specs.Parts.{MayBe, next_of, total_of};
+ghost use Rattle.imagesize_stream.specs.Parts.{HasMarked, MayBe, next_of, total_of};
 ghost use Rattle.imagesize_stream.specs.contracts.parts.PartsProbe.{the_row};
 ghost use Rattle.imagesize_stream.specs.declared.parts.PartsProbe.{PartsProbe};
 
@@ -61,12 +61,19 @@ pub unsafe extern "C" fn imagesize_parts_answer(
     ensures size { (d : List ℕ) → MayBe held d → is_wanted result ≡ false
         → TellsSize (meaning d 0).answer width.old width.new height.old height.new }
     ensures wants { (d : List ℕ) → MayBe held d → is_wanted result ≡ true → AllBelow wanted.new.start (meaning d 0).marks → ⊥ }
+
+    // The result depends on a byte of the span that is requested, unless that is the rest of the first 18 bytes.
+    ensures within { (d : List ℕ) → MayBe held d → is_wanted result ≡ true → (wanted.new.start < 12) ⊎ (18 ≤ wanted.new.start) → HasMarked wanted.new d }
     ensures fits { is_wanted result ≡ true → IsWithin (total_of held) wanted.new }
+    ensures short { is_wanted result ≡ true → wanted.new.len ≤ 1024 }
 
     // Values that are not found do not change.
     ensures unknown { is_wanted result ≡ true → (number.new ≡ number.old) × (compression.new ≡ compression.old) }
     ensures sides { is_answered result ≡ false → (width.new ≡ width.old) × (height.new ≡ height.old) }
     ensures enough { is_wanted result ≡ false → wanted.new ≡ wanted.old }
+
+    // No result is a fault, a spent budget or a lack of memory.
+    ensures unstopped { is_stop_status result ≡ false }
 
     // The status and what is written are the result of the probe, or the span that it requests.
     ensures told { TellsNext (next_of held) result number.old number.new compression.old compression.new width.old width.new height.old height.new wanted.old wanted.new }
@@ -90,7 +97,7 @@ fn supply_to(parts: &mut PartsProbe, offset: u64, bytes: &[u8])
 }
 
 // Writes the result, or the span that is requested.
-#[tactic(auto, using(crate::proofs::Statuses::never_wanted))]
+#[tactic(auto, using(crate::proofs::Statuses::never_wanted, crate::proofs::Statuses::unstopped))]
 fn answer_by(
     parts: &PartsProbe,
     number: &mut u32,
@@ -105,10 +112,13 @@ fn answer_by(
     ensures size { (d : List ℕ) → MayBe parts.now d → is_wanted result ≡ false
         → TellsSize (meaning d 0).answer width.old width.new height.old height.new }
     ensures wants { (d : List ℕ) → MayBe parts.now d → is_wanted result ≡ true → AllBelow wanted.new.start (meaning d 0).marks → ⊥ }
+    ensures within { (d : List ℕ) → MayBe parts.now d → is_wanted result ≡ true → (wanted.new.start < 12) ⊎ (18 ≤ wanted.new.start) → HasMarked wanted.new d }
     ensures fits { is_wanted result ≡ true → IsWithin (total_of parts.now) wanted.new }
+    ensures short { is_wanted result ≡ true → wanted.new.len ≤ 1024 }
     ensures unknown { is_wanted result ≡ true → (number.new ≡ number.old) × (compression.new ≡ compression.old) }
     ensures sides { is_answered result ≡ false → (width.new ≡ width.old) × (height.new ≡ height.old) }
     ensures enough { is_wanted result ≡ false → wanted.new ≡ wanted.old }
+    ensures unstopped { is_stop_status result ≡ false }
     ensures told { TellsNext (next_of parts.now) result number.old number.new compression.old compression.new width.old width.new height.old height.new wanted.old wanted.new }
 {
     match parts.answer() {

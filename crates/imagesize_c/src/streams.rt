@@ -4,7 +4,7 @@ ghost use Rattle.std.specs.Borrow.{full_share, sem};
 ghost use Rattle.std.specs.Ptr.{lies_at, room_at};
 ghost use Rattle.std.specs.Result.{result_ok};
 ghost use Rattle.imagesize.specs.Meaning.{kind_of, meaning};
-ghost use Rattle.imagesize_c.specs.Status.{is_answered, is_wanted, status_of};
+ghost use Rattle.imagesize_c.specs.Status.{is_answered, is_stop_status, is_wanted, status_of};
 ghost use Rattle.imagesize_c.specs.Streams.{Begun, GoesOn, OfEach, TellsProbed};
 ghost use Rattle.imagesize_c.specs.Told.{TellsSize, TellsType};
 ghost use Rattle.imagesize_pieces.specs.Stream.{AllBelow};
@@ -60,6 +60,9 @@ pub unsafe extern "C" fn imagesize_stream_push(
     ensures unknown { is_wanted result ≡ true → (number.new ≡ number.old) × (compression.new ≡ compression.old) }
     ensures sides { is_answered result ≡ false → (width.new ≡ width.old) × (height.new ≡ height.old) }
 
+    // No result is a fault, a spent budget or a lack of memory.
+    ensures unstopped { is_stop_status result ≡ false }
+
     // The bytes came. The status and what is written are the result of the push parser, which keeps it.
     ensures* goes_on { ∃ₛ (λ (after : StreamProbe). sem 𝓛 (lies_at the_row full_share stream after) ∗ ⌜ GoesOn held after bytes.now
         × TellsProbed (answer_of after) result number.old number.new compression.old compression.new width.old width.new height.old height.new ⌝) }
@@ -89,6 +92,9 @@ pub unsafe extern "C" fn imagesize_stream_finish(
     // More bytes are never requested. A size that is not found does not change.
     ensures ends { is_wanted result ≡ false }
     ensures sides { is_answered result ≡ false → (width.new ≡ width.old) × (height.new ≡ height.old) }
+
+    // The result is no fault, no spent budget and no lack of memory.
+    ensures unstopped { is_stop_status result ≡ false }
     ensures* buffer { sem 𝓛 (room_at the_row stream) }
 {
     finish(std::ptr::read(stream), number, compression, width, height)
@@ -102,7 +108,7 @@ fn begin(total: u64) -> StreamProbe
 }
 
 // Passes the next bytes, and writes the result if there is one.
-#[tactic(auto, using(crate::proofs::Statuses::never_wanted))]
+#[tactic(auto, using(crate::proofs::Statuses::never_wanted, crate::proofs::Statuses::unstopped))]
 fn push_on(
     stream: &mut StreamProbe,
     bytes: &[u8],
@@ -122,6 +128,7 @@ fn push_on(
         → told_of stream.old ≤ length front + length bytes.now → ⊥ }
     ensures unknown { is_wanted result ≡ true → (number.new ≡ number.old) × (compression.new ≡ compression.old) }
     ensures sides { is_answered result ≡ false → (width.new ≡ width.old) × (height.new ≡ height.old) }
+    ensures unstopped { is_stop_status result ≡ false }
     ensures goes_on { GoesOn stream.old stream.new bytes.now }
     ensures told { TellsProbed (answer_of stream.new) result number.old number.new compression.old compression.new width.old width.new height.old height.new }
 {
@@ -135,7 +142,7 @@ fn push_on(
 }
 
 // Ends the input, and writes its result.
-#[tactic(auto, using(crate::proofs::Statuses::never_wanted))]
+#[tactic(auto, using(crate::proofs::Statuses::never_wanted, crate::proofs::Statuses::unstopped))]
 fn finish(
     stream: StreamProbe,
     number: &mut u32,
@@ -150,6 +157,7 @@ fn finish(
         → TellsSize (meaning front 0).answer width.old width.new height.old height.new }
     ensures ends { is_wanted result ≡ false }
     ensures sides { is_answered result ≡ false → (width.new ≡ width.old) × (height.new ≡ height.old) }
+    ensures unstopped { is_stop_status result ≡ false }
 {
     let (kind, answer) = stream.finish();
     tell_type(kind, number, compression);

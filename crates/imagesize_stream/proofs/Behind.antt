@@ -1,14 +1,21 @@
 -- What goes on from the record that a format reads.
-use Rattle.std.proofs.Common.{◌≡◌, ℕ, ◌-◌, ◌<◌, ◌≤◌, false, leb, List, length, Option, None, Some, Result, Ok, Err, refl, sym, ap, subst, arith}
+use Rattle.std.proofs.Common.{◌≡◌, ℕ, ◌+◌, ◌-◌, ◌<◌, ◌≤◌, false, leb, List, length, Option, None, Some, Result, Ok, Err, refl, sym, ap, subst, arith}
 use Rattle.std.proofs.lemmas.Bool.Decides.{nat_tests}
 use Rattle.std.specs.Option.{ForSome}
+use Rattle.std.specs.Prelude.{IfOk}
 use Rattle.imagesize_source.specs.declared.endian.Endian.{Endian}
 use Rattle.imagesize_source.specs.declared.halt.Halt.TheVariants.{Ended}
 use Rattle.imagesize_boxes.proofs.JxlBoxes.{Plainly, plain_size}
 use Rattle.imagesize_boxes.specs.Jxl.{jxl_size}
 use Rattle.imagesize_source.proofs.Reached.{reads_nothing}
 use Rattle.imagesize_source.proofs.Layouts.{no_span}
-use Rattle.imagesize_stream.specs.Steps.{IsSmall}
+use Rattle.imagesize_source.specs.Chain.{Said, Decided, Next}
+use Rattle.imagesize_source.specs.Paying.{Nears}
+use Rattle.imagesize_source.specs.Walk.{said_at}
+use Rattle.imagesize_source.specs.declared.walk.Found.{Found}
+use Rattle.imagesize_source.specs.declared.walk.Found.TheVariants as found
+use Rattle.imagesize_stream.specs.Steps.{IsSmall, after, decides, leading_to}
+use Rattle.imagesize_stream.specs.declared.awaited.Awaited.{Awaited}
 use Rattle.imagesize_types.specs.declared.size.ImageSize.{ImageSize}
 use Rattle.imagesize_walked.specs.Walks.{IsIcon}
 use Rattle.imagesize_source.specs.Layout.{Layout, accept, bind, layout_reads}
@@ -64,6 +71,25 @@ runs_off {X} {Y} {a} {b} t g e first =
     runs_as (layout_reads a.held.input (bind t g))
     (runs_refused (layout_reads a.held.input t) (λ v. layout_reads a.held.input (g v)) first)
     (λ _. ap uncounted (sym (over-bind a.held.input t g)))
+
+-- a record after which this one is awaited, whatever it holds
+pub nears_same : (a b : State) (next : Awaited) (offset : ℕ) (r : Result (Found (Unit {0}) ImageSize) Halt)
+    → IfOk r (λ found. Nears a b offset (said_at offset found))
+    → IfOk (leading_to next r) (λ found. Nears a b offset (said_at offset found))
+nears_same a b next offset (Ok (found.Answer size)) nears = nears
+nears_same a b next offset (Ok (found.Other held length)) nears = nears
+nears_same a b next offset (Err e) nears = tt
+
+pub runs_same : {a b : State} (t : Layout (Said (Unit {0}) ImageSize)) (next : Awaited) (offset : ℕ)
+    (r : Result (Found (Unit {0}) ImageSize) Halt)
+    → Runs a b (map_answer (said_at offset) r) (layout_reads a.held.input t)
+    → Runs a b (map_answer (said_at offset) (leading_to next r))
+    (layout_reads a.held.input (bind t (after (λ _. next) decides)))
+runs_same t next offset (Ok (found.Answer size)) first =
+    runs_on t (after (λ _. next) decides) (Decided size) (Decided size) refl first
+runs_same t next offset (Ok (found.Other held length)) first =
+    runs_on t (after (λ _. next) decides) (Next held (offset + length)) (Next next (offset + length)) refl first
+runs_same t next offset (Err e) first = runs_off t (after (λ _. next) decides) e first
 
 -- a size at fixed offsets is all that the first bytes say of it
 pub fixed_on : (a b : State) (w : Way ImageSize) (size : ImageSize) → IfFixed w (λ t. Follows a b (Ok size) t)

@@ -63,6 +63,13 @@ IfMissing (Answer image size) P = Unit {0}
 IfMissing (Records image next offset) P = Unit {0}
 IfMissing (Footer size) P = Unit {0}
 
+-- what holds of the size or the error, if it is known
+abbrev pub IfAnswer : Heard → (Result ImageSize Halt → Type 0) → Type 0
+IfAnswer (Missing image end) Holds = Unit {0}
+IfAnswer (Answer image size) Holds = Holds size
+IfAnswer (Records image next offset) Holds = Unit {0}
+IfAnswer (Footer size) Holds = Unit {0}
+
 -- the read that missed a byte requests more than these bytes, and none past the end
 abbrev pub EndsBehind : List ℕ → ℕ → Heard → Type 0
 EndsBehind front told (Missing image end) = (length front < end) × (end ≤ told)

@@ -1,10 +1,12 @@
 -- A probe whose bytes arrive in chunks: which bytes arrived, and what they say.
-use Rattle.std.specs.Prelude.{◌≡◌, ℕ, ◌+◌, ◌-◌, ◌<◌, ◌≤◌, max, min, List, length, drop, take, Option, Some, IfSome}
-use Rattle.std.specs.Coded.{Unit-prop, le_prop, ×_prop}
+use Rattle.std.specs.Prelude.{◌≡◌, ℕ, ◌+◌, ◌-◌, ◌<◌, ◌≤◌, max, min, false, List, length, drop, take, Option, Some, IfSome}
+use Rattle.std.specs.Coded.{Unit-prop, coded_bool, le_prop, ×_prop}
+use denote.Struct.Props.{≡_prop}
 use Rattle.imagesize.specs.Meaning.{meaning_reads}
 use Rattle.imagesize.specs.declared.types.ImageType.{ImageType}
 use Rattle.imagesize_pieces.specs.Stream.{Begins, SomeBetween, Streams}
 use Rattle.imagesize_pieces.specs.declared.stand.Stand.{Stand}
+use Rattle.imagesize_source.specs.Reading.{is_stopped}
 use Rattle.imagesize_source.specs.declared.span.Span.{Span}
 use Rattle.imagesize_stream.specs.Heard.{IsByFooter, OutOfHeader, SizeIs, TypeIs}
 use Rattle.imagesize_stream.specs.Steps.{Awaits, IsSteady, awaited_said, steady_prop}
@@ -35,13 +37,13 @@ abbrev pub HoldsBy : Stage → ℕ → ℕ → ℕ → Type 0
 HoldsBy First start offset passed = (start ≤ 0) × (passed < 132)
 HoldsBy (Records next) start offset passed = IsSteady next offset × ((passed - start ≤ 1023) × (12 ≤ passed))
 HoldsBy (Footer size) start offset passed = 18 ≤ passed
-HoldsBy (Done size) start offset passed = Unit {0}
+HoldsBy (Done size) start offset passed = is_stopped size ≡ false
 
 pub holds_prop : (stage : Stage) (start offset passed : ℕ) → IsProp (HoldsBy stage start offset passed)
 holds_prop First start offset passed = ×_prop le_prop le_prop
 holds_prop (Records next) start offset passed = ×_prop (steady_prop next offset) (×_prop le_prop le_prop)
 holds_prop (Footer size) start offset passed = le_prop
-holds_prop (Done size) start offset passed = Unit-prop
+holds_prop (Done size) start offset passed = ≡_prop coded_bool (is_stopped size) false
 
 abbrev pub HoldsAt : Stage → Stand → Type 0
 HoldsAt stage stand = HoldsBy stage stand.start stand.offset stand.passed

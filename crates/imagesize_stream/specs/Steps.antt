@@ -8,7 +8,10 @@ use Rattle.imagesize_source.specs.Layout.{Layout, accept, bind, bytes}
 use Rattle.imagesize_source.specs.Layout.Layout.{field, «done»}
 use Rattle.imagesize_source.specs.declared.halt.Halt.{Halt}
 use Rattle.imagesize_source.specs.declared.halt.Halt.TheVariants.{Corrupted, Ended, NoDimensionsInIfd}
+use Rattle.imagesize_source.specs.Reading.{map_answer}
 use Rattle.imagesize_source.specs.Walk.{chain_of}
+use Rattle.imagesize_source.specs.declared.walk.Found.{Found}
+use Rattle.imagesize_source.specs.declared.walk.Found.TheVariants as found
 use Rattle.imagesize_stream.specs.declared.awaited.Awaited.{Awaited}
 use Rattle.imagesize_stream.specs.declared.awaited.Awaited.TheVariants.{Attribute, Box, Chunk, Comment, Directory, Entry, Height, Icon, Ipco, Iprp, Line, Meta, Property, Segment, Word}
 use Rattle.imagesize_stream.specs.declared.awaited.Kept.{Kept}
@@ -182,6 +185,14 @@ steady_prop Iprp offset = Unit-prop
 steady_prop Ipco offset = Unit-prop
 steady_prop (Property g) offset = Unit-prop
 steady_prop (Box kept) offset = le_prop
+
+-- what was found, and the record after it
+abbrev pub leading : Awaited → Found (Unit {0}) ImageSize → Found Awaited ImageSize
+leading next (found.Answer size) = found.Answer size
+leading next (found.Other held length) = found.Other next length
+
+abbrev pub leading_to : Awaited → Result (Found (Unit {0}) ImageSize) Halt → Result (Found Awaited ImageSize) Halt
+leading_to next found = map_answer (leading next) found
 
 -- what then holds of the record after it
 abbrev pub StaysSteady : Said Awaited ImageSize → Type 0

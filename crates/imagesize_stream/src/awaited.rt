@@ -1,11 +1,11 @@
 //! The record that a stream waits for, in each format whose size is in records.
-ghost use Rattle.std.specs.Prelude.{◌≡◌, ℕ, ◌<◌, ◌≤◌, length, [], false, IfOk};
+ghost use Rattle.std.specs.Prelude.{◌≡◌, ℕ, ◌<◌, ◌≤◌, length, [], false, IfErr, IfOk};
 ghost use Rattle.imagesize_source.specs.Layout.{bind};
 ghost use Rattle.imagesize_source.specs.Paying.{Nears, Paid};
 ghost use Rattle.imagesize_source.specs.Reading.{is_stopped, map_answer, number_read};
 ghost use Rattle.imagesize_source.specs.State.{Follows, Runs};
 ghost use Rattle.imagesize_source.specs.Walk.{said_at};
-ghost use Rattle.imagesize_stream.specs.Steps.{IsSmall, IsSteady, StaysSteady, after, decides, ends_with, kept_of, names_of, step, word_leads};
+ghost use Rattle.imagesize_stream.specs.Steps.{IsSmall, IsSteady, StaysSteady, after, decides, ends_with, kept_of, leading_to, names_of, step, word_leads};
 ghost use Rattle.imagesize_texts.specs.Texts.{read_word_of};
 ghost use Rattle.imagesize_walked.specs.Tiff.{head_bytes, value_bytes};
 ghost use Rattle.imagesize_stream.specs.declared.awaited.Awaited.TheVariants as awaited;
@@ -92,38 +92,38 @@ pub(crate) struct Listed {
 }
 
 impl Awaited {
-    // Reads the record at an offset. It holds the record after it.
-    #[inline]
-    pub(crate) fn read<S: Source>(
-        self,
+    // Reads the record at an offset. Then this is the record after it.
+    pub(crate) fn advance<S: Source>(
+        &mut self,
         source: &mut S,
         offset: u64,
-    ) -> Result<Found<Awaited, ImageSize>, Halt>
-        requires { IsSteady self offset }
-        ensures nears { IfOk result (λ found. Nears (S.state source.old) (S.state source.new) offset (said_at offset found)) }
-        ensures steady { IfOk result (λ found. StaysSteady (said_at offset found)) }
-        ensures runs { Follows (S.state source.old) (S.state source.new) (map_answer (said_at offset) result) (step self offset) }
+    ) -> Result<Found<(), ImageSize>, Halt>
+        requires { IsSteady self.old offset }
+        ensures nears { IfOk (leading_to self.new result) (λ found. Nears (S.state source.old) (S.state source.new) offset (said_at offset found)) }
+        ensures steady { IfOk (leading_to self.new result) (λ found. StaysSteady (said_at offset found)) }
+        ensures stays { IfErr result (λ _. self.new ≡ self.old) }
+        ensures runs { Follows (S.state source.old) (S.state source.new) (map_answer (said_at offset) (leading_to self.new result)) (step self.old offset) }
     {
-        match self {
-            Awaited::Segment { depth } => read_segment(source, offset, depth),
-            Awaited::Chunk => read_same(&mut Chunks, source, offset, Awaited::Chunk),
+        match *self {
+            Awaited::Segment { depth } => read_segment(self, source, offset, depth),
+            Awaited::Chunk => read_same(&mut Chunks, source, offset),
             Awaited::Attribute { long } => read_attribute(source, offset, long),
             Awaited::Line => read_line(source, offset),
-            Awaited::Word => read_word(source, offset),
-            Awaited::Comment => read_comment(source, offset),
+            Awaited::Word => read_word(self, source, offset),
+            Awaited::Comment => read_comment(self, source, offset),
             Awaited::Height { width } => read_height(source, offset, width),
             Awaited::Icon {
                 count,
                 seen,
                 largest,
-            } => read_icon(source, offset, count, seen, largest),
-            Awaited::Directory { header } => read_directory(source, offset, header),
-            Awaited::Entry(listed) => read_entry(source, offset, listed),
-            Awaited::Meta => read_meta(source, offset),
-            Awaited::Iprp => read_iprp(source, offset),
-            Awaited::Ipco => read_ipco(source, offset),
-            Awaited::Property(gathered) => read_listed(source, offset, gathered),
-            Awaited::Box(kept) => read_jxl_box(source, offset, kept),
+            } => read_icon(self, source, offset, count, seen, largest),
+            Awaited::Directory { header } => read_directory(self, source, offset, header),
+            Awaited::Entry(listed) => read_entry(self, source, offset, listed),
+            Awaited::Meta => read_meta(self, source, offset),
+            Awaited::Iprp => read_iprp(self, source, offset),
+            Awaited::Ipco => read_ipco(self, source, offset),
+            Awaited::Property(gathered) => read_listed(self, source, offset, gathered),
+            Awaited::Box(kept) => read_jxl_box(self, source, offset, kept),
         }
     }
 
@@ -141,45 +141,41 @@ impl Awaited {
     }
 }
 
-// Reads a record of a format in which `next` follows each record.
+// Reads a record of a format that awaits the same after each record.
 #[inline(always)]
 fn read_same<R: Records<Held = (), Answer = ImageSize>, S: Source>(
     records: &mut R,
     source: &mut S,
     offset: u64,
-    next: Awaited,
-) -> Result<Found<Awaited, ImageSize>, Halt>
+) -> Result<Found<(), ImageSize>, Halt>
     requires keeps { R.keeps records.old [] offset }
-    requires steady { (q : ℕ) → IsSteady next q }
-    ensures nears { IfOk result (λ found. Nears (S.state source.old) (S.state source.new) offset (said_at offset found)) }
-    ensures steady { IfOk result (λ found. StaysSteady (said_at offset found)) }
-    ensures runs { Follows (S.state source.old) (S.state source.new) (map_answer (said_at offset) result)
+    ensures nears { (next : Awaited) → IfOk (leading_to next result) (λ found. Nears (S.state source.old) (S.state source.new) offset (said_at offset found)) }
+    ensures runs { (next : Awaited) → Follows (S.state source.old) (S.state source.new) (map_answer (said_at offset) (leading_to next result))
         (bind (R.said records.old [] offset) (after (λ _. next) decides)) }
 {
-    match records.read_record(source, offset)? {
-        Found::Answer(size) => Ok(Found::Answer(size)),
-        Found::Other { length, .. } => Ok(Found::Other { held: next, length }),
-    }
+    records.read_record(source, offset)
 }
 
 fn read_segment<S: Source>(
+    next: &mut Awaited,
     source: &mut S,
     offset: u64,
     depth: u64,
-) -> Result<Found<Awaited, ImageSize>, Halt>
+) -> Result<Found<(), ImageSize>, Halt>
     requires { depth < offset }
-    ensures nears { IfOk result (λ found. Nears (S.state source.old) (S.state source.new) offset (said_at offset found)) }
-    ensures steady { IfOk result (λ found. StaysSteady (said_at offset found)) }
-    ensures runs { Follows (S.state source.old) (S.state source.new) (map_answer (said_at offset) result) (step (awaited.Segment depth) offset) }
+    ensures nears { IfOk (leading_to next.new result) (λ found. Nears (S.state source.old) (S.state source.new) offset (said_at offset found)) }
+    ensures steady { IfOk (leading_to next.new result) (λ found. StaysSteady (said_at offset found)) }
+    ensures stays { IfErr result (λ _. next.new ≡ next.old) }
+    ensures runs { Follows (S.state source.old) (S.state source.new) (map_answer (said_at offset) (leading_to next.new result)) (step (awaited.Segment depth) offset) }
 {
     let mut segments = Segments { depth };
     match segments.read_segment(source, offset)? {
         Found::Answer(size) => Ok(Found::Answer(size)),
         Found::Other { length, .. } => {
-            let held = Awaited::Segment {
+            *next = Awaited::Segment {
                 depth: segments.depth,
             };
-            Ok(Found::Other { held, length })
+            Ok(Found::Other { held: (), length })
         }
     }
 }
@@ -188,16 +184,16 @@ fn read_attribute<S: Source>(
     source: &mut S,
     offset: u64,
     long: bool,
-) -> Result<Found<Awaited, ImageSize>, Halt>
-    ensures nears { IfOk result (λ found. Nears (S.state source.old) (S.state source.new) offset (said_at offset found)) }
-    ensures steady { IfOk result (λ found. StaysSteady (said_at offset found)) }
-    ensures runs { Follows (S.state source.old) (S.state source.new) (map_answer (said_at offset) result) (step (awaited.Attribute long) offset) }
+) -> Result<Found<(), ImageSize>, Halt>
+    ensures nears { IfOk (leading_to (awaited.Attribute long) result) (λ found. Nears (S.state source.old) (S.state source.new) offset (said_at offset found)) }
+    ensures steady { IfOk (leading_to (awaited.Attribute long) result) (λ found. StaysSteady (said_at offset found)) }
+    ensures runs { Follows (S.state source.old) (S.state source.new) (map_answer (said_at offset) (leading_to (awaited.Attribute long) result)) (step (awaited.Attribute long) offset) }
 {
     let mut attributes = Attributes {
         names: names_of(long),
         buffer: [0; 256],
     };
-    read_same(&mut attributes, source, offset, Awaited::Attribute { long })
+    read_same(&mut attributes, source, offset)
 }
 
 fn names_of(long: bool) -> usize
@@ -206,27 +202,33 @@ fn names_of(long: bool) -> usize
     if long { 256 } else { 32 }
 }
 
-fn read_line<S: Source>(source: &mut S, offset: u64) -> Result<Found<Awaited, ImageSize>, Halt>
-    ensures nears { IfOk result (λ found. Nears (S.state source.old) (S.state source.new) offset (said_at offset found)) }
-    ensures steady { IfOk result (λ found. StaysSteady (said_at offset found)) }
-    ensures runs { Follows (S.state source.old) (S.state source.new) (map_answer (said_at offset) result) (step awaited.Line offset) }
+fn read_line<S: Source>(source: &mut S, offset: u64) -> Result<Found<(), ImageSize>, Halt>
+    ensures nears { IfOk (leading_to awaited.Line result) (λ found. Nears (S.state source.old) (S.state source.new) offset (said_at offset found)) }
+    ensures steady { IfOk (leading_to awaited.Line result) (λ found. StaysSteady (said_at offset found)) }
+    ensures runs { Follows (S.state source.old) (S.state source.new) (map_answer (said_at offset) (leading_to awaited.Line result)) (step awaited.Line offset) }
 {
     let mut lines = Lines {
         buffer: [0; LINE_ROOM],
     };
-    read_same(&mut lines, source, offset, Awaited::Line)
+    read_same(&mut lines, source, offset)
 }
 
 #[tactic(auto, using(imagesize_source::proofs::Runs::steps))]
-fn read_word<S: Source>(source: &mut S, offset: u64) -> Result<Found<Awaited, ImageSize>, Halt>
-    ensures nears { IfOk result (λ found. Nears (S.state source.old) (S.state source.new) offset (said_at offset found)) }
-    ensures steady { IfOk result (λ found. StaysSteady (said_at offset found)) }
-    ensures runs { Follows (S.state source.old) (S.state source.new) (map_answer (said_at offset) result) (step awaited.Word offset) }
+fn read_word<S: Source>(
+    next: &mut Awaited,
+    source: &mut S,
+    offset: u64,
+) -> Result<Found<(), ImageSize>, Halt>
+    ensures nears { IfOk (leading_to next.new result) (λ found. Nears (S.state source.old) (S.state source.new) offset (said_at offset found)) }
+    ensures steady { IfOk (leading_to next.new result) (λ found. StaysSteady (said_at offset found)) }
+    ensures stays { IfErr result (λ _. next.new ≡ next.old) }
+    ensures runs { Follows (S.state source.old) (S.state source.new) (map_answer (said_at offset) (leading_to next.new result)) (step awaited.Word offset) }
 {
     let mut buffer = [0u8; WORD_ROOM];
     let word = util::read_word(source, offset, &mut buffer)?;
+    *next = behind_word(&word);
     Ok(Found::Other {
-        held: behind_word(&word),
+        held: (),
         length: word.taken as u64,
     })
 }
@@ -252,15 +254,21 @@ fn behind_word(word: &Word<'_>) -> Awaited
 }
 
 #[tactic(auto, using(imagesize_source::proofs::Runs::steps))]
-fn read_comment<S: Source>(source: &mut S, offset: u64) -> Result<Found<Awaited, ImageSize>, Halt>
-    ensures nears { IfOk result (λ found. Nears (S.state source.old) (S.state source.new) offset (said_at offset found)) }
-    ensures steady { IfOk result (λ found. StaysSteady (said_at offset found)) }
-    ensures runs { Follows (S.state source.old) (S.state source.new) (map_answer (said_at offset) result) (step awaited.Comment offset) }
+fn read_comment<S: Source>(
+    next: &mut Awaited,
+    source: &mut S,
+    offset: u64,
+) -> Result<Found<(), ImageSize>, Halt>
+    ensures nears { IfOk (leading_to next.new result) (λ found. Nears (S.state source.old) (S.state source.new) offset (said_at offset found)) }
+    ensures steady { IfOk (leading_to next.new result) (λ found. StaysSteady (said_at offset found)) }
+    ensures stays { IfErr result (λ _. next.new ≡ next.old) }
+    ensures runs { Follows (S.state source.old) (S.state source.new) (map_answer (said_at offset) (leading_to next.new result)) (step awaited.Comment offset) }
 {
     let mut buffer = [0u8; WORD_ROOM];
     let taken = util::pass_line_capped(source, offset, b'\n', &mut buffer)?;
+    *next = Awaited::Word;
     Ok(Found::Other {
-        held: Awaited::Word,
+        held: (),
         length: taken as u64,
     })
 }
@@ -270,10 +278,10 @@ fn read_height<S: Source>(
     source: &mut S,
     offset: u64,
     width: Option<usize>,
-) -> Result<Found<Awaited, ImageSize>, Halt>
-    ensures nears { IfOk result (λ found. Nears (S.state source.old) (S.state source.new) offset (said_at offset found)) }
-    ensures steady { IfOk result (λ found. StaysSteady (said_at offset found)) }
-    ensures runs { Follows (S.state source.old) (S.state source.new) (map_answer (said_at offset) result) (step (awaited.Height width) offset) }
+) -> Result<Found<(), ImageSize>, Halt>
+    ensures nears { IfOk (leading_to (awaited.Height width) result) (λ found. Nears (S.state source.old) (S.state source.new) offset (said_at offset found)) }
+    ensures steady { IfOk (leading_to (awaited.Height width) result) (λ found. StaysSteady (said_at offset found)) }
+    ensures runs { Follows (S.state source.old) (S.state source.new) (map_answer (said_at offset) (leading_to (awaited.Height width) result)) (step (awaited.Height width) offset) }
 {
     let mut buffer = [0u8; WORD_ROOM];
     let word = util::read_word(source, offset, &mut buffer)?;
@@ -283,17 +291,19 @@ fn read_height<S: Source>(
 }
 
 fn read_icon<S: Source>(
+    next: &mut Awaited,
     source: &mut S,
     offset: u64,
     count: u16,
     seen: u16,
     largest: Option<ImageSize>,
-) -> Result<Found<Awaited, ImageSize>, Halt>
+) -> Result<Found<(), ImageSize>, Halt>
     requires seen { seen ≤ count }
     requires small { IsSmall largest }
-    ensures nears { IfOk result (λ found. Nears (S.state source.old) (S.state source.new) offset (said_at offset found)) }
-    ensures steady { IfOk result (λ found. StaysSteady (said_at offset found)) }
-    ensures runs { Follows (S.state source.old) (S.state source.new) (map_answer (said_at offset) result) (step (awaited.Icon count seen largest) offset) }
+    ensures nears { IfOk (leading_to next.new result) (λ found. Nears (S.state source.old) (S.state source.new) offset (said_at offset found)) }
+    ensures steady { IfOk (leading_to next.new result) (λ found. StaysSteady (said_at offset found)) }
+    ensures stays { IfErr result (λ _. next.new ≡ next.old) }
+    ensures runs { Follows (S.state source.old) (S.state source.new) (map_answer (said_at offset) (leading_to next.new result)) (step (awaited.Icon count seen largest) offset) }
 {
     let mut icons = Icons {
         count,
@@ -303,31 +313,33 @@ fn read_icon<S: Source>(
     match icons.read_icon(source, offset)? {
         Found::Answer(size) => Ok(Found::Answer(size)),
         Found::Other { length, .. } => {
-            let held = Awaited::Icon {
+            *next = Awaited::Icon {
                 count,
                 seen: icons.seen,
                 largest: icons.largest,
             };
-            Ok(Found::Other { held, length })
+            Ok(Found::Other { held: (), length })
         }
     }
 }
 
 #[tactic(auto, using(imagesize_source::proofs::Runs::steps))]
 fn read_directory<S: Source>(
+    next: &mut Awaited,
     source: &mut S,
     offset: u64,
     header: Header,
-) -> Result<Found<Awaited, ImageSize>, Halt>
-    ensures nears { IfOk result (λ found. Nears (S.state source.old) (S.state source.new) offset (said_at offset found)) }
-    ensures steady { IfOk result (λ found. StaysSteady (said_at offset found)) }
-    ensures runs { Follows (S.state source.old) (S.state source.new) (map_answer (said_at offset) result) (step (awaited.Directory header) offset) }
+) -> Result<Found<(), ImageSize>, Halt>
+    ensures nears { IfOk (leading_to next.new result) (λ found. Nears (S.state source.old) (S.state source.new) offset (said_at offset found)) }
+    ensures steady { IfOk (leading_to next.new result) (λ found. StaysSteady (said_at offset found)) }
+    ensures stays { IfErr result (λ _. next.new ≡ next.old) }
+    ensures runs { Follows (S.state source.old) (S.state source.new) (map_answer (said_at offset) (leading_to next.new result)) (step (awaited.Directory header) offset) }
 {
     let count = match header.version {
         Version::Tiff => read_short(source, offset, header.order)?,
         Version::BigTiff => read_long(source, offset, header.order)?,
     };
-    let held = Awaited::Entry(Listed {
+    *next = Awaited::Entry(Listed {
         header,
         count,
         seen: 0,
@@ -335,7 +347,7 @@ fn read_directory<S: Source>(
         height: None,
     });
     Ok(Found::Other {
-        held,
+        held: (),
         length: tiff::count_bytes(header.version),
     })
 }
@@ -361,33 +373,37 @@ fn read_long<S: Source>(source: &mut S, offset: u64, order: Endian) -> Result<u6
 }
 
 fn read_entry<S: Source>(
+    next: &mut Awaited,
     source: &mut S,
     offset: u64,
     listed: Listed,
-) -> Result<Found<Awaited, ImageSize>, Halt>
+) -> Result<Found<(), ImageSize>, Halt>
     requires { listed.seen ≤ listed.count }
-    ensures nears { IfOk result (λ found. Nears (S.state source.old) (S.state source.new) offset (said_at offset found)) }
-    ensures steady { IfOk result (λ found. StaysSteady (said_at offset found)) }
-    ensures runs { Follows (S.state source.old) (S.state source.new) (map_answer (said_at offset) result) (step (awaited.Entry listed) offset) }
+    ensures nears { IfOk (leading_to next.new result) (λ found. Nears (S.state source.old) (S.state source.new) offset (said_at offset found)) }
+    ensures steady { IfOk (leading_to next.new result) (λ found. StaysSteady (said_at offset found)) }
+    ensures stays { IfErr result (λ _. next.new ≡ next.old) }
+    ensures runs { Follows (S.state source.old) (S.state source.new) (map_answer (said_at offset) (leading_to next.new result)) (step (awaited.Entry listed) offset) }
 {
     match listed.header.version {
-        Version::Tiff => read_entry_of::<S, 8, 4>(source, offset, listed),
-        Version::BigTiff => read_entry_of::<S, 12, 8>(source, offset, listed),
+        Version::Tiff => read_entry_of::<S, 8, 4>(next, source, offset, listed),
+        Version::BigTiff => read_entry_of::<S, 12, 8>(next, source, offset, listed),
     }
 }
 
 // Reads an entry with a head of `HEAD` bytes and a value of `VALUE` bytes.
 fn read_entry_of<S: Source, const HEAD: usize, const VALUE: usize>(
+    next: &mut Awaited,
     source: &mut S,
     offset: u64,
     listed: Listed,
-) -> Result<Found<Awaited, ImageSize>, Halt>
+) -> Result<Found<(), ImageSize>, Halt>
     requires few { listed.seen ≤ listed.count }
     requires head { HEAD ≡ head_bytes listed.header.version }
     requires value { VALUE ≡ value_bytes listed.header.version }
-    ensures nears { IfOk result (λ found. Nears (S.state source.old) (S.state source.new) offset (said_at offset found)) }
-    ensures steady { IfOk result (λ found. StaysSteady (said_at offset found)) }
-    ensures runs { Follows (S.state source.old) (S.state source.new) (map_answer (said_at offset) result) (step (awaited.Entry listed) offset) }
+    ensures nears { IfOk (leading_to next.new result) (λ found. Nears (S.state source.old) (S.state source.new) offset (said_at offset found)) }
+    ensures steady { IfOk (leading_to next.new result) (λ found. StaysSteady (said_at offset found)) }
+    ensures stays { IfErr result (λ _. next.new ≡ next.old) }
+    ensures runs { Follows (S.state source.old) (S.state source.new) (map_answer (said_at offset) (leading_to next.new result)) (step (awaited.Entry listed) offset) }
 {
     let Listed {
         header,
@@ -406,62 +422,81 @@ fn read_entry_of<S: Source, const HEAD: usize, const VALUE: usize>(
     match entries.read_next(source, offset)? {
         Found::Answer(size) => Ok(Found::Answer(size)),
         Found::Other { length, .. } => {
-            let held = Awaited::Entry(Listed {
+            *next = Awaited::Entry(Listed {
                 header,
                 count,
                 seen: entries.seen,
                 width: entries.width,
                 height: entries.height,
             });
-            Ok(Found::Other { held, length })
+            Ok(Found::Other { held: (), length })
         }
     }
 }
 
 #[tactic(auto, using(imagesize_source::proofs::Runs::steps, imagesize_source::proofs::Runs::missed_before, imagesize_source::proofs::Layouts::binding))]
-fn read_meta<S: Source>(source: &mut S, offset: u64) -> Result<Found<Awaited, ImageSize>, Halt>
-    ensures nears { IfOk result (λ found. Nears (S.state source.old) (S.state source.new) offset (said_at offset found)) }
-    ensures steady { IfOk result (λ found. StaysSteady (said_at offset found)) }
-    ensures runs { Follows (S.state source.old) (S.state source.new) (map_answer (said_at offset) result) (step awaited.Meta offset) }
+fn read_meta<S: Source>(
+    next: &mut Awaited,
+    source: &mut S,
+    offset: u64,
+) -> Result<Found<(), ImageSize>, Halt>
+    ensures nears { IfOk (leading_to next.new result) (λ found. Nears (S.state source.old) (S.state source.new) offset (said_at offset found)) }
+    ensures steady { IfOk (leading_to next.new result) (λ found. StaysSteady (said_at offset found)) }
+    ensures stays { IfErr result (λ _. next.new ≡ next.old) }
+    ensures runs { Follows (S.state source.old) (S.state source.new) (map_answer (said_at offset) (leading_to next.new result)) (step awaited.Meta offset) }
 {
     match read_box(source, offset, b"meta")? {
         Found::Answer(_) => {
             heif::read_content::<S, 4>(source, offset)?;
+            *next = Awaited::Iprp;
             Ok(Found::Other {
-                held: Awaited::Iprp,
+                held: (),
                 length: 12,
             })
         }
-        Found::Other { length, .. } => Ok(Found::Other {
-            held: Awaited::Meta,
-            length,
-        }),
+        Found::Other { length, .. } => {
+            *next = Awaited::Meta;
+            Ok(Found::Other { held: (), length })
+        }
     }
 }
 
 #[tactic(auto, using(imagesize_source::proofs::Runs::steps, imagesize_source::proofs::Runs::missed_before, imagesize_source::proofs::Layouts::binding))]
-fn read_iprp<S: Source>(source: &mut S, offset: u64) -> Result<Found<Awaited, ImageSize>, Halt>
-    ensures nears { IfOk result (λ found. Nears (S.state source.old) (S.state source.new) offset (said_at offset found)) }
-    ensures steady { IfOk result (λ found. StaysSteady (said_at offset found)) }
-    ensures runs { Follows (S.state source.old) (S.state source.new) (map_answer (said_at offset) result) (step awaited.Iprp offset) }
+fn read_iprp<S: Source>(
+    next: &mut Awaited,
+    source: &mut S,
+    offset: u64,
+) -> Result<Found<(), ImageSize>, Halt>
+    ensures nears { IfOk (leading_to next.new result) (λ found. Nears (S.state source.old) (S.state source.new) offset (said_at offset found)) }
+    ensures steady { IfOk (leading_to next.new result) (λ found. StaysSteady (said_at offset found)) }
+    ensures stays { IfErr result (λ _. next.new ≡ next.old) }
+    ensures runs { Follows (S.state source.old) (S.state source.new) (map_answer (said_at offset) (leading_to next.new result)) (step awaited.Iprp offset) }
 {
     match read_box(source, offset, b"iprp")? {
-        Found::Answer(_) => Ok(Found::Other {
-            held: Awaited::Ipco,
-            length: 8,
-        }),
-        Found::Other { length, .. } => Ok(Found::Other {
-            held: Awaited::Iprp,
-            length,
-        }),
+        Found::Answer(_) => {
+            *next = Awaited::Ipco;
+            Ok(Found::Other {
+                held: (),
+                length: 8,
+            })
+        }
+        Found::Other { length, .. } => {
+            *next = Awaited::Iprp;
+            Ok(Found::Other { held: (), length })
+        }
     }
 }
 
 #[tactic(auto, using(imagesize_source::proofs::Runs::steps, imagesize_source::proofs::Runs::missed_before, imagesize_source::proofs::Layouts::binding))]
-fn read_ipco<S: Source>(source: &mut S, offset: u64) -> Result<Found<Awaited, ImageSize>, Halt>
-    ensures nears { IfOk result (λ found. Nears (S.state source.old) (S.state source.new) offset (said_at offset found)) }
-    ensures steady { IfOk result (λ found. StaysSteady (said_at offset found)) }
-    ensures runs { Follows (S.state source.old) (S.state source.new) (map_answer (said_at offset) result) (step awaited.Ipco offset) }
+fn read_ipco<S: Source>(
+    next: &mut Awaited,
+    source: &mut S,
+    offset: u64,
+) -> Result<Found<(), ImageSize>, Halt>
+    ensures nears { IfOk (leading_to next.new result) (λ found. Nears (S.state source.old) (S.state source.new) offset (said_at offset found)) }
+    ensures steady { IfOk (leading_to next.new result) (λ found. StaysSteady (said_at offset found)) }
+    ensures stays { IfErr result (λ _. next.new ≡ next.old) }
+    ensures runs { Follows (S.state source.old) (S.state source.new) (map_answer (said_at offset) (leading_to next.new result)) (step awaited.Ipco offset) }
 {
     match read_box(source, offset, b"ipco")? {
         Found::Answer(ipco) => {
@@ -470,33 +505,37 @@ fn read_ipco<S: Source>(source: &mut S, offset: u64) -> Result<Found<Awaited, Im
                 best: None,
                 turn: None,
             };
+            *next = Awaited::Property(gathered);
             Ok(Found::Other {
-                held: Awaited::Property(gathered),
+                held: (),
                 length: 8,
             })
         }
-        Found::Other { length, .. } => Ok(Found::Other {
-            held: Awaited::Ipco,
-            length,
-        }),
+        Found::Other { length, .. } => {
+            *next = Awaited::Ipco;
+            Ok(Found::Other { held: (), length })
+        }
     }
 }
 
 #[tactic(auto, using(imagesize_source::proofs::Runs::steps, imagesize_source::proofs::Layouts::binding))]
 fn read_listed<S: Source>(
+    next: &mut Awaited,
     source: &mut S,
     offset: u64,
     gathered: Gathered,
-) -> Result<Found<Awaited, ImageSize>, Halt>
-    ensures nears { IfOk result (λ found. Nears (S.state source.old) (S.state source.new) offset (said_at offset found)) }
-    ensures steady { IfOk result (λ found. StaysSteady (said_at offset found)) }
-    ensures runs { Follows (S.state source.old) (S.state source.new) (map_answer (said_at offset) result) (step (awaited.Property gathered) offset) }
+) -> Result<Found<(), ImageSize>, Halt>
+    ensures nears { IfOk (leading_to next.new result) (λ found. Nears (S.state source.old) (S.state source.new) offset (said_at offset found)) }
+    ensures steady { IfOk (leading_to next.new result) (λ found. StaysSteady (said_at offset found)) }
+    ensures stays { IfErr result (λ _. next.new ≡ next.old) }
+    ensures runs { Follows (S.state source.old) (S.state source.new) (map_answer (said_at offset) (leading_to next.new result)) (step (awaited.Property gathered) offset) }
 {
     let Some(property) = heif::read_property(source, offset, gathered.left)? else {
         return Ok(Found::Answer(heif::answer(gathered)?));
     };
+    *next = Awaited::Property(heif::gather(gathered, property));
     Ok(Found::Other {
-        held: Awaited::Property(heif::gather(gathered, property)),
+        held: (),
         length: heif::property_bytes(property),
     })
 }
@@ -513,14 +552,16 @@ pub(crate) fn keep(front: &Front) -> Kept
 }
 
 fn read_jxl_box<S: Source>(
+    next: &mut Awaited,
     source: &mut S,
     offset: u64,
     kept: Kept,
-) -> Result<Found<Awaited, ImageSize>, Halt>
+) -> Result<Found<(), ImageSize>, Halt>
     requires { kept.len ≤ 16 }
-    ensures nears { IfOk result (λ found. Nears (S.state source.old) (S.state source.new) offset (said_at offset found)) }
-    ensures steady { IfOk result (λ found. StaysSteady (said_at offset found)) }
-    ensures runs { Follows (S.state source.old) (S.state source.new) (map_answer (said_at offset) result) (step (awaited.Box kept) offset) }
+    ensures nears { IfOk (leading_to next.new result) (λ found. Nears (S.state source.old) (S.state source.new) offset (said_at offset found)) }
+    ensures steady { IfOk (leading_to next.new result) (λ found. StaysSteady (said_at offset found)) }
+    ensures stays { IfErr result (λ _. next.new ≡ next.old) }
+    ensures runs { Follows (S.state source.old) (S.state source.new) (map_answer (said_at offset) (leading_to next.new result)) (step (awaited.Box kept) offset) }
 {
     let mut front = Front::of(kept.bytes, kept.len);
     match jxl::boxes::read_box(source, offset, &front)? {
@@ -530,8 +571,8 @@ fn read_jxl_box<S: Source>(
         }
         Found::Other { held, length } => {
             front.extend(held.as_slice());
-            let held = Awaited::Box(keep(&front));
-            Ok(Found::Other { held, length })
+            *next = Awaited::Box(keep(&front));
+            Ok(Found::Other { held: (), length })
         }
     }
 }

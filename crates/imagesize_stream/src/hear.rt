@@ -1,12 +1,13 @@
 //! What the first bytes of an image say about its type and its size.
-ghost use Rattle.std.specs.Prelude.{◌≡◌, ◌<◌, ◌≤◌, ◌^◌, ◌&&◌, not, Ok, length};
+ghost use Rattle.std.specs.Prelude.{◌≡◌, ◌<◌, ◌≤◌, ◌^◌, ◌&&◌, false, not, Ok, length};
 ghost use Rattle.imagesize_fixed.specs.Tga.{lacks_its_map};
 ghost use Rattle.imagesize.specs.Meaning.{kind_reads};
 ghost use Rattle.imagesize_pieces.specs.Stream.{Says};
 ghost use Rattle.imagesize_source.specs.Layout.{layout_reads};
+ghost use Rattle.imagesize_source.specs.Reading.{is_stopped};
 ghost use Rattle.imagesize_stream.specs.declared.front.First.TheVariants as first;
 ghost use Rattle.imagesize_stream.specs.Streamed.{first_layout};
-ghost use Rattle.imagesize_stream.specs.Heard.{EndsBehind, Hears, IfMissing};
+ghost use Rattle.imagesize_stream.specs.Heard.{EndsBehind, Hears, IfAnswer, IfMissing};
 
 use crate::awaited::Awaited;
 use crate::front::{First, FirstBytes, FirstSize, Opening, TgaHeader, TgaSize};
@@ -51,6 +52,7 @@ pub(crate) fn hear(bytes: &[u8], told: u64) -> Heard
     ensures few { IfMissing result (length bytes.now < 132) }
     ensures ends { EndsBehind bytes.now told result }
     ensures whole { told ≤ length bytes.now → IfMissing result ⊥ }
+    ensures unstopped { IfAnswer result (λ size. is_stopped size ≡ false) }
 {
     let (found, end) = read_front(&FirstBytes, bytes, told);
     if is_faulted(&found) {
@@ -80,6 +82,7 @@ fn hear_size(image: ImageType, bytes: &[u8], told: u64) -> Heard
     ensures few { IfMissing result (length bytes.now < 132) }
     ensures ends { EndsBehind bytes.now told result }
     ensures whole { told ≤ length bytes.now → IfMissing result ⊥ }
+    ensures unstopped { IfAnswer result (λ size. is_stopped size ≡ false) }
 {
     let (found, end) = read_front(&FirstSize { image }, bytes, told);
     if is_faulted(&found) {
@@ -119,6 +122,7 @@ fn hear_tga(head: &[u8; 12], bytes: &[u8], told: u64) -> Heard
     ensures few { IfMissing result (length bytes.now < 132) }
     ensures ends { EndsBehind bytes.now told result }
     ensures whole { told ≤ length bytes.now → IfMissing result ⊥ }
+    ensures unstopped { IfAnswer result (λ size. is_stopped size ≡ false) }
 {
     if told < 18 {
         return Heard::Answer {

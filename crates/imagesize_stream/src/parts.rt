@@ -40,11 +40,12 @@ pub struct PartsProbe {
 }
 
 impl PartsProbe {
-    ghost use Rattle.std.specs.Prelude.{◌≡◌, ◌⊎◌, ℕ, ◌+◌, ◌-◌, ◌<◌, ◌≤◌, ◌^◌, List, length, min};
+    ghost use Rattle.std.specs.Prelude.{◌≡◌, ◌⊎◌, ℕ, ◌+◌, ◌-◌, ◌<◌, ◌≤◌, ◌^◌, false, List, length, min};
     ghost use Rattle.imagesize.specs.Meaning.{meaning};
     ghost use Rattle.imagesize.specs.Parted.{Fits, IfFound, IsProbed};
     ghost use Rattle.imagesize.specs.declared.parts.PartsAnswer.TheVariants as answer;
     ghost use Rattle.imagesize_pieces.specs.Stream.{AllBelow};
+    ghost use Rattle.imagesize_source.specs.Errors.{is_stopped};
     ghost use Rattle.imagesize_stream.specs.Given.{HasPart};
     ghost use Rattle.imagesize_stream.specs.Parts.{HasMarked, IfWanted, MayBe, next_of, total_of};
 
@@ -77,6 +78,9 @@ impl PartsProbe {
         // The result depends on a byte of the span. Which bytes of a TGA's header it depends on is known after its last bytes. So
         // a caller that supplied 12 to 17 bytes is asked for the rest of the 18, whether or not the result depends on them.
         ensures within { (d : List ℕ) → MayBe self.now d → IfWanted result (λ w. (w.start < 12) ⊎ (18 ≤ w.start) → HasMarked w d) }
+
+        // No result is a fault, a spent budget or a lack of memory.
+        ensures unstopped { IfFound result (λ found. is_stopped found.1 ≡ false) }
 
         // The span has 1,024 bytes at most.
         ensures short { IfWanted result (λ w. w.len ≤ 1024) }

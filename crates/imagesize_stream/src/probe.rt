@@ -1,8 +1,9 @@
 //! A push parser: the caller passes the bytes of an image as they arrive, in chunks of any length.
-ghost use Rattle.std.specs.Prelude.{◌≡◌, ℕ, ◌+◌, ◌-◌, ◌<◌, ◌≤◌, ◌^◌, ◌++◌, [], List, length, take, max, min, Option, None, Some, IfSome, unwrap_or};
+ghost use Rattle.std.specs.Prelude.{◌≡◌, ℕ, ◌+◌, ◌-◌, ◌<◌, ◌≤◌, ◌^◌, ◌++◌, [], false, List, length, take, max, min, Option, None, Some, IfSome, unwrap_or};
 ghost use Rattle.std.specs.Result.{result_ok};
 ghost use Rattle.imagesize.specs.Meaning.{kind_of, meaning};
 ghost use Rattle.imagesize_pieces.specs.Stream.{AllBelow, Begins};
+ghost use Rattle.imagesize_source.specs.Errors.{is_stopped};
 ghost use Rattle.imagesize_source.specs.Outcome.{stated};
 ghost use Rattle.imagesize_stream.specs.Given.{HasPart, IsGiven, MayBeAt};
 ghost use Rattle.imagesize_stream.specs.Heard.{RestsOnMore};
@@ -95,6 +96,9 @@ impl StreamProbe {
             → Begins (front ++ take (told_of self.old - length front) chunk.now) (told_of self.old) d → length d ≡ told_of self.old
             → AllBelow (length front + length (take (told_of self.old - length front) chunk.now)) (meaning d 0).marks → ⊥ }
         ensures whole { result ≡ None → (front : List ℕ) → Came self.old front → told_of self.old ≤ length front + length chunk.now → ⊥ }
+
+        // No result is a fault, a spent budget or a lack of memory.
+        ensures unstopped { IfSome result (λ answer. is_stopped answer.1 ≡ false) }
     {
         self.take_in(chunk);
         self.answer()
@@ -113,6 +117,7 @@ impl StreamProbe {
     pub fn finish(mut self) -> (Option<ImageType>, ImageResult<ImageSize>)
         ensures kind { (front : List ℕ) → Came self front → result.0 ≡ result_ok (kind_of front 0).answer }
         ensures size { (front : List ℕ) → Came self front → result.1 ≡ (meaning front 0).answer }
+        ensures unstopped { is_stopped result.1 ≡ false }
     {
         if let Some(answer) = self.answer() {
             return answer;
@@ -175,7 +180,8 @@ impl StreamProbe {
 
     // The type and the size, once they are known.
     pub(crate) fn answer(&self) -> Option<(Option<ImageType>, ImageResult<ImageSize>)>
-        ensures { result ≡ answer_of self.now }
+        ensures is { result ≡ answer_of self.now }
+        ensures unstopped { IfSome result (λ answer. is_stopped answer.1 ≡ false) }
     {
         match self.stage {
             Stage::Done { size } => Some((self.kind, stated(size))),

@@ -28,12 +28,12 @@ impl Records for Sizes {
         source: &mut S,
         offset: u64,
     ) -> Result<Found<Awaited, ImageSize>, Halt> {
-        match self.next.read(source, offset)? {
+        match self.next.advance(source, offset)? {
             Found::Answer(size) => Ok(Found::Answer(size)),
-            Found::Other { held, length } => {
-                self.next = held;
-                Ok(Found::Other { held, length })
-            }
+            Found::Other { length, .. } => Ok(Found::Other {
+                held: self.next,
+                length,
+            }),
         }
     }
 

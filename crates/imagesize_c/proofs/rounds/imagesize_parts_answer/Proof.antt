@@ -1,10 +1,11 @@
 -- `imagesize_parts_answer` meets its contract: the memory behind the pointer is lent, as shared, for a lifetime made for the call
 -- of `answer_by`, and comes back once that is over. All other parameters are passed on as they are.
+use Rattle.std.specs.Prelude.{◌⊎◌, ◌<◌, ◌≤◌}
 use Rattle.imagesize_c.proofs.Walks.{◌≡◌, ℕ, true, false, List, [], ◌∷◌, refl, w32, Bor, proved, full_share, id⊢, flft, flent, named, Val, vptr, fact, tables, WpFn, ‵, raw, ◌⊛◌, some, later, prop, ◌$◌, ◌∵◌, !, qed, done, move, keep, drop, use1, use2, split, join, fsplit, pick, await, regoal, suffices, frame, group, lft_new, lft_end, lent_back, enter, addr, stop, no_more, and_then, returns, alloc_all, pass_all, free_all, look_at, get, through, sets, lands_as, u32, u64, yes, Is, shows, lends_shr, part_at, uint_Lawful, Ptr, ptr_val, RawPtr, block_ptr, lies_at, in_a_block, rawptr_vals, rawptr_Tells, MutRef, mut_vals, mut_Tells, ShrRef, plain, nothing, peeks, calls_at, lasts, triple_of, framed, Stays, walk_of, stay_dropped, Goes-dropped, gave_ref, Goes-gave_ref, ends_at, RattleType, owns, alive, ⊑_static, Incl-refl}
 use Rattle.imagesize_stream.specs.contracts.parts.PartsProbe.{the_row as R}
 use Rattle.imagesize_stream.proofs.parts.PartsProbe.TheLaws.{the_row_laws}
 use Rattle.imagesize_stream.specs.declared.parts.PartsProbe.{PartsProbe}
-use Rattle.imagesize_stream.specs.Parts.{MayBe, next_of, total_of}
+use Rattle.imagesize_stream.specs.Parts.{HasMarked, MayBe, next_of, total_of}
 use Rattle.imagesize_source.specs.contracts.span.Span.{the_row as S}
 use Rattle.imagesize_source.specs.declared.span.Span.{Span}
 use Rattle.std.specs.Result.{result_ok}
@@ -12,7 +13,7 @@ use Rattle.imagesize.specs.Meaning.{kind_of, meaning}
 use Rattle.imagesize.specs.Parted.{IsWithin}
 use Rattle.imagesize_pieces.specs.Stream.{AllBelow}
 use Rattle.imagesize_c.specs.Rounds.{TellsNext}
-use Rattle.imagesize_c.specs.Status.{is_answered, is_wanted, status_of}
+use Rattle.imagesize_c.specs.Status.{is_answered, is_stop_status, is_wanted, status_of}
 use Rattle.imagesize_c.specs.Told.{TellsSize, TellsType}
 use Rattle.imagesize_c.specs.contracts.rounds.imagesize_parts_answer as f
 use Rattle.imagesize_c.proofs.rounds.imagesize_parts_answer.Statement.{statement}
@@ -81,10 +82,14 @@ imagesize_parts_answer_spec 𝓤 𝓛 𝓜 𝓡 wired =
     raw (fact 𝓤 ((d : List ℕ) → MayBe held d → is_wanted r ≡ false
     → TellsSize (meaning d 0).answer width.now w height.now h)) ⊛
     raw (fact 𝓤 ((d : List ℕ) → MayBe held d → is_wanted r ≡ true → AllBelow span.start (meaning d 0).marks → ⊥)) ⊛
+    raw (fact 𝓤 ((d : List ℕ) → MayBe held d → is_wanted r ≡ true → (span.start < 12) ⊎ (18 ≤ span.start)
+    → HasMarked span d)) ⊛
     raw (fact 𝓤 (is_wanted r ≡ true → IsWithin (total_of held) span)) ⊛
+    raw (fact 𝓤 (is_wanted r ≡ true → span.len ≤ 1024)) ⊛
     raw (fact 𝓤 (is_wanted r ≡ true → (n ≡ number.now) × (m ≡ compression.now))) ⊛
     raw (fact 𝓤 (is_answered r ≡ false → (w ≡ width.now) × (h ≡ height.now))) ⊛
     raw (fact 𝓤 (is_wanted r ≡ false → span ≡ wanted.now)) ⊛
+    raw (fact 𝓤 (is_stop_status r ≡ false)) ⊛
     raw (fact 𝓤 (TellsNext (next_of held) r number.now n compression.now m width.now w height.now h wanted.now span)) in
     qed 𝓛 ((Tokens ⊛ ‵ (RawPtr.own_val a.0 (rawptr_vals a.0)) ⊛ ‵ (owns Rs a.1 vss))
     ∷ ‵ (lies_at R full_share a.0 held) ∷ []) ∵
@@ -135,4 +140,5 @@ imagesize_parts_answer_spec 𝓤 𝓛 𝓜 𝓡 wired =
     move ! (2 ∷ []) $ nothing ! $ join ! $ move ! (4 ∷ 0 ∷ 1 ∷ []) $ group ! 3 $ frame ! $
     -- [what lies there; the facts]
     move ! (1 ∷ []) $ split ! $ frame ! $ split ! $ frame ! $ split ! $ frame ! $ split ! $ frame ! $
-    split ! $ frame ! $ split ! $ frame ! $ split ! $ frame ! $ split ! $ frame ! $ frame ! $ done !))))))))
+    split ! $ frame ! $ split ! $ frame ! $ split ! $ frame ! $ split ! $ frame ! $ split ! $ frame ! $
+    split ! $ frame ! $ split ! $ frame ! $ frame ! $ done !))))))))

@@ -6,7 +6,7 @@ use Rattle.imagesize_stream.proofs.probe.StreamProbe.TheLaws.{the_row_laws}
 use Rattle.imagesize_stream.specs.Pushed.{Came}
 use Rattle.std.specs.Result.{result_ok}
 use Rattle.imagesize.specs.Meaning.{kind_of, meaning}
-use Rattle.imagesize_c.specs.Status.{is_answered, is_wanted, status_of}
+use Rattle.imagesize_c.specs.Status.{is_answered, is_stop_status, is_wanted, status_of}
 use Rattle.imagesize_c.specs.Told.{TellsSize, TellsType}
 use Rattle.imagesize_c.specs.contracts.streams.imagesize_stream_finish as f
 use Rattle.imagesize_c.proofs.streams.imagesize_stream_finish.Statement.{statement}
@@ -67,7 +67,8 @@ imagesize_stream_finish_spec 𝓤 𝓛 𝓜 𝓡 wired =
     → TellsType (result_ok (kind_of front 0).answer) number.now n compression.now m)) ⊛
     raw (fact 𝓤 ((front : List ℕ) → Came held front → TellsSize (meaning front 0).answer width.now w height.now h)) ⊛
     raw (fact 𝓤 (is_wanted r ≡ false)) ⊛
-    raw (fact 𝓤 (is_answered r ≡ false → (w ≡ width.now) × (h ≡ height.now))) in
+    raw (fact 𝓤 (is_answered r ≡ false → (w ≡ width.now) × (h ≡ height.now))) ⊛
+    raw (fact 𝓤 (is_stop_status r ≡ false)) in
     qed 𝓛 ((Tokens ⊛ ‵ (RawPtr.own_val a.0 (rawptr_vals a.0)) ⊛ ‵ (owns Rs a.1 vss))
     ∷ ‵ (lies_at R full_share a.0 held) ∷ []) ∵
     split ! $ move ! (1 ∷ []) $ split ! $ keep ! (3 ∷ 2 ∷ 1 ∷ []) $
@@ -109,4 +110,4 @@ imagesize_stream_finish_spec 𝓤 𝓛 𝓜 𝓡 wired =
     move ! (2 ∷ []) $ nothing ! $ join ! $ move ! (4 ∷ 0 ∷ 1 ∷ []) $ group ! 3 $ frame ! $
     -- [the memory; the facts]
     move ! (1 ∷ []) $ split ! $ frame ! $ split ! $ frame ! $ split ! $ frame ! $
-    split ! $ frame ! $ frame ! $ done !)))))))))
+    split ! $ frame ! $ split ! $ frame ! $ frame ! $ done !)))))))))

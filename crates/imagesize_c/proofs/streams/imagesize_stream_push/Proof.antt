@@ -7,7 +7,7 @@ use Rattle.imagesize_stream.specs.Pushed.{Came, answer_of, told_of}
 use Rattle.std.specs.Result.{result_ok}
 use Rattle.imagesize.specs.Meaning.{kind_of, meaning}
 use Rattle.imagesize_pieces.specs.Stream.{AllBelow}
-use Rattle.imagesize_c.specs.Status.{is_answered, is_wanted, status_of}
+use Rattle.imagesize_c.specs.Status.{is_answered, is_stop_status, is_wanted, status_of}
 use Rattle.imagesize_c.specs.Streams.{GoesOn, OfEach, TellsProbed}
 use Rattle.imagesize_c.specs.Told.{TellsSize, TellsType}
 use Rattle.imagesize_c.specs.contracts.streams.imagesize_stream_push as f
@@ -92,6 +92,7 @@ imagesize_stream_push_spec 𝓤 𝓛 𝓜 𝓡 wired =
     → told_of held ≤ length front + length chunk.now → ⊥)) ⊛
     raw (fact 𝓤 (is_wanted r ≡ true → (n ≡ number.now) × (m ≡ compression.now))) ⊛
     raw (fact 𝓤 (is_answered r ≡ false → (w ≡ width.now) × (h ≡ height.now))) ⊛
+    raw (fact 𝓤 (is_stop_status r ≡ false)) ⊛
     raw (fact 𝓤 (GoesOn held after chunk.now)) ⊛
     raw (fact 𝓤 (Tells after n m w h r)) in
     qed 𝓛 ((Tokens ⊛ ‵ (RawPtr.own_val a.0 (rawptr_vals a.0)) ⊛ ‵ (owns Rs a.1 vss))
@@ -144,7 +145,7 @@ imagesize_stream_push_spec 𝓤 𝓛 𝓜 𝓡 wired =
     keep ! (3 ∷ 0 ∷ 1 ∷ 4 ∷ 5 ∷ []) $ nothing ! $ join ! $ move ! (4 ∷ 0 ∷ 1 ∷ []) $ group ! 3 $ frame ! $
     -- [what lies there; the facts]
     move ! (1 ∷ []) $ split ! $ frame ! $ split ! $ frame ! $ split ! $ frame ! $ split ! $ frame ! $
-    split ! $ frame ! $ split ! $ frame ! $ split ! $ frame ! $
+    split ! $ frame ! $ split ! $ frame ! $ split ! $ frame ! $ split ! $ frame ! $
     split ! $ heard ! _ (λ goes_on. heard ! _ (λ told.
     show ! (λ (after : StreamProbe). sep 𝓤 (sem 𝓛 (lies_at R full_share (block_ptr b o) after))
     (fact 𝓤 (GoesOn held after chunk.now × Tells after ws.1.1.0 ws.1.1.1.0 ws.1.1.1.1.0 ws.1.1.1.1.1.0 r))) ws.0 $

@@ -1,23 +1,11 @@
-use Rattle.std.proofs.Common.{◌+◌, rules, [], refl}
-use Rattle.imagesize_source.specs.Chain.{Decided, Next}
-use Rattle.imagesize_stream.specs.Steps.{after, decides}
-use Rattle.imagesize_stream.proofs.Behind.{runs_off, runs_on}
+use Rattle.std.proofs.Common.{[]}
+use Rattle.imagesize_stream.proofs.Behind.{nears_same, runs_same}
 use Rattle.imagesize_stream.proofs.awaited.read_same.Goals as goal
 
-pub returns-in_err-size-clause-runs : goal.returns-in_err-size-clause-runs
-returns-in_err-size-clause-runs g c =
-    let h = runs_off (g.R.Records.said c.args.records.now [] c.args.offset) (after (λ _. c.args.next) decides) _
-    (c.in_err-size.ensures.runs [] c.requires.keeps) in
-    search (rules, h)
+pub returns-clause-nears : goal.returns-clause-nears
+returns-clause-nears g c = λ next. nears_same (g.S.Source.state c.args.source.now) (g.S.Source.state c.read_record.new.source) next c.args.offset c.read_record.result c.read_record.ensures.nears
 
-pub returns-in-Answer-clause-runs : goal.returns-in-Answer-clause-runs
-returns-in-Answer-clause-runs g c =
-    runs_on (g.R.Records.said c.args.records.now [] c.args.offset) (after (λ _. c.args.next) decides)
-    (Decided c.in-Answer.size) _ refl
-    (rw c.in-Answer.is at c.in_ok-size.ensures.runs [] c.requires.keeps)
-
-pub returns-in-Other-clause-runs : goal.returns-in-Other-clause-runs
-returns-in-Other-clause-runs g c =
-    runs_on (g.R.Records.said c.args.records.now [] c.args.offset) (after (λ _. c.args.next) decides)
-    (Next c.in-Other.held (c.args.offset + c.in-Other.length)) _ refl
-    (rw c.in-Other.is at c.in_ok-size.ensures.runs [] c.requires.keeps)
+pub returns-clause-runs : goal.returns-clause-runs
+returns-clause-runs g c = λ next.
+    runs_same (g.R.Records.said c.args.records.now [] c.args.offset) next c.args.offset c.read_record.result
+    (c.read_record.ensures.runs [] c.requires.keeps)

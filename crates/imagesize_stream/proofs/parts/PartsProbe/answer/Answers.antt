@@ -6,7 +6,7 @@ use Rattle.imagesize_stream.proofs.parts.PartsProbe.answer.Goals as goal
 pub returns-in-None-clause-within : goal.returns-in-None-clause-within
 returns-in-None-clause-within c = λ d may out.
     let s = c.args.self.now.probe in
-    let none = sym c.answer.ensures ∙ c.in-None.is in
+    let none = sym c.answer.ensures.is ∙ c.in-None.is in
     let next = next_none s.kind s.stage s.stand.passed s.stand.end s.stand.told none c.args.self.now.next in
     let marked = marked_none s.kind s.stage s.stand.start s.stand.passed s.stand.end (meaning_reads d 0).marks none
     may.marked out in
@@ -15,6 +15,6 @@ returns-in-None-clause-within c = λ d may out.
 pub returns-in-None-clause-short : goal.returns-in-None-clause-short
 returns-in-None-clause-short c =
     let s = c.args.self.now.probe in
-    let next = next_none s.kind s.stage s.stand.passed s.stand.end s.stand.told (sym c.answer.ensures ∙ c.in-None.is)
+    let next = next_none s.kind s.stage s.stand.passed s.stand.end s.stand.told (sym c.answer.ensures.is ∙ c.in-None.is)
     c.args.self.now.next in
     omega (arith, next.2)

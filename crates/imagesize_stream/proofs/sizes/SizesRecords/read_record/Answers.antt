@@ -6,6 +6,6 @@ use Rattle.imagesize_stream.proofs.sizes.SizesRecords.read_record.Goals as goal
 
 pub returns-in-Other-clause-keeps : goal.returns-in-Other-clause-keeps
 returns-in-Other-clause-keeps g c = λ held kept. (
-  ap (λ o. unwrap_or o Chunk) (last_push None held c.in-Other.held),
+  ap (λ o. unwrap_or o Chunk) (last_push None held c.advance.new.self),
   rw c.in-Other.is at c.in_ok-size.ensures.steady,
 )
