@@ -354,14 +354,14 @@ void imagesize_parts_new(imagesize_parts *parts, uint64_t total);
  *
  * Bytes before the requested span are ignored, and so are bytes past the end of the input. If `offset` lies after the start of the
  * requested span, or if there is a result already, nothing changes. If the byte at the start of the requested span is among them, a
- * result or a later span follows.
+ * result or a later span follows. If all bytes of the span are, a result or a span after it follows.
  */
 void imagesize_parts_supply(imagesize_parts *parts, uint64_t offset, const uint8_t *bytes, size_t length);
 
 /*
  * Reads type and size from the spans that were passed, or asks for another one. The memory of the probe does not change.
  *
- * If another span is needed, the status is IMAGESIZE_BYTES_WANTED, and only `wanted` is written. It has at least one byte and lies
+ * If another span is needed, the status is IMAGESIZE_BYTES_WANTED, and only `wanted` is written. It has 1 to 1,024 bytes and lies
  * within the input. The result depends on a byte at its start or after it. The caller may fetch all of `wanted`, a block from its start on
  * or around it, or its first byte alone.
  *
@@ -373,12 +373,12 @@ uint32_t imagesize_parts_answer(const imagesize_parts *parts, uint32_t *type, ui
 
 /*
  * Lists the bytes that type and size depend on: a span for each read, in order, with repeats. Every other input of this length
- * with the same bytes there has the same type and size, or the same error. `count` is set to the number of spans. At most `room`
+ * with the same bytes there has the same type and size, or the same error. `count` is set to the number of spans. At most `capacity`
  * spans are written. An ordinary image has from a few to some dozens of spans. A hostile one has about as many as it has bytes.
  *
  * The spans are written also if the size has an error. Error: IMAGESIZE_BUFFER_TOO_SMALL.
  */
-uint32_t imagesize_spans(const uint8_t *bytes, size_t length, imagesize_span *spans, size_t room, size_t *count);
+uint32_t imagesize_spans(const uint8_t *bytes, size_t length, imagesize_span *spans, size_t capacity, size_t *count);
 
 /*
  * PNG has calls of its own. The calls above leave it out, and it has no number. To find PNG too, call one of these first. If it returns
@@ -415,16 +415,16 @@ uint32_t imagesize_png_parts_size(const uint8_t *bytes, size_t length, const ima
  *
  * Errors: IMAGESIZE_UNKNOWN_TYPE if no type has these two numbers, and then nothing is written; IMAGESIZE_BUFFER_TOO_SMALL.
  */
-uint32_t imagesize_type_name(uint32_t type, uint32_t compression, char *text, size_t room, size_t *written);
-uint32_t imagesize_compression_name(uint32_t type, uint32_t compression, char *text, size_t room, size_t *written);
-uint32_t imagesize_container_format(uint32_t type, uint32_t compression, char *text, size_t room, size_t *written);
+uint32_t imagesize_type_name(uint32_t type, uint32_t compression, char *text, size_t capacity, size_t *written);
+uint32_t imagesize_compression_name(uint32_t type, uint32_t compression, char *text, size_t capacity, size_t *written);
+uint32_t imagesize_container_format(uint32_t type, uint32_t compression, char *text, size_t capacity, size_t *written);
 
 /*
  * Writes the text of a status, for people. The texts of IMAGESIZE_NO_DELIMITER and of the two invalid box sizes have no number.
  *
  * Errors: IMAGESIZE_UNKNOWN_STATUS, and then nothing is written; IMAGESIZE_BUFFER_TOO_SMALL.
  */
-uint32_t imagesize_status_text(uint32_t status, char *text, size_t room, size_t *written);
+uint32_t imagesize_status_text(uint32_t status, char *text, size_t capacity, size_t *written);
 
 /*
  * Gives the family of a type's compression; whether it is a block compression (1 or 0); and whether the type's container can hold

@@ -138,14 +138,14 @@ export class Library {
   }
 
   #spansOf(pieces, length, most) {
-    const room = AT.lent + Math.ceil(length / SPAN) * SPAN;
-    this.#lend(room);
+    const buffer = AT.lent + Math.ceil(length / SPAN) * SPAN;
+    this.#lend(buffer);
     for (const { start, bytes } of pieces) this.#bytes.set(bytes, this.#base + AT.lent + start);
-    const count = this.#tellSpans(length, room, 0);
+    const count = this.#tellSpans(length, buffer, 0);
     checkCount(count, most);
-    this.#lend(room + SPAN * count);
-    this.#tellSpans(length, room, count);
-    return Array.from({ length: count }, (_, index) => this.#span(room + SPAN * index));
+    this.#lend(buffer + SPAN * count);
+    this.#tellSpans(length, buffer, count);
+    return Array.from({ length: count }, (_, index) => this.#span(buffer + SPAN * index));
   }
 
   // The spans of a PNG with these first bytes: each requested span in turn.
@@ -175,9 +175,9 @@ export class Library {
     return this.#bytes.subarray(start, start + STATE_SIZE);
   }
 
-  #tellSpans(length, room, count) {
+  #tellSpans(length, buffer, count) {
     this.#calls.imagesize_spans(
-      this.#pointer(AT.lent), BigInt(length), this.#pointer(room), BigInt(count), this.#pointer(AT.count),
+      this.#pointer(AT.lent), BigInt(length), this.#pointer(buffer), BigInt(count), this.#pointer(AT.count),
     );
     return this.#number(AT.count);
   }
@@ -198,20 +198,20 @@ export class Library {
 
   // The bytes of pieces, one piece after another.
   #putPieces(at, pieces) {
-    let place = this.#base + at;
+    let offset = this.#base + at;
     for (const { bytes } of pieces) {
-      this.#bytes.set(bytes, place);
-      place += bytes.length;
+      this.#bytes.set(bytes, offset);
+      offset += bytes.length;
     }
   }
 
   // The spans of pieces.
   #putSpans(at, pieces) {
-    let place = at;
+    let offset = at;
     for (const { start, bytes } of pieces) {
-      this.#putNumber(place, start);
-      this.#putNumber(place + 8, bytes.length);
-      place += SPAN;
+      this.#putNumber(offset, start);
+      this.#putNumber(offset + 8, bytes.length);
+      offset += SPAN;
     }
   }
 

@@ -36,12 +36,12 @@ async function load(source) {
 
 function loadFile() {
   const files = builtin('node:fs');
-  const place = beside();
-  if (files === undefined || place === undefined || isFetched(place)) {
+  const path = beside();
+  if (files === undefined || path === undefined || isFetched(path)) {
     throw new ImageError('NOT_LOADED', 'The library is not loaded: await init() before the first call');
   }
   try {
-    const module = new WebAssembly.Module(files.readFileSync(place));
+    const module = new WebAssembly.Module(files.readFileSync(path));
     return new Library(module, new WebAssembly.Instance(module));
   } catch (cause) {
     throw noLibrary(cause);

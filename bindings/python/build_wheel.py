@@ -49,8 +49,8 @@ def build_sdist(sdist_directory: str, config_settings: Settings = None) -> str:
     parts += [(name, (HERE / name).read_bytes()) for name in ("README.md", "build_wheel.py", "pyproject.toml")]
     packed = io.BytesIO()
     with tarfile.open(fileobj=packed, mode="w", format=tarfile.PAX_FORMAT) as sdist:
-        for place, data in sorted(parts + package()):
-            member = tarfile.TarInfo(f"{stem}/{place}")
+        for path, data in sorted(parts + package()):
+            member = tarfile.TarInfo(f"{stem}/{path}")
             member.size, member.mtime, member.mode = len(data), EPOCH, 0o644
             sdist.addfile(member, io.BytesIO(data))
     (pathlib.Path(sdist_directory) / f"{stem}.tar.gz").write_bytes(gzip.compress(packed.getvalue(), mtime=EPOCH))
@@ -72,12 +72,12 @@ def write_wheel(folder: str, tag: str, content: Files) -> str:
         (f"{info}/WHEEL", wheel_records(tag).encode()),
         (f"{info}/entry_points.txt", entry_points().encode()),
     ]
-    lines = [f"{place},sha256={digest(data)},{len(data)}\n" for place, data in content]
+    lines = [f"{path},sha256={digest(data)},{len(data)}\n" for path, data in content]
     content.append((f"{info}/RECORD", "".join([*lines, f"{info}/RECORD,,\n"]).encode()))
     name = f"{PACKAGE}-{project()['version']}-{tag}.whl"
     with zipfile.ZipFile(pathlib.Path(folder) / name, "w") as wheel:
-        for place, data in content:
-            member = zipfile.ZipInfo(place, time.gmtime(max(EPOCH, 315532800))[:6])
+        for path, data in content:
+            member = zipfile.ZipInfo(path, time.gmtime(max(EPOCH, 315532800))[:6])
             member.external_attr, member.compress_type = 0o644 << 16, zipfile.ZIP_DEFLATED
             wheel.writestr(member, data)
     return name

@@ -58,9 +58,9 @@ def files(paths: Sequence[str], recursive: bool) -> Iterator[str]:
 def below(folder: str) -> Iterator[str]:
     """All files below a folder. A folder that cannot be read is among them, so that its error is seen."""
     failed: List[OSError] = []
-    for place, folders, names in os.walk(folder, onerror=failed.append):
+    for path, folders, names in os.walk(folder, onerror=failed.append):
         folders.sort()
-        yield from (os.path.join(place, name) for name in sorted(names))
+        yield from (os.path.join(path, name) for name in sorted(names))
         while failed:
             yield failed.pop().filename
     for error in failed:
@@ -154,8 +154,8 @@ class Progress:
         now = time.monotonic()
         if now < self.next:
             return
-        room = shutil.get_terminal_size().columns - 1
-        self.stream.write(f"\r{f'{number}: {printable(path)}'[:room]}\x1b[K")
+        columns = shutil.get_terminal_size().columns - 1
+        self.stream.write(f"\r{f'{number}: {printable(path)}'[:columns]}\x1b[K")
         self.stream.flush()
         self.next = now + 0.1
         self.shown = True

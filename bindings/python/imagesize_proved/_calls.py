@@ -23,7 +23,7 @@ class BinaryFile(Protocol):
 
     def read(self, size: int, /) -> bytes: ...
 
-    def seek(self, place: int, whence: int = 0, /) -> object: ...
+    def seek(self, offset: int, whence: int = 0, /) -> object: ...
 
     def tell(self) -> int: ...
 
@@ -231,7 +231,7 @@ def _followed(file: int, parts: Parts) -> Parts:
 def _parts_of_file(file: BinaryFile, budget: int, stored: Optional[Stored] = None) -> Parts:
     if not hasattr(file, "read"):
         raise TypeError(f"an image is bytes, a path or an open binary file, and not {type(file).__name__}")
-    place = file.tell()
+    offset = file.tell()
     try:
         file.seek(0, os.SEEK_END)
         total = file.tell()
@@ -240,7 +240,7 @@ def _parts_of_file(file: BinaryFile, budget: int, stored: Optional[Stored] = Non
             parts.add(_read(file, parts.start, parts.length))
         return parts
     finally:
-        file.seek(place)
+        file.seek(offset)
 
 
 def _read(file: BinaryFile, start: int, length: int) -> bytes:

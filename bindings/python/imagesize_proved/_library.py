@@ -77,7 +77,7 @@ _stream_push = _QUICK.imagesize_stream_push
 _stream_finish = _QUICK.imagesize_stream_finish
 
 
-class _Room:
+class _Buffer:
     """The buffers of a call besides the bytes. They are used again, since making them takes longer than a call."""
 
     def __init__(self) -> None:
@@ -94,27 +94,27 @@ class _Room:
         self.of_png = (self.length, self.spans, self.count, self.total, *self.told[2:])
 
 
-_ROOMS: List[_Room] = []
+_BUFFERS: List[_Buffer] = []
 
 
-def _room(length: int, total: int) -> _Room:
+def _buffer(length: int, total: int) -> _Buffer:
     try:
-        room = _ROOMS.pop()
+        buffer = _BUFFERS.pop()
     except IndexError:
-        room = _Room()
-    room.numbers[0] = 0
-    room.length.value = length
-    room.total.value = total
-    return room
+        buffer = _Buffer()
+    buffer.numbers[0] = 0
+    buffer.length.value = length
+    buffer.total.value = total
+    return buffer
 
 
 def type_of(data: bytes) -> Told:
     """The type of the image in some bytes."""
     if data.startswith(_SIGNATURE):
         return 0, [PNG, 0, 0, 0, 0, 0]
-    room = _room(len(data), 0)
-    told = _type(data, room.length, *room.told[:2]), room.read()
-    _ROOMS.append(room)
+    buffer = _buffer(len(data), 0)
+    told = _type(data, buffer.length, *buffer.told[:2]), buffer.read()
+    _BUFFERS.append(buffer)
     return told
 
 
@@ -122,9 +122,9 @@ def probe_whole(data: bytes) -> Told:
     """Type and size of the image in some bytes."""
     if data.startswith(_SIGNATURE):
         return _probe_png(data, array("Q", (0, len(data))), len(data))
-    room = _room(len(data), 0)
-    told = _probe(data, room.length, *room.told[:4]), room.read()
-    _ROOMS.append(room)
+    buffer = _buffer(len(data), 0)
+    told = _probe(data, buffer.length, *buffer.told[:4]), buffer.read()
+    _BUFFERS.append(buffer)
     return told
 
 
@@ -133,14 +133,14 @@ def probe_front(front: bytes, total: int) -> Told:
     if front.startswith(_SIGNATURE):
         return _probe_png(front, array("Q", (0, len(front))), total)
     try:
-        room = _ROOMS.pop()
+        buffer = _BUFFERS.pop()
     except IndexError:
-        room = _Room()
-    room.numbers[0] = 0
-    room.length.value = len(front)
-    room.total.value = total
-    told = _probe_few(front, *room.of_front), room.read()
-    _ROOMS.append(room)
+        buffer = _Buffer()
+    buffer.numbers[0] = 0
+    buffer.length.value = len(front)
+    buffer.total.value = total
+    told = _probe_few(front, *buffer.of_front), buffer.read()
+    _BUFFERS.append(buffer)
     return told
 
 
@@ -149,22 +149,22 @@ def probe_two(front: bytes, more: bytes, start: int, total: int) -> Told:
 
     The input is no PNG.
     """
-    room = _room(len(front) + len(more), total)
-    room.two[:] = [0, len(front), start, len(more)]
-    told = _probe_few(front + more, *room.of_two), room.read()
-    _ROOMS.append(room)
+    buffer = _buffer(len(front) + len(more), total)
+    buffer.two[:] = [0, len(front), start, len(more)]
+    told = _probe_few(front + more, *buffer.of_two), buffer.read()
+    _BUFFERS.append(buffer)
     return told
 
 
 def _probe_png(known: bytes, spans: "array[int]", total: int) -> Told:
     """The size of a PNG, whose parts are known."""
-    room = _room(len(known), total)
-    room.spans.value, numbers = spans.buffer_info()
-    room.count.value = numbers // 2
-    status = _png(known, *room.of_png)
-    told = room.read()
+    buffer = _buffer(len(known), total)
+    buffer.spans.value, numbers = spans.buffer_info()
+    buffer.count.value = numbers // 2
+    status = _png(known, *buffer.of_png)
+    told = buffer.read()
     told[:2] = PNG, 0
-    _ROOMS.append(room)
+    _BUFFERS.append(buffer)
     return status, told
 
 
@@ -198,9 +198,9 @@ class Rounds:
 
     def answer(self) -> Told:
         """Type and size of the image. The status is `BYTES_WANTED` if another span is needed."""
-        room = _room(0, 0)
-        told = _parts_answer(self.state, *room.told), room.read()
-        _ROOMS.append(room)
+        buffer = _buffer(0, 0)
+        told = _parts_answer(self.state, *buffer.told), buffer.read()
+        _BUFFERS.append(buffer)
         return told
 
 
@@ -220,10 +220,10 @@ class Stream:
 
     def push(self, data: bytes) -> Told:
         """Passes the next bytes. The status is `BYTES_WANTED` if more are needed."""
-        state, room = _State.from_buffer_copy(self.state), _room(len(data), 0)
-        told = _stream_push(state, data, room.length, *room.told[:4]), room.read()
+        state, buffer = _State.from_buffer_copy(self.state), _buffer(len(data), 0)
+        told = _stream_push(state, data, buffer.length, *buffer.told[:4]), buffer.read()
         self.state = state
-        _ROOMS.append(room)
+        _BUFFERS.append(buffer)
         if len(self.front) < _PNG_FRONT:
             self.front += data[: min(_PNG_FRONT, self.total) - len(self.front)]
             if self.front.startswith(_SIGNATURE):
@@ -234,9 +234,9 @@ class Stream:
         """Type and size of the image in the bytes that were passed. No call before has returned them."""
         if self.front.startswith(_SIGNATURE):
             return self._png(len(self.front))
-        state, room = _State.from_buffer_copy(self.state), _room(0, 0)
-        told = _stream_finish(state, *room.told[:4]), room.read()
-        _ROOMS.append(room)
+        state, buffer = _State.from_buffer_copy(self.state), _buffer(0, 0)
+        told = _stream_finish(state, *buffer.told[:4]), buffer.read()
+        _BUFFERS.append(buffer)
         return told
 
     def _png(self, total: int) -> Told:
@@ -245,23 +245,23 @@ class Stream:
 
 def spans_of(data: Union[bytes, ctypes.c_char], length: int, limit: int) -> Tuple[int, List[int]]:
     """A status, and start and length of each span that a result depends on. More spans than `limit` are an error."""
-    place = data if isinstance(data, bytes) else ctypes.byref(data)
+    pointer = data if isinstance(data, bytes) else ctypes.byref(data)
     size, count = ctypes.c_size_t(length), ctypes.c_size_t()
-    status = _spans(place, size, (ctypes.c_uint64 * 2)(), ctypes.c_size_t(), ctypes.byref(count))
+    status = _spans(pointer, size, (ctypes.c_uint64 * 2)(), ctypes.c_size_t(), ctypes.byref(count))
     if count.value > limit:
         return status, []
-    room = (ctypes.c_uint64 * (2 * count.value + 2))()
-    status = _spans(place, size, room, count, ctypes.byref(count))
-    return status, room[: 2 * count.value]
+    buffer = (ctypes.c_uint64 * (2 * count.value + 2))()
+    status = _spans(pointer, size, buffer, count, ctypes.byref(count))
+    return status, buffer[: 2 * count.value]
 
 
 def text(call: str, *numbers: int) -> Optional[str]:
     """The text of a call that tells one; None where no text has these numbers."""
     told, asked, length = getattr(_LIBRARY, call), list(map(ctypes.c_uint32, numbers)), ctypes.c_size_t()
     told(*asked, ctypes.create_string_buffer(1), ctypes.c_size_t(), ctypes.byref(length))
-    room = ctypes.create_string_buffer(length.value + 1)
-    refused = told(*asked, room, length, ctypes.byref(length))
-    return None if refused else room.raw[: length.value].decode("ascii")
+    buffer = ctypes.create_string_buffer(length.value + 1)
+    refused = told(*asked, buffer, length, ctypes.byref(length))
+    return None if refused else buffer.raw[: length.value].decode("ascii")
 
 
 def number(call: str, *numbers: int) -> int:

@@ -115,21 +115,21 @@ class Parts:
         Memory is taken for the blocks alone.
         """
         try:
-            room = mmap.mmap(-1, self.total, _SPARSE)
+            memory = mmap.mmap(-1, self.total, _SPARSE)
         except OSError as error:
             if error.errno != errno.ENOMEM:
                 raise
             return None
         for start, block in self.stored or ():
-            room[start : start + len(block)] = block
-        return room
+            memory[start : start + len(block)] = block
+        return memory
 
     def _taken(self, data: BytesLike) -> bytes:
         if type(data) is not bytes:
             data = bytes(memoryview(data))
         if len(data) != self.length:
             error = EOFError if len(data) < self.length else ValueError
-            raise error(f"{self.length} bytes from place {self.start} on were wanted, and {len(data)} came")
+            raise error(f"{self.length} bytes from offset {self.start} on were wanted, and {len(data)} came")
         if self.stored is not None:
             self.stored.append((self.start, data))
         self.taken += self.length

@@ -298,7 +298,7 @@ class Failing(unittest.TestCase):
     def test_fetch_of_another_length(self) -> None:
         for more, error in ((-1, EOFError), (-4096, EOFError), (1, ValueError)):
             image = Sliced(jpeg(3), more)
-            self.assertRaisesRegex(error, "4096 bytes from place 0 on", image.probe)
+            self.assertRaisesRegex(error, "4096 bytes from offset 0 on", image.probe)
             self.assertEqual(len(image.fetched), 1)
 
     def test_fetch_that_raises(self) -> None:

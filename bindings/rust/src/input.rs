@@ -26,7 +26,7 @@ pub(crate) struct Input<R> {
     /// The offset in the reader at which the input begins.
     base: u64,
     /// The reader's present offset.
-    place: u64,
+    offset: u64,
     /// The length of the input.
     total: u64,
     /// How many bytes are fetched.
@@ -63,11 +63,11 @@ impl<R: Read + Seek> Input<R> {
         Ok(Input::new(reader, 0, end, end))
     }
 
-    fn new(reader: R, base: u64, place: u64, end: u64) -> Input<R> {
+    fn new(reader: R, base: u64, offset: u64, end: u64) -> Input<R> {
         Input {
             reader,
             base,
-            place,
+            offset,
             total: end.saturating_sub(base),
             held: 0,
             bytes: Vec::new(),
@@ -131,13 +131,13 @@ impl<R: Read + Seek> Input<R> {
         }
         let known = self.bytes.len();
         let block = self.block(wanted);
-        let place = self.base + block.start;
-        if place != self.place {
-            self.reader.seek(SeekFrom::Start(place))?;
+        let offset = self.base + block.start;
+        if offset != self.offset {
+            self.reader.seek(SeekFrom::Start(offset))?;
         }
         self.bytes.resize(known + block.len as usize, 0);
         self.reader.read_exact(&mut self.bytes[known..])?;
-        self.place = place + block.len;
+        self.offset = offset + block.len;
         self.held += block.len as usize;
         match self.spans.last_mut() {
             Some(last) if last.start + last.len == block.start => last.len += block.len,

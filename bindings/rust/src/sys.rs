@@ -12,7 +12,7 @@ pub(crate) const BUDGET_SPENT: u32 = 6;
 pub(crate) const BYTES_WANTED: u32 = 30;
 
 /// The longest text of the library has fewer bytes.
-const TEXT_ROOM: usize = 128;
+const TEXT_CAPACITY: usize = 128;
 
 /// The sizes in bytes of the memory of a push parser and of a probe over spans, as the header has them.
 pub(crate) const STREAM_SIZE: usize = 1280;
@@ -137,10 +137,15 @@ extern "C" {
         kind: u32,
         compression: u32,
         text: *mut u8,
-        room: usize,
+        capacity: usize,
         written: *mut usize,
     ) -> u32;
-    fn imagesize_status_text(status: u32, text: *mut u8, room: usize, written: *mut usize) -> u32;
+    fn imagesize_status_text(
+        status: u32,
+        text: *mut u8,
+        capacity: usize,
+        written: *mut usize,
+    ) -> u32;
     fn imagesize_compression_family(kind: u32, compression: u32, family: *mut u32) -> u32;
     fn imagesize_is_block_compressed(kind: u32, compression: u32, answer: *mut u32) -> u32;
     fn imagesize_is_multi_compression_container(
@@ -465,14 +470,16 @@ pub(crate) fn parts_size(
 /// The text of a status.
 pub(crate) fn status_text(status: u32) -> String {
     // SAFETY: `text` passes valid pointers.
-    text(|text, room, written| unsafe { imagesize_status_text(status, text, room, written) })
+    text(|text, capacity, written| unsafe {
+        imagesize_status_text(status, text, capacity, written)
+    })
 }
 
 /// The name of a type's container, which is empty if it has none.
 pub(crate) fn container_format((kind, compression): (u32, u32)) -> String {
     // SAFETY: `text` passes valid pointers.
-    text(|text, room, written| unsafe {
-        imagesize_container_format(kind, compression, text, room, written)
+    text(|text, capacity, written| unsafe {
+        imagesize_container_format(kind, compression, text, capacity, written)
     })
 }
 
@@ -502,9 +509,9 @@ pub(crate) fn is_multi_compression_container((kind, compression): (u32, u32)) ->
 
 /// The text that a call writes. The call gets a pointer to a buffer, the buffer's length, and a pointer for the text's length.
 pub(crate) fn text(call: impl FnOnce(*mut u8, usize, *mut usize) -> u32) -> String {
-    let (mut room, mut written) = ([0; TEXT_ROOM], 0);
-    match call(room.as_mut_ptr(), room.len(), &mut written) {
-        ANSWERED => String::from_utf8_lossy(&room[..written]).into_owned(),
+    let (mut buffer, mut written) = ([0; TEXT_CAPACITY], 0);
+    match call(buffer.as_mut_ptr(), buffer.len(), &mut written) {
+        ANSWERED => String::from_utf8_lossy(&buffer[..written]).into_owned(),
         _ => String::new(),
     }
 }

@@ -8,14 +8,14 @@ extern "C" {
         kind: u32,
         compression: u32,
         text: *mut u8,
-        room: usize,
+        capacity: usize,
         written: *mut usize,
     ) -> u32;
     fn imagesize_compression_name(
         kind: u32,
         compression: u32,
         text: *mut u8,
-        room: usize,
+        capacity: usize,
         written: *mut usize,
     ) -> u32;
 }
@@ -24,7 +24,9 @@ extern "C" {
 fn library_name(kind: u32, compression: u32) -> String {
     // SAFETY: `text` passes valid pointers.
     let [name, way] = [imagesize_type_name, imagesize_compression_name].map(|call| {
-        sys::text(|text, room, written| unsafe { call(kind, compression, text, room, written) })
+        sys::text(|text, capacity, written| unsafe {
+            call(kind, compression, text, capacity, written)
+        })
     });
     if way.is_empty() {
         name
