@@ -2,7 +2,7 @@
 use Rattle.std.proofs.Common.{◌≡◌, ℕ, ◌^◌, ◌+◌, ◌-◌, ◌<◌, ◌≤◌, Bool, true, false, ◌||◌, ◌&&◌, ◌⊎◌, cond, leb, List, [], ◌∷◌, ◌++◌, drop, slice_index, Option, None, Some, is_some, Result, Ok, Err, inl, inr, refl, sym, ap, ◌∙◌, subst, arith}
 use Rattle.std.specs.List.{list_any}
 use Rattle.std.specs.Prelude.{option_map, unwrap_or}
-use Rattle.std.proofs.lemmas.Bool.{cases_lt, or_left, or_right}
+use Rattle.std.proofs.lemmas.Bool.{cases_lt}
 use Rattle.std.specs.Option.{ForSome}
 use Rattle.std.specs.Result.{result_ok}
 use Rattle.std.proofs.lemmas.Bool.Decides.{nat_tests}
@@ -19,65 +19,18 @@ use Rattle.imagesize_source.specs.declared.source.parts.Missing.{Missing}
 use Rattle.imagesize_source.specs.declared.span.Span.{Span}
 use Rattle.imagesize_source.specs.Agreement.{Agrees, IsLocal, Parting, is_covered, has_offset, has_whole}
 use Rattle.imagesize_source.specs.Input.{span_at}
-use Rattle.imagesize_source.specs.Known.{AllKnown, HasParts, Lacks, byte_in_parts, byte_of, filled_input, length_within, reaches, parts_state, sure_of}
+use Rattle.imagesize_source.specs.Known.{AllKnown, HasParts, Lacks, byte_in_parts, byte_of, filled_input, length_within, reaches, parts_state}
 use Rattle.imagesize_source.specs.Errors.{is_stopped as is_stopped_error}
 use Rattle.imagesize_source.specs.Halts.{error_of, with_error}
 use Rattle.imagesize_source.specs.Outcome.{outcome_of, stated}
 use Rattle.imagesize_source.specs.Reading.{Reads, go_on, is_faulted}
 use Rattle.imagesize_source.proofs.Halts.{stated_ok, stated_same}
 use Rattle.imagesize_source.specs.State.{State, Runs, parts_of}
+use Rattle.imagesize_source.proofs.Among.{Among, any_left, any_right, covered-any, later_cut, middle}
 use Rattle.imagesize_source.proofs.Agreement.{covered-left, covered-one, covered-right, same_by_local}
 use Rattle.imagesize_source.proofs.Runs.{marks_onward}
 use Rattle.imagesize_source.proofs.Known.{filled_at, has_known, known_below, length-filled_input, unknown_free}
 use Rattle.imagesize_source.proofs.KnownReadings.{past-parts}
-
--- ---- one list of spans, cut at two of them
-
--- a span is one of some: what holds of it holds of one of them
-abbrev Among : Span → List Span → Type 0
-Among m spans = (P : Span → Bool) → P m ≡ true → list_any P spans ≡ true
-
-any_left : (P : Span → Bool) (s t : List Span) → list_any P s ≡ true → list_any P (s ++ t) ≡ true
-any_left P [] t is = absurd cc
-any_left P (x ∷ s) t is = by_test (P x) (any_left P s t) is where
-  by_test : (b : Bool) → (list_any P s ≡ true → list_any P (s ++ t) ≡ true) → b || list_any P s ≡ true
-      → b || list_any P (s ++ t) ≡ true
-  by_test true rest is = refl
-  by_test false rest is = rest is
-
-any_right : (P : Span → Bool) (s t : List Span) → list_any P t ≡ true → list_any P (s ++ t) ≡ true
-any_right P [] t is = is
-any_right P (x ∷ s) t is = or_right (P x) (list_any P (s ++ t)) (any_right P s t is)
-
-middle : (before : List Span) (m : Span) (rest : List Span) → Among m (before ++ m ∷ rest)
-middle [] m rest P is = or_left (P m) (list_any P rest) is
-middle (x ∷ before) m rest P is = or_right (P x) (list_any P (before ++ m ∷ rest)) (middle before m rest P is)
-
-covered-any : (spans : List Span) (offset : ℕ) → is_covered spans offset ≡ list_any (λ s. has_offset s offset) spans
-covered-any [] offset = refl
-covered-any (s ∷ spans) offset = ap (λ b. has_offset s offset || b) (covered-any spans offset)
-
-head_is : {x y : Span} {xs ys : List Span} → ◌≡◌ {A = List Span} (x ∷ xs) (y ∷ ys) → x ≡ y
-head_is e = cc
-
-tail_is : {x y : Span} {xs ys : List Span} → ◌≡◌ {A = List Span} (x ∷ xs) (y ∷ ys) → xs ≡ ys
-tail_is e = cc
-
--- the second is before the first, is the first, or is behind it
-later_cut : (made seen rest others : List Span) (m mark : Span) → made ++ m ∷ rest ≡ seen ++ mark ∷ others
-    → Among mark made ⊎ ((m ≡ mark) ⊎ ((more : List Span) → Among m (seen ++ more)))
-later_cut [] [] rest others m mark same = inr (inl (head_is same))
-later_cut [] (y ∷ seen) rest others m mark same =
-    inr (inr (λ more P is. or_left (P y) (list_any P (seen ++ more)) (ap P (sym (head_is same)) ∙ is)))
-later_cut (x ∷ made) [] rest others m mark same =
-    inl (λ P is. or_left (P x) (list_any P made) (ap P (head_is same) ∙ is))
-later_cut (x ∷ made) (y ∷ seen) rest others m mark same =
-    later (later_cut made seen rest others m mark (tail_is same)) where
-      later : Among mark made ⊎ ((m ≡ mark) ⊎ ((more : List Span) → Among m (seen ++ more)))
-          → Among mark (x ∷ made) ⊎ ((m ≡ mark) ⊎ ((more : List Span) → Among m ((y ∷ seen) ++ more)))
-      later (inl before) = inl (λ P is. or_right (P x) (list_any P made) (before P is))
-      later (inr (inl at)) = inr (inl at)
-      later (inr (inr behind)) = inr (inr (λ more P is. or_right (P y) (list_any P (seen ++ more)) (behind more P is)))
 
 -- ---- a source of parts is stopped by what it misses alone
 
@@ -107,7 +60,7 @@ pub filled_known : (n : ℕ) (spans : List Span) (bytes : List ℕ) → HasKnown
 filled_known n spans bytes = record {
   as_long = length-filled_input n spans bytes;
   known = λ offset byte is. filled_at n spans bytes offset (known_below n spans bytes offset (ap is_some is))
-      ∙ ap (λ o. unwrap_or o 0) is;
+      ∙ ap (λ o. unwrap_or o 1) is;
 }
 
 -- and so has one that has the parts
@@ -274,7 +227,7 @@ module _ {X : Type 0} (texts : Bool) (f : List ℕ → Reads X) (is_local : IsLo
   wants log m r call faults =
       let is = (call.runs.misses (is_short n short) faults).told in
       let lacks = call.lacks m refl in
-      let marked = wanted_mark log (sure_of m) is.made is.mark is.rest call.seen lacks.0
+      let marked = wanted_mark log (wanted_of false m) is.made is.mark is.rest call.seen lacks.0
       (some_is is.recorded) is.all is.behind is.within in (
         marked.0,
         lacks.3,

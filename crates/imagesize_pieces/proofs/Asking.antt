@@ -1,17 +1,16 @@
 -- What readings of the bytes so far tell of every input that begins with them.
 use Rattle.std.proofs.Common.{◌≡◌, ℕ, ◌+◌, ◌-◌, ◌^◌, ◌<◌, ◌≤◌, Bool, true, false, ◌⊎◌, inl, inr, List, [], ◌∷◌, ◌++◌, length, slice_index, Option, None, Some, Result, IfSome, IsSomeAnd, refl, sym, ap, ◌∙◌, subst, arith}
-use Rattle.std.specs.Prelude.{option_map}
 use Rattle.std.proofs.lemmas.Bool.{cases_lt}
 use Rattle.std.proofs.lemmas.Bool.Decides.{nat_tests}
 use Rattle.imagesize_source.specs.declared.halt.Halt.{Halt}
 use Rattle.imagesize_source.specs.declared.source.parts.Missing.{Missing}
 use Rattle.imagesize_source.specs.declared.span.Span.{Span}
-use Rattle.imagesize_source.specs.Agreement.{Alike, is_covered, has_offset}
+use Rattle.imagesize_source.specs.Agreement.{Alike, Parting, is_covered, has_offset}
 use Rattle.imagesize_source.specs.Input.{span_at}
-use Rattle.imagesize_source.specs.Known.{sure_of}
 use Rattle.imagesize_source.specs.Reading.{Reads, is_faulted, just, put_behind, uncounted}
 use Rattle.imagesize_source.specs.State.{State, Misses}
 use Rattle.imagesize_source.proofs.Agreement.{covered-left, covered-one, covered-right, covered_one_of}
+use Rattle.imagesize_source.proofs.Among.{Among, covered-any, head_is, later_cut, middle, tail_is}
 use Rattle.imagesize_source.specs.Sharing.{Shares}
 use Rattle.imagesize_pieces.specs.Stream.{AllBelow, Begins, Says, came, end_of, stream_input, stream_state}
 use Rattle.imagesize_pieces.proofs.Beginning.{Run, begins_left, begins_shares, shares_begun, unknown_behind}
@@ -21,25 +20,19 @@ use Rattle.imagesize_pieces.proofs.Called.{Called, all_seen, answered, is_short,
 abbrev pub IsShared : {X : Type 0} → (List ℕ → Reads X) → Type 0
 IsShared f = (d e : List ℕ) → Shares d e (f e).marks → f d ≡ f e
 
-pub missed_is : (missed : Option Missing) (P : Span → Type 0)
-    → IfSome (Some (option_map sure_of missed)) (λ m. IsSomeAnd m P)
-    → (m : Missing) × (missed ≡ Some m) × P (sure_of m)
+pub missed_is : (missed : Option Missing) (P : Missing → Type 0)
+    → IfSome (Some missed) (λ m. IsSomeAnd m P)
+    → (m : Missing) × (missed ≡ Some m) × P m
 missed_is None P told = absurd told
 missed_is (Some m) P told = (m, refl, told)
 
 -- what is missed lies in one of the marks
-pub missed_covered : {a b : State} (marks : List Span) (m : Missing) → Misses a b marks (sure_of m) → 0 < m.sure
+pub missed_covered : {a b : State} (marks : List Span) (m : Missing) → Misses a b marks m → 0 < m.sure
     → is_covered marks m.start ≡ true
 missed_covered marks m is some =
     let begins = is.behind in let ends = is.within in
     let in_mark : has_offset is.mark m.start ≡ true = grind (arith, nat_tests) in
     subst (λ s. is_covered s m.start ≡ true) (sym is.all) (covered_one_of is.made is.mark is.rest m.start in_mark)
-
-head_is : {x y : Span} {xs ys : List Span} → ◌≡◌ {A = List Span} (x ∷ xs) (y ∷ ys) → x ≡ y
-head_is e = cc
-
-tail_is : {x y : Span} {xs ys : List Span} → ◌≡◌ {A = List Span} (x ∷ xs) (y ∷ ys) → xs ≡ ys
-tail_is e = cc
 
 -- Reads of two inputs part at an offset p, and those of the first have m in a mark, after some others. If p is in none
 -- of these, and in the mark not before m, the reads of the second input have m too.
@@ -88,6 +81,26 @@ alike_covered {X} d e f g made rest mark m alike all behind within shares = elim
       (subst (λ q. is_covered part q ≡ true) at
       (covered-one mark.start (m - mark.start) (p - mark.start) (omega (arith, early, above)))))).1)
 
+-- The mark of what was missed is one of each such input, if no text is read.
+pub alike_among : {X : Type 0} (d e : List ℕ) (f g : Reads X) (made rest : List Span) (mark : Span) (m : ℕ)
+    → Alike false d e f g → f.marks ≡ made ++ mark ∷ rest
+    → Shares e d (made ++ span_at mark.start (m - mark.start)) → Among mark g.marks
+alike_among {X} d e f g made rest mark m alike all shares = elim alike [
+  | inl same ↦ subst (Among mark) (sym (ap (λ (r : Reads X). r.marks) same ∙ all)) (middle made mark rest)
+  | inr parts ↦ by_cut parts (later_cut made parts.seen rest parts.rest mark parts.mark (sym all ∙ parts.here))
+] where
+  by_cut : (parts : Parting false d e f.marks g.marks)
+      → Among parts.mark made ⊎ ((mark ≡ parts.mark) ⊎ ((more : List Span) → Among mark (parts.seen ++ more)))
+      → Among mark g.marks
+  by_cut parts (inl before) =
+      let seen : is_covered made parts.offset ≡ true =
+      covered-any made parts.offset ∙ before (λ x. has_offset x parts.offset) parts.within in
+      absurd (parts.differs (shares.there parts.offset
+      (covered-left made (span_at mark.start (m - mark.start)) parts.offset seen)).1)
+  by_cut parts (inr (inl at)) = subst (λ x. Among x g.marks) (parts.same refl ∙ sym at)
+      (subst (Among parts.other) (sym parts.there) (middle parts.seen parts.other parts.others))
+  by_cut parts (inr (inr among)) = subst (Among mark) (sym parts.there) (among (parts.other ∷ parts.others))
+
 module _ {X : Type 0} (f : List ℕ → Reads X) (same : IsShared f) (told start : ℕ) (kept unread front : List ℕ)
     (run : Run front kept unread start)
     (fits : start + (length kept + length unread) ≤ told) (short : told < 2 ^ 63) (log : List Span)
@@ -114,7 +127,7 @@ module _ {X : Type 0} (f : List ℕ → Reads X) (same : IsShared f) (told start
   module _ (faults : is_faulted r ≡ true) where
     pub what : (m : Missing) × (missed ≡ Some m)
         × Misses (stream_state told start kept unread [] None) (stream_state told start kept unread log missed)
-        (f fill).marks (sure_of m)
+        (f fill).marks m
     what = missed_is missed _ (call.runs.misses (is_short told short) faults).told
 
     pub what_covered : is_covered (f fill).marks what.0.start ≡ true

@@ -191,7 +191,7 @@ module _ (told start : ℕ) (kept unread front : List ℕ) (run : Run front kept
       → get_or (stream_input told start kept unread) offset 0 ≡ get_or front offset 0
   byte_here offset above below =
       filled_at told (came start kept unread) bytes offset (omega (arith, below, run.ends, fits))
-      ∙ ap (λ o. unwrap_or o 0) (known_here offset above below)
+      ∙ ap (λ o. unwrap_or o 1) (known_here offset above below)
 
   -- an input that begins with the bytes so far shares what is known
   pub begins_shares : (d : List ℕ) (marks : List Span) → Begins front told d

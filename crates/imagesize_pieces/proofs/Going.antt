@@ -7,7 +7,7 @@ use Rattle.imagesize_source.specs.declared.span.Span.{Span}
 use Rattle.imagesize_source.specs.Agreement.{is_covered}
 use Rattle.imagesize_source.specs.Chain.{Chain, Along, next_record, chain_from, Advances}
 use Rattle.imagesize_source.specs.Input.{span_at}
-use Rattle.imagesize_source.specs.Known.{AllKnown, Lacks, parts_state, sure_of}
+use Rattle.imagesize_source.specs.Known.{AllKnown, Lacks, parts_state}
 use Rattle.imagesize_source.specs.Reading.{Reads, go_on, put_behind, uncounted}
 use Rattle.imagesize_source.specs.declared.halt.Halt.{Halt}
 use Rattle.imagesize_source.specs.State.{State, Misses, state_after}
@@ -92,14 +92,14 @@ module _ {C X : Type 0} (c : Chain C X) (P : List C → Type 0) (t : Along C) (t
 
   pub what : (m : Missing) × (missed ≡ Some m)
       × Misses (state_after before stood.made) (stream_state told start kept unread log missed)
-      (next_record c fill u).marks (sure_of m)
+      (next_record c fill u).marks m
   what = missed_is missed _ (stood.missed honest).told
 
   -- what was read before the record is known
   made_known : AllKnown told (came start kept unread) (kept ++ unread) stood.made
   made_known =
       let is = what.2 in
-      let part : List Span = is.made ++ span_at is.mark.start ((sure_of what.0).start - is.mark.start) in
+      let part : List Span = is.made ++ span_at is.mark.start (what.0.start - is.mark.start) in
       let all : ◌≡◌ {A = Option (List Span)} (Some log)
       (option_map (λ spans. spans ++ part) (option_map (λ spans. spans ++ stood.made) (Some []))) =
       is.recorded ∙ ap (option_map (λ spans. spans ++ part)) (past-recorded before stood.made) in
@@ -147,7 +147,7 @@ module _ {C X : Type 0} (c : Chain C X) (P : List C → Type 0) (t : Along C) (t
       (what.2.made ++ span_at what.2.mark.start (what.0.start - what.2.mark.start))
   seen_known =
       let is = what.2 in
-      let part : List Span = is.made ++ span_at is.mark.start ((sure_of what.0).start - is.mark.start) in
+      let part : List Span = is.made ++ span_at is.mark.start (what.0.start - is.mark.start) in
       let all : ◌≡◌ {A = Option (List Span)} (Some log)
       (option_map (λ spans. spans ++ part) (option_map (λ spans. spans ++ stood.made) (Some []))) =
       is.recorded ∙ ap (option_map (λ spans. spans ++ part)) (past-recorded before stood.made) in

@@ -49,7 +49,7 @@ came start kept chunk = run_of start (length kept + length chunk)
 abbrev pub byte_at : ℕ → ℕ → List ℕ → List ℕ → ℕ → Option ℕ
 byte_at told start kept chunk offset = byte_in_parts told (came start kept chunk) (kept ++ chunk) offset
 
--- an input that has them, and 0 at every other offset
+-- an input that has them, and 1 at every other offset
 abbrev pub stream_input : ℕ → ℕ → List ℕ → List ℕ → List ℕ
 stream_input told start kept chunk = filled_input told (came start kept chunk) (kept ++ chunk)
 

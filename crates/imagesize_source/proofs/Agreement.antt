@@ -8,7 +8,7 @@ use Rattle.imagesize_source.specs.declared.span.Span.{Span}
 use Rattle.imagesize_source.specs.declared.endian.Endian.{Endian}
 use Rattle.std.proofs.lemmas.Bool.{cases_lt}
 use Rattle.imagesize_source.specs.Counts.{AtMost, CostsBy, Each}
-use Rattle.imagesize_source.specs.Agreement.{Agrees, Alike, IsLocal, Parting, has_offset, is_covered}
+use Rattle.imagesize_source.specs.Agreement.{AllRead, Agrees, Alike, IsLocal, IsRead, Parting, has_offset, is_covered}
 use Rattle.imagesize_source.specs.Input.{part, span_at, span_of}
 use Rattle.imagesize_source.specs.Layout.{Layout, done, refuse, field, reading, begin_record, layout_reads}
 use Rattle.imagesize_source.specs.Numbers.{number}
@@ -307,20 +307,6 @@ alike_text {texts} d e t offset k read long = elim (differ xs ys (parts_long d e
       let fits : x.at < k = omega (arith, x.below, part_length d offset k) in
       inr (parting_at d e offset m n x.at within also (unlike_at d e offset k x.at fits x.unlike)
       (λ none. absurd (let no : true ≡ false = sym read ∙ none in cc)))
-
--- a reading of a text is one where texts are read
-abbrev pub IsRead : Bool → Reading → Type 0
-IsRead texts (AllOf k) = Unit {0}
-IsRead texts (PartOf k) = Unit {0}
-IsRead texts (TextOf t k) = texts ≡ true
-
--- and so are all of a layout
-abbrev pub AllRead : {X : Type 0} → Bool → Layout X → Type 0
-AllRead texts (done x) = Unit {0}
-AllRead texts (refuse e) = Unit {0}
-AllRead texts (field order offset k f) = (v : ℕ) → AllRead texts (f v)
-AllRead texts (reading r offset f) = IsRead texts r × ((bs : List ℕ) → AllRead texts (f bs))
-AllRead texts (begin_record t) = AllRead texts t
 
 is_read : (r : Reading) → IsRead true r
 is_read (AllOf k) = tt

@@ -1,14 +1,14 @@
 -- What holds of every chain: locality, counts and extension.
 use Rattle.std.proofs.Common.{Bool, ◌≡◌, ℕ, zero, suc, ◌+◌, ◌*◌, ◌<◌, ◌≤◌, List, [], ◌∷◌, ◌++◌, length, Some, Result, Ok, Err, inl, refl, sym, ap, ◌∙◌, subst, arith}
 use Rattle.imagesize_source.specs.declared.halt.Halt.{Halt}
-use Rattle.imagesize_source.specs.Agreement.{Alike, IsLocal}
+use Rattle.imagesize_source.specs.Agreement.{AllRead, Alike, IsLocal}
 use Rattle.imagesize_source.specs.Chain.{Said, Decided, Next, Chain, Along, start, next_record, verdict, chain_from, chain_at, Advances}
 use Rattle.imagesize_source.specs.Counts.{Each}
 use Rattle.imagesize_source.specs.Extension.{Plain, Lasts}
 use Rattle.imagesize_source.specs.Reading.{after_records, and_then, put_behind, with_answer}
 use Rattle.imagesize_source.specs.State.{total}
 use Rattle.imagesize_source.proofs.Chains.{chain_unfolds, follows, chain_next, chain_stop}
-use Rattle.imagesize_source.proofs.Agreement.{AllRead, alike_layout, alike_then}
+use Rattle.imagesize_source.proofs.Agreement.{alike_layout, alike_then}
 use Rattle.imagesize_source.proofs.Counts.{Bounded, bounded_each, each_plus}
 use Rattle.imagesize_source.proofs.Extension.{more}
 use Rattle.imagesize_source.proofs.Runs.{total-append}

@@ -22,7 +22,7 @@ part_more d offset i n = take-add i n (drop offset d)
 known_byte : (n : ℕ) (spans : List Span) (bytes : List ℕ) (offset b : ℕ) → byte_in_parts n spans bytes offset ≡ Some b
     → slice_index (filled_input n spans bytes) offset ≡ b
 known_byte n spans bytes offset b is =
-    filled_at n spans bytes offset (known_below n spans bytes offset (ap is_some is)) ∙ ap (λ o. unwrap_or o 0) is
+    filled_at n spans bytes offset (known_below n spans bytes offset (ap is_some is)) ∙ ap (λ o. unwrap_or o 1) is
 
 -- known bytes are a part of the filled input
 pub run_part : (n : ℕ) (spans : List Span) (bytes run : List ℕ) (offset count : ℕ) → count ≤ length run

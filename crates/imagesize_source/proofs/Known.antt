@@ -15,13 +15,13 @@ use Rattle.imagesize_source.proofs.Parts.{part_length, part_at}
 pub length-filled_input : (n : ℕ) (spans : List Span) (bytes : List ℕ) → length (filled_input n spans bytes) ≡ n
 unfolding filled_input
 length-filled_input n spans bytes =
-    length-map-range_with_len (λ offset. unwrap_or (byte_in_parts n spans bytes offset) 0) 0 n
+    length-map-range_with_len (λ offset. unwrap_or (byte_in_parts n spans bytes offset) 1) 0 n
 
 pub filled_at : (n : ℕ) (spans : List Span) (bytes : List ℕ) (offset : ℕ) → offset < n
-    → slice_index (filled_input n spans bytes) offset ≡ unwrap_or (byte_in_parts n spans bytes offset) 0
+    → slice_index (filled_input n spans bytes) offset ≡ unwrap_or (byte_in_parts n spans bytes offset) 1
 unfolding filled_input
 filled_at n spans bytes offset below =
-    get_or-map-range_with_len (λ p. unwrap_or (byte_in_parts n spans bytes p) 0) 0 n offset offset 0 below (omega arith)
+    get_or-map-range_with_len (λ p. unwrap_or (byte_in_parts n spans bytes p) 1) 0 n offset offset 0 below (omega arith)
 
 -- an offset that is known lies before the end
 reaches_below : (n : ℕ) (s : Span) (offset : ℕ) → reaches n s offset ≡ true → offset < n

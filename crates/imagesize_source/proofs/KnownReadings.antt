@@ -83,9 +83,9 @@ module _ (n : ℕ) (spans : List Span) (bytes : List ℕ) (log : List Span) (mis
   fails : {X : Type 0} (reads : Reads X) (b : State) (w : Missing) (offset m : ℕ)
       → b ≡ parts_state n spans bytes (log ++ span_at offset (w.start - offset)) (Some w) → reads.marks ≡ span_at offset m
       → 0 < m
-      → offset ≤ w.start → w.start + w.sure ≤ offset + m
+      → offset ≤ w.start → w.start + w.sure ≤ offset + m → offset + m ≤ w.start + w.most
       → Runs (parts_state n spans bytes log missed) b (Err Failed) reads
-  fails {X} reads b w offset m after marks some behind within =
+  fails {X} reads b w offset m after marks some behind within reaches =
       subst (λ s. Runs (parts_state n spans bytes log missed) s (Err Failed) reads)
       (sym after) (record {
         sound = parts_sound n spans bytes log missed;
@@ -105,6 +105,7 @@ module _ (n : ℕ) (spans : List Span) (bytes : List ℕ) (log : List Span) (mis
             all = marks ∙ span-some offset m some;
             behind = behind;
             within = within;
+            reaches = reaches;
           };
         };
         ended = record { budget = λ e. absurd cc; fault = λ faults. tt };
@@ -139,14 +140,15 @@ module _ (n : ℕ) (spans : List Span) (bytes : List ℕ) (log : List Span) (mis
   found_before offset found w at = omega (arith, at)
 
   pub parts_missing : (b : State) (k offset wanted found : ℕ) (w : Missing) → wanted ≡ min k (n - offset) → found < wanted
-      → w.start ≡ offset + found → w.sure ≡ wanted - found
+      → w.start ≡ offset + found → w.sure ≡ wanted - found → w.most ≡ wanted - found
       → b ≡ parts_state n spans bytes (log ++ span_at offset found) (Some w)
       → Runs {X = List ℕ} (parts_state n spans bytes log missed) b (Err Failed)
       (part_read (filled_input n spans bytes) offset k)
-  parts_missing b k offset wanted found w long short at sure after =
+  parts_missing b k offset wanted found w long short at sure most after =
       fails (part_read (filled_input n spans bytes) offset k) b w offset wanted
       (after ∙ ap (λ i. parts_state n spans bytes (log ++ span_at offset i) (Some w)) (found_before offset found w at))
       (span_is offset k wanted long) (omega (arith, short)) (omega (arith, at)) (omega (arith, at, sure, short))
+      (omega (arith, at, most, short))
 
   -- the text that a reading has, by its bytes so far
   whole_text : (offset k wanted found : ℕ) → wanted ≡ min k (n - offset) → found ≤ wanted
@@ -207,11 +209,11 @@ module _ (n : ℕ) (spans : List Span) (bytes : List ℕ) (log : List Span) (mis
   pub parts_text_missing : (b : State) (t : Text) (buffer : List ℕ) (offset k wanted found : ℕ) (w : Missing)
       → wanted ≡ min k (n - offset) → found ≤ wanted → take found buffer ≡ part (filled_input n spans bytes) offset found
       → leb (suc found) wanted && not (is_ended t (take found buffer)) ≡ true → w.start ≡ offset + found
-      → w.sure ≡ 1 → b ≡ parts_state n spans bytes (log ++ span_at offset found) (Some w)
+      → w.sure ≡ 1 → w.most ≡ wanted - found → b ≡ parts_state n spans bytes (log ++ span_at offset found) (Some w)
       → Runs {X = List ℕ} (parts_state n spans bytes log missed) b (Err Failed)
       (text_read (filled_input n spans bytes) t offset k)
   unfolding text_part
-  parts_text_missing b t buffer offset k wanted found w long fits copied cut at sure after =
+  parts_text_missing b t buffer offset k wanted found w long fits copied cut at sure most after =
       let d : List ℕ = filled_input n spans bytes in
       let bs : List ℕ = part d offset found in
       let short : found < wanted = cut_short (is_ended t (take found buffer)) cut in
@@ -229,9 +231,11 @@ module _ (n : ℕ) (spans : List Span) (bytes : List ℕ) (log : List Span) (mis
         ap (λ xs. length (text_front t xs)) (whole_text offset k wanted found long fits),
       ) in
       let m : ℕ = length (text_front t (part d offset k)) in
+      let few : m ≤ wanted = omega (arith, front_length t (part d offset k), part_length d offset k, long, length-filled_input n spans bytes) in
       fails (text_read d t offset k) b w offset m
       (after ∙ ap (λ i. parts_state n spans bytes (log ++ span_at offset i) (Some w)) (found_before offset found w at))
       refl (omega (arith, behind)) (omega (arith, at)) (omega (arith, at, sure, behind))
+      (omega (arith, at, most, short, few))
     where
       cut_short : (is : Bool) → leb (suc found) wanted && not is ≡ true → found < wanted
       cut_short true cut = absurd (grind (arith, nat_tests))

@@ -2,6 +2,7 @@ pub mod Advances
 pub mod Agreement
 pub mod Ahead
 pub mod Always
+pub mod Among
 pub mod Answered
 pub mod Bytes
 pub mod ChainLaws

@@ -2,6 +2,7 @@
 use Rattle.std.proofs.Common.{◌≡◌, ℕ, ◌+◌, ◌-◌, ◌<◌, ◌≤◌, min, Bool, true, false, ◌||◌, List, [], ◌∷◌, ◌++◌, length, take, leb, Result, Ok, Err, zero-add, add_assoc, append_assoc, refl, sym, ap, ◌∙◌, subst, arith, IfErr}
 use Rattle.std.proofs.lemmas.List.{length-take, take_all, append-nil}
 use Rattle.std.proofs.lemmas.Bool.Decides.{nat_tests}
+use Rattle.imagesize_source.specs.declared.source.parts.Missing.{Missing}
 use Rattle.imagesize_source.specs.declared.span.Span.{Span}
 use Rattle.imagesize_source.specs.declared.endian.Endian.{Endian}
 use Rattle.imagesize_source.specs.Input.{part, span_at, span_of}
@@ -166,15 +167,15 @@ past-recorded a [] = none_more a.recorded where
 past-recorded a (x ∷ s) = past-recorded (step a x) s ∙ one_more a.recorded x s
 
 -- what was missed in some spans' readings was missed in those of others
-pub missed_as : (a m b : State) (marks others : List Span) → ((s : Span) → Misses m b marks s → Misses a b others s)
+pub missed_as : (a m b : State) (marks others : List Span) → ((s : Missing) → Misses m b marks s → Misses a b others s)
     → Missed m b marks
     → Missed a b others
 missed_as a m b marks others same h = record { told = by_told b.missed h.told } where
-  by_span : (o : Option Span) → IsSomeAnd o (Misses m b marks) → IsSomeAnd o (Misses a b others)
+  by_span : (o : Option Missing) → IsSomeAnd o (Misses m b marks) → IsSomeAnd o (Misses a b others)
   by_span None none = none
   by_span (Some s) is = same s is
 
-  by_told : (o : Option (Option Span)) → IfSome o (λ x. IsSomeAnd x (Misses m b marks))
+  by_told : (o : Option (Option Missing)) → IfSome o (λ x. IsSomeAnd x (Misses m b marks))
       → IfSome o (λ x. IsSomeAnd x (Misses a b others))
   by_told None none = tt
   by_told (Some o) is = by_span o is
@@ -195,6 +196,7 @@ missed_behind a m b before marks past_before h = missed_as a m b marks (before +
       all = ap (λ ms. before ++ ms) is.all ∙ sym (append_assoc before is.made (is.mark ∷ is.rest));
       behind = is.behind;
       within = is.within;
+      reaches = is.reaches;
     }) h
 
 pub missed_before : (a b : State) (marks more : List Span) → Missed a b marks → Missed a b (marks ++ more)
@@ -206,6 +208,7 @@ missed_before a b marks more h = missed_as a a b marks (marks ++ more) (λ s is.
   all = ap (λ ms. ms ++ more) is.all ∙ append_assoc is.made (is.mark ∷ is.rest) more;
   behind = is.behind;
   within = is.within;
+  reaches = is.reaches;
 }) h
 
 pub past-held : (a : State) (s : List Span) → (state_after a s).held ≡ a.held

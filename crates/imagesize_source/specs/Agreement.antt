@@ -2,7 +2,8 @@
 use Rattle.std.specs.Prelude.{◌≡◌, ℕ, ◌+◌, Bool, true, false, ◌&&◌, ◌||◌, ◌⊎◌, List, [], ◌∷◌, ◌++◌, length, slice_index, nat_le, nat_lt}
 use Rattle.std.specs.List.{list_any}
 use Rattle.imagesize_source.specs.declared.span.Span.{Span}
-use Rattle.imagesize_source.specs.Reading.{Reads}
+use Rattle.imagesize_source.specs.Layout.{Layout, done, refuse, field, reading, begin_record}
+use Rattle.imagesize_source.specs.Reading.{Reads, Reading, AllOf, PartOf, TextOf}
 
 -- whether the span contains the offset
 abbrev pub has_offset : Span → ℕ → Bool
@@ -47,3 +48,17 @@ Alike texts d e p q = (q ≡ p) ⊎ Parting texts d e p.marks q.marks
 -- or the inputs part. `texts` says whether they read texts.
 abbrev pub IsLocal : {X : Type 0} → Bool → (List ℕ → Reads X) → Type 0
 IsLocal texts r = (d e : List ℕ) → length e ≡ length d → Alike texts d e (r d) (r e)
+
+-- a text is read only if `texts` is true
+abbrev pub IsRead : Bool → Reading → Type 0
+IsRead texts (AllOf k) = Unit {0}
+IsRead texts (PartOf k) = Unit {0}
+IsRead texts (TextOf t k) = texts ≡ true
+
+-- the same for all readings of a layout
+abbrev pub AllRead : {X : Type 0} → Bool → Layout X → Type 0
+AllRead texts (done x) = Unit {0}
+AllRead texts (refuse e) = Unit {0}
+AllRead texts (field order offset k f) = (v : ℕ) → AllRead texts (f v)
+AllRead texts (reading r offset f) = IsRead texts r × ((bs : List ℕ) → AllRead texts (f bs))
+AllRead texts (begin_record t) = AllRead texts t

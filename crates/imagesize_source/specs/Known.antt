@@ -1,5 +1,5 @@
 -- The known parts of an input.
-use Rattle.std.specs.Prelude.{◌≡◌, ℕ, ◌+◌, ◌-◌, ◌^◌, ◌<◌, ◌≤◌, min, Bool, true, false, ◌&&◌, List, [], ◌∷◌, length, drop, map, slice_index, nat_le, nat_lt, if◌then◌else◌, Option, None, Some, is_some, option_map}
+use Rattle.std.specs.Prelude.{◌≡◌, ℕ, ◌+◌, ◌-◌, ◌^◌, ◌<◌, ◌≤◌, min, Bool, true, false, ◌&&◌, List, [], ◌∷◌, length, drop, map, slice_index, nat_le, nat_lt, if◌then◌else◌, Option, None, Some, is_some}
 use Rattle.std.specs.Prelude.{unwrap_or, flat_map}
 use Rattle.std.specs.List.{range_with_len}
 use Rattle.imagesize_source.specs.declared.source.parts.Missing.{Missing}
@@ -27,9 +27,10 @@ byte_in_parts n [] bytes offset = None
 byte_in_parts n (s ∷ spans) bytes offset =
     if reaches n s offset then byte_of bytes (offset - s.start) else byte_in_parts n spans (drop (length_within n s) bytes) offset
 
--- an input that has the known bytes, and 0 at every other offset
+-- An input that has the known bytes, and 1 at every other offset. No text ends with a 1, so each text in it goes on as
+-- far as it can.
 unfoldable pub filled_input : ℕ → List Span → List ℕ → List ℕ
-filled_input n spans bytes = map (λ offset. unwrap_or (byte_in_parts n spans bytes offset) 0) (range_with_len 0 n)
+filled_input n spans bytes = map (λ offset. unwrap_or (byte_in_parts n spans bytes offset) 1) (range_with_len 0 n)
 
 -- the bytes of an input in these spans, one span after another
 abbrev pub bytes_of : List ℕ → List Span → List ℕ
@@ -49,10 +50,6 @@ AllKnown n spans bytes seen = (offset : ℕ) → is_covered seen offset ≡ true
 abbrev pub Lacks : ℕ → List Span → List ℕ → Missing → Type 0
 Lacks n spans bytes m = (0 < m.sure) × (m.sure ≤ m.most) × (m.start + m.most ≤ n) × (is_some (byte_in_parts n spans bytes m.start) ≡ false)
 
--- the missing bytes that are certain to be read
-abbrev pub sure_of : Missing → Span
-sure_of m = record { start = m.start; len = m.sure }
-
 -- The known parts as a source. It counts no bytes, and a read of a missing byte fails.
 abbrev pub parts_state : ℕ → List Span → List ℕ → List Span → Option Missing → State
 parts_state n spans bytes seen missed = record {
@@ -61,7 +58,7 @@ parts_state n spans bytes seen missed = record {
   front = 0;
   taken = 0;
   recorded = Some seen;
-  missed = Some (option_map sure_of missed);
+  missed = Some missed;
   failure = end_of_input;
   failed = None;
 }

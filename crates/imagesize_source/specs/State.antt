@@ -4,6 +4,7 @@ use Rattle.imagesize_source.specs.Input.{span_at}
 use Rattle.imagesize_source.specs.Limits.{most_held}
 use Rattle.imagesize_source.specs.declared.error.ImageError.{ImageError}
 use Rattle.imagesize_source.specs.declared.halt.Halt.{Halt}
+use Rattle.imagesize_source.specs.declared.source.parts.Missing.{Missing}
 use Rattle.imagesize_source.specs.declared.span.Span.{Span}
 use Rattle.imagesize_source.specs.Errors.{end_of_input, is_fault}
 use Rattle.imagesize_source.specs.Layout.{Layout, layout_reads}
@@ -69,7 +70,7 @@ pub record State : Type 0 where
   pub front : ℕ
   pub taken : ℕ
   pub recorded : Option (List Span)
-  pub missed : Option (Option Span)
+  pub missed : Option (Option Missing)
   pub failure : ImageError
   pub failed : Option (Option ImageError)
 
@@ -109,16 +110,17 @@ pub record EndedBy (b : State) (halt : Halt) : Type 0 where
   pub budget : is_spent halt ≡ true → (b.frame.counts ≡ true) × (b.frame.budget ≡ b.taken)
   pub fault : is_failure halt ≡ true → IfSome b.failed (λ failed. (failed ≡ Some b.failure) × (is_fault b.failure ≡ true))
 
--- A failed call made the first of these reads. It saw the bytes of the next one up to those that it missed, which lie
--- within that read's span.
-pub record Misses (a b : State) (marks : List Span) (missed : Span) : Type 0 where
+-- A failed call made the first of these reads. It saw the bytes of the next one up to those that it missed. Those that
+-- are certain to be read lie within that read's span, and all that it requests reach to the span's end.
+pub record Misses (a b : State) (marks : List Span) (missed : Missing) : Type 0 where
   pub made : List Span
   pub mark : Span
   pub rest : List Span
   pub recorded : b.recorded ≡ option_map (λ spans. spans ++ (made ++ span_at mark.start (missed.start - mark.start))) a.recorded
   pub all : marks ≡ made ++ mark ∷ rest
   pub behind : mark.start ≤ missed.start
-  pub within : missed.start + missed.len ≤ mark.start + mark.len
+  pub within : missed.start + missed.sure ≤ mark.start + mark.len
+  pub reaches : mark.start + mark.len ≤ missed.start + missed.most
 
 -- what the last failed read missed, if the source reports it
 pub record Missed (a b : State) (marks : List Span) : Type 0 where

@@ -1,6 +1,6 @@
 //! The known parts of an input as a source. A read of known bytes succeeds; any other read fails and records which byte it
 //! misses.
-ghost use Rattle.std.specs.Prelude.{◌≡◌, ℕ, ◌+◌, ◌-◌, ◌<◌, ◌≤◌, ◌++◌, ◌&&◌, [], ◌∷◌, if◌then◌else◌, min, take, drop, length, slice_index, not, nat_le, nat_lt, is_some, true, false, None, Some, IfOk, IfSome};
+ghost use Rattle.std.specs.Prelude.{◌≡◌, ℕ, ◌+◌, ◌-◌, ◌<◌, ◌≤◌, ◌++◌, ◌&&◌, [], ◌∷◌, if◌then◌else◌, min, take, drop, length, slice_index, not, nat_le, nat_lt, is_some, true, false, None, Some, IfErr, IfOk, IfSome, IsSomeAnd};
 ghost use Rattle.std.specs.Option.{ForSome};
 ghost use Rattle.imagesize_source.specs.Agreement.{has_offset};
 ghost use Rattle.imagesize_source.specs.Input.{part, span_at};
@@ -158,6 +158,10 @@ impl<'a> PartsSource<'a> {
     fn gather_at(&mut self, offset: u64, buffer: &mut [u8]) -> Result<usize, Halt>
         ensures bound { IfOk result (λ n. n ≤ length buffer.new) }
         ensures there { IfOk result (λ n. n ≤ self.old.told - offset) }
+
+        // A failed read misses all its bytes from the first missing one on, as far as the input goes.
+        ensures all { IfErr result (λ _. IsSomeAnd self.new.missed
+            (λ m. (m.start + m.sure ≡ min (offset + length buffer.old) self.old.told) × (m.most ≡ m.sure))) }
         ensures runs { Runs (parts_state self.old.told self.old.spans.now self.old.bytes.now self.old.log.spans self.old.missed)
             (parts_state self.new.told self.new.spans.now self.new.bytes.now self.new.log.spans self.new.missed)
             (map_answer (λ n. take n buffer.new) result)

@@ -13,7 +13,7 @@ returns-then-found-wanted-clause-runs c =
     (s.kept.now ++ s.chunk.now) s.log.spans s.missed _ _ c.args.offset
     f.result.1 f.result.0
     (record { start = c.args.offset + f.result.0; sure = f.result.1 - f.result.0; most = f.result.1 - f.result.0 })
-    f.ensures.wanted c.if-found-wanted.true refl refl
+    f.ensures.wanted c.if-found-wanted.true refl refl refl
     (state_is _ _ _ _ _ _ _ _ _ _ c.miss.ensures.told
     (run_is c.miss.ensures.start c.miss.ensures.kept c.miss.ensures.chunk)
     (both_bytes c.miss.ensures.kept c.miss.ensures.chunk) c.miss.ensures.seen c.miss.ensures.missed))

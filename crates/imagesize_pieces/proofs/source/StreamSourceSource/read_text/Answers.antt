@@ -13,7 +13,7 @@ returns-then-is_cut-clause-runs c =
     c.args.text f.new.buffer c.args.offset _ f.result.1 f.result.0
     (record { start = c.args.offset + f.result.0; sure = 1; most = f.result.1 - f.result.0 })
     f.ensures.wanted f.ensures.within f.ensures.copied (cut_is f.new.buffer f.result.0 f.result.1 c.args.offset s.told _ _
-    f.ensures.wanted f.ensures.within c.is_cut.ensures ∙ c.if-is_cut.true) refl refl
+    f.ensures.wanted f.ensures.within c.is_cut.ensures ∙ c.if-is_cut.true) refl refl refl
     (state_is _ _ _ _ _ _ _ _ _ _ c.miss.ensures.told
     (run_is c.miss.ensures.start c.miss.ensures.kept c.miss.ensures.chunk)
     (both_bytes c.miss.ensures.kept c.miss.ensures.chunk) c.miss.ensures.seen c.miss.ensures.missed))

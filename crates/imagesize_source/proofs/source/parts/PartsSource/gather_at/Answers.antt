@@ -9,7 +9,7 @@ returns-then-found-wanted-clause-runs c =
     rw c.miss.ensures.halts (parts_missing s.told s.spans.now s.bytes.now s.log.spans s.missed _ _ c.args.offset
     f.result.1 f.result.0
     (record { start = c.args.offset + f.result.0; sure = f.result.1 - f.result.0; most = f.result.1 - f.result.0 })
-    f.ensures.wanted c.if-found-wanted.true refl refl
+    f.ensures.wanted c.if-found-wanted.true refl refl refl
     (state_is _ _ _ _ _ _ _ _ _ _ c.miss.ensures.told c.miss.ensures.spans c.miss.ensures.bytes c.miss.ensures.seen
     c.miss.ensures.missed))
 
