@@ -1,5 +1,5 @@
 -- What readings of the bytes so far tell of every input that begins with them.
-use Rattle.std.proofs.Common.{◌≡◌, ℕ, ◌+◌, ◌-◌, ◌^◌, ◌<◌, ◌≤◌, Bool, true, false, ◌⊎◌, inl, inr, List, [], ◌∷◌, ◌++◌, length, slice_index, Option, None, Some, Result, IfSome, IsSomeAnd, refl, sym, ap, ◌∙◌, subst, arith}
+use Rattle.std.proofs.Common.{◌≡◌, ℕ, suc, leb, ◌&&◌, min, ◌+◌, ◌-◌, ◌^◌, ◌<◌, ◌≤◌, Bool, true, false, ◌⊎◌, inl, inr, List, [], ◌∷◌, ◌++◌, length, slice_index, Option, None, Some, Result, IfSome, IsSomeAnd, refl, sym, ap, ◌∙◌, subst, arith}
 use Rattle.std.proofs.lemmas.Bool.{cases_lt}
 use Rattle.std.proofs.lemmas.Bool.Decides.{nat_tests}
 use Rattle.imagesize_source.specs.declared.halt.Halt.{Halt}
@@ -12,7 +12,7 @@ use Rattle.imagesize_source.specs.State.{State, Misses}
 use Rattle.imagesize_source.proofs.Agreement.{covered-left, covered-one, covered-right, covered_one_of}
 use Rattle.imagesize_source.proofs.Among.{Among, covered-any, head_is, later_cut, middle, tail_is}
 use Rattle.imagesize_source.specs.Sharing.{Shares}
-use Rattle.imagesize_pieces.specs.Stream.{AllBelow, Begins, Says, came, end_of, stream_input, stream_state}
+use Rattle.imagesize_pieces.specs.Stream.{AllBelow, Begins, EndsBetween, Says, came, end_of, stream_input, stream_state}
 use Rattle.imagesize_pieces.proofs.Beginning.{Run, begins_left, begins_shares, shares_begun, unknown_behind}
 use Rattle.imagesize_pieces.proofs.Called.{Called, all_seen, answered, is_short, some_is}
 
@@ -101,6 +101,26 @@ alike_among {X} d e f g made rest mark m alike all shares = elim alike [
       (subst (Among parts.other) (sym parts.there) (middle parts.seen parts.other parts.others))
   by_cut parts (inr (inr among)) = subst (Among mark) (sym parts.there) (among (parts.other ∷ parts.others))
 
+last_in : (s : Span) → 0 < s.len → has_offset s (s.start + s.len - 1) ≡ true
+last_in s some = grind (arith, nat_tests)
+
+-- where that mark ends
+pub mark_ends : {a b : State} (marks : List Span) (m : Missing) (is : Misses a b marks m) → 0 < m.sure → (low high : ℕ)
+    → low ≤ m.start → ((offset : ℕ) → is_covered marks offset ≡ true → offset < high)
+    → (low < is.mark.start + is.mark.len) × (is.mark.start + is.mark.len ≤ min (m.start + m.most) high)
+mark_ends marks m is some low high above below =
+    let begins = is.behind in let within = is.within in let reaches = is.reaches in
+    let long : 0 < is.mark.len = omega (arith, begins, within, some) in
+    let last = below (is.mark.start + is.mark.len - 1) (subst (λ s. is_covered s (is.mark.start + is.mark.len - 1) ≡ true)
+    (sym is.all) (covered_one_of is.made is.mark is.rest (is.mark.start + is.mark.len - 1) (last_in is.mark long))) in
+    (omega (arith, within, some, above), omega (arith, reaches, last, long))
+
+-- a mark that ends there
+pub ends_among : (mark : Span) (spans : List Span) (low high : ℕ) → Among mark spans → low < mark.start + mark.len
+    → mark.start + mark.len ≤ high → EndsBetween low high spans
+ends_among mark spans low high among late few =
+    among (λ s. leb (suc low) (s.start + s.len) && leb (s.start + s.len) high) (grind (arith, nat_tests))
+
 module _ {X : Type 0} (f : List ℕ → Reads X) (same : IsShared f) (told start : ℕ) (kept unread front : List ℕ)
     (run : Run front kept unread start)
     (fits : start + (length kept + length unread) ≤ told) (short : told < 2 ^ 63) (log : List Span)
@@ -168,6 +188,22 @@ module _ {X : Type 0} (f : List ℕ → Reads X) (same : IsShared f) (told start
               (is.made ++ span_at is.mark.start (what.0.start - is.mark.start)) begins
               (λ p here. call.seen p (subst (λ s. is_covered s p ≡ true) (sym (some_is is.recorded)) here))),
         )
+
+    -- and one of these ends after the bytes so far, if no text is read
+    pub closed_begun : start ≤ what.0.start → (d : List ℕ) → Begins front told d → Alike false fill d (f fill) (f d)
+        → (high : ℕ) → ((offset : ℕ) → is_covered (f fill).marks offset ≡ true → offset < high)
+        → EndsBetween (length front) (min (end_of missed) high) (f d).marks
+    closed_begun above d begins alike high below =
+        let is = what.2 in
+        let ends : end_of missed ≡ what.0.start + what.0.most = ap end_of what.1 in
+        let at = mark_ends (f fill).marks what.0 is (call.lacks what.0 what.1).0 (length front) high (what_behind above).0
+        below in
+        ends_among is.mark (f d).marks (length front) (min (end_of missed) high)
+        (alike_among fill d (f fill) (f d) is.made is.rest is.mark what.0.start alike is.all
+        (begins_shares told start kept unread front run fits d
+        (is.made ++ span_at is.mark.start (what.0.start - is.mark.start)) begins
+        (λ p here. call.seen p (subst (λ s. is_covered s p ≡ true) (sym (some_is is.recorded)) here))))
+        at.0 (omega (arith, at.1, ends))
 
     -- An input of the told length whose marks all lie in the bytes so far would have missed nothing.
     pub complete_begun : (d : List ℕ) → Begins front told d → length d ≡ told

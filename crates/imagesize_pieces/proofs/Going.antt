@@ -1,10 +1,11 @@
 -- Where a walk over the bytes so far stands, for every input that begins with them.
-use Rattle.std.proofs.Common.{◌≡◌, ℕ, ◌+◌, ◌-◌, ◌^◌, ◌<◌, ◌≤◌, max, min, true, List, [], ◌∷◌, ◌++◌, length, Option, None, Some, Result, Ok, Err, inl, inr, sym, ap, ◌∙◌, subst, arith}
+use Rattle.std.proofs.Common.{◌≡◌, ℕ, ◌+◌, ◌-◌, ◌^◌, ◌<◌, ◌≤◌, max, min, suc, leb, ◌&&◌, Bool, true, false, List, [], ◌∷◌, ◌++◌, length, Option, None, Some, Result, Ok, Err, inl, inr, sym, ap, ◌∙◌, subst, arith}
 use Rattle.std.specs.Prelude.{option_map}
+use Rattle.std.specs.List.{list_any}
 use Rattle.std.specs.Option.{ForSome}
 use Rattle.imagesize_source.specs.declared.source.parts.Missing.{Missing}
 use Rattle.imagesize_source.specs.declared.span.Span.{Span}
-use Rattle.imagesize_source.specs.Agreement.{is_covered}
+use Rattle.imagesize_source.specs.Agreement.{AllRead, has_offset, is_covered}
 use Rattle.imagesize_source.specs.Chain.{Chain, Along, next_record, chain_from, Advances}
 use Rattle.imagesize_source.specs.Input.{span_at}
 use Rattle.imagesize_source.specs.Known.{AllKnown, Lacks, parts_state}
@@ -12,13 +13,14 @@ use Rattle.imagesize_source.specs.Reading.{Reads, go_on, put_behind, uncounted}
 use Rattle.imagesize_source.specs.declared.halt.Halt.{Halt}
 use Rattle.imagesize_source.specs.State.{State, Misses, state_after}
 use Rattle.imagesize_source.proofs.Agreement.{alike_layout, covered-left, covered-right, with_texts}
+use Rattle.imagesize_source.proofs.Among.{Among, any_left, any_right, covered-any}
 use Rattle.imagesize_source.proofs.ChainLaws.{chain_induction}
 use Rattle.imagesize_source.proofs.Chains.{chain_next, chain_stop, chain_unfolds, follows}
 use Rattle.imagesize_source.proofs.Runs.{past-recorded}
 use Rattle.imagesize_source.specs.Sharing.{Stood}
 use Rattle.imagesize_source.proofs.Known.{length-filled_input}
-use Rattle.imagesize_pieces.specs.Stream.{Begins, Reach, SomeBetween, came, end_of, stream_input, stream_state}
-use Rattle.imagesize_pieces.proofs.Asking.{alike_covered, missed_is, missed_covered}
+use Rattle.imagesize_pieces.specs.Stream.{Begins, Needs, Reach, came, end_of, stream_input, stream_state}
+use Rattle.imagesize_pieces.proofs.Asking.{alike_among, alike_covered, ends_among, mark_ends, missed_is, missed_covered}
 use Rattle.imagesize_pieces.proofs.Beginning.{Run, begins_shares, unknown_behind}
 use Rattle.imagesize_pieces.proofs.Called.{is_short, moved, some_is}
 use Rattle.imagesize_pieces.proofs.Reaching.{covered_either, reach_covered}
@@ -62,12 +64,11 @@ stood_as c P t offset told m start kept unread others content first log before m
     (parts_state x y z log missed) t offset) told m
     (came start kept unread) others (kept ++ unread) content same.0 same.1 same.2 stood))
 
--- a mark of the first readings is one of all
-onward_covered : {X Y : Type 0} (marks : List Span) (r : Result X Halt) (f : X → Reads Y) (offset : ℕ)
-    → is_covered marks offset ≡ true
-    → is_covered (go_on marks r f).marks offset ≡ true
-onward_covered marks (Ok x) f offset here = covered-left marks (f x).marks offset here
-onward_covered marks (Err e) f offset here = here
+-- what holds for a mark of the first readings holds for one of all
+onward_any : {X Y : Type 0} (marks : List Span) (r : Result X Halt) (f : X → Reads Y) (P : Span → Bool)
+    → list_any P marks ≡ true → list_any P (go_on marks r f).marks ≡ true
+onward_any marks (Ok x) f P here = any_left P marks (f x).marks here
+onward_any marks (Err e) f P here = here
 
 module _ {C X : Type 0} (c : Chain C X) (P : List C → Type 0) (t : Along C) (told start : ℕ)
     (kept unread front : List ℕ)
@@ -166,24 +167,49 @@ module _ {C X : Type 0} (c : Chain C X) (P : List C → Type 0) (t : Along C) (t
       (begins_shares told start kept unread front run fits d
       (is.made ++ span_at is.mark.start (what.0.start - is.mark.start)) begins seen_known)
 
+  -- its mark is one of that record, if no text is read
+  record_among : (d : List ℕ) → Begins front told d → length d ≡ told → AllRead false (c.said stood.held offset)
+      → Among what.2.mark (next_record c d u).marks
+  record_among d begins as_long read =
+      let is = what.2 in
+      alike_among fill d (next_record c fill u) (next_record c d u) is.made is.rest is.mark what.0.start
+      (alike_layout fill d (c.said stood.held offset) read
+      (as_long ∙ sym (length-filled_input told (came start kept unread) (kept ++ unread))))
+      is.all
+      (begins_shares told start kept unread front run fits d
+      (is.made ++ span_at is.mark.start (what.0.start - is.mark.start)) begins seen_known)
+
   -- An input of the told length depends on it.
-  pub marked_left : (k : ℕ) → Reaches c k → ((e : List ℕ) → Advances c e) → start ≤ t.offset → (d : List ℕ)
-      → Begins front told d → length d ≡ told
-      → SomeBetween (max (length front) offset) (min (end_of missed) (offset + k)) (chain_from c d t).marks
-  marked_left k reaches adv from d begins as_long =
+  pub marked_left : start ≤ t.offset → ((e : List ℕ) → Advances c e) → (d : List ℕ) → Begins front told d
+      → length d ≡ told → (texts : Bool) (high : ℕ) → AllRead texts (c.said stood.held offset)
+      → Reach offset high (c.said stood.held offset)
+      → Needs texts (max (length front) offset) (min (end_of missed) high) (chain_from c d t).marks
+  marked_left from adv d begins as_long texts high read reach =
+      let is = what.2 in
       let none = lacks what.0 what.1 in let some = none.0 in let few = none.1 in
       let here = record_covered d begins as_long in
-      let between = reach_covered d offset (offset + k) (c.said stood.held offset) (reaches stood.held offset)
-      what.0.start here in
+      let between = reach_covered d offset high (c.said stood.held offset) reach what.0.start here in
       let behind = unknown_behind told start kept unread front run fits what.0.start none.3
       (omega (arith, ahead_begun, from, between.0)) in
-      let ends : end_of missed ≡ what.0.start + what.0.most = ap end_of what.1 in (
-        what.0.start,
-        omega (arith, behind, between.0),
-        omega (arith, between.1, ends, some, few),
-        subst (λ w. is_covered w.marks what.0.start ≡ true) (sym (leads_begun d begins))
-            (covered-right stood.made (chain_from c d u).marks what.0.start
-            (subst (λ w. is_covered w.marks what.0.start ≡ true) (sym (chain_unfolds c d u (adv d)))
-            (onward_covered (next_record c d u).marks (next_record c d u).answer (follows c d u.held) what.0.start
-            here))),
+      let ends : end_of missed ≡ what.0.start + what.0.most = ap end_of what.1 in
+      let onward = λ (P : Span → Bool) (among : list_any P (next_record c d u).marks ≡ true).
+      subst (λ w. list_any P w.marks ≡ true) (sym (leads_begun d begins))
+      (any_right P stood.made (chain_from c d u).marks
+      (subst (λ w. list_any P w.marks ≡ true) (sym (chain_unfolds c d u (adv d)))
+      (onward_any (next_record c d u).marks (next_record c d u).answer (follows c d u.held) P among))) in
+      let at = mark_ends (next_record c fill u).marks what.0 is some (max (length front) offset) high
+      (omega (arith, behind, between.0))
+      (λ p there. (reach_covered fill offset high (c.said stood.held offset) reach p there).1) in (
+        (
+          what.0.start,
+          omega (arith, behind, between.0),
+          omega (arith, between.1, ends, some, few),
+          covered-any (chain_from c d t).marks what.0.start ∙ onward (λ s. has_offset s what.0.start)
+              (sym (covered-any (next_record c d u).marks what.0.start) ∙ here),
+        ),
+        λ no_text. onward
+            (λ s. leb (suc (max (length front) offset)) (s.start + s.len) && leb (s.start + s.len) (min (end_of missed) high))
+            (ends_among is.mark (next_record c d u).marks (max (length front) offset) (min (end_of missed) high)
+            (record_among d begins as_long (subst (λ b. AllRead b (c.said stood.held offset)) no_text read))
+            at.0 (omega (arith, at.1, ends))),
       )

@@ -4,4 +4,5 @@ pub mod Called
 pub mod Going
 pub mod Reaching
 pub mod Keeping
+pub mod Needing
 pub mod Streaming

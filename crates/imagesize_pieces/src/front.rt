@@ -1,9 +1,10 @@
 //! Values at fixed offsets, read from the first bytes of an input that arrives in chunks.
-ghost use Rattle.std.specs.Prelude.{◌≡◌, ℕ, ◌<◌, ◌≤◌, ◌^◌, List, length, min, true, false};
+ghost use Rattle.std.specs.Prelude.{◌≡◌, ℕ, ◌<◌, ◌≤◌, ◌^◌, Bool, List, length, min, true, false};
+ghost use Rattle.imagesize_source.specs.Agreement.{AllRead};
 ghost use Rattle.imagesize_source.specs.Layout.{Layout, layout_reads};
 ghost use Rattle.imagesize_source.specs.Reading.{is_faulted, is_stopped};
 ghost use Rattle.imagesize_source.specs.State.{Follows};
-ghost use Rattle.imagesize_pieces.specs.Stream.{AllBelow, Begins, Reach, Says, SomeBetween};
+ghost use Rattle.imagesize_pieces.specs.Stream.{AllBelow, Begins, Needs, Reach, Says};
 
 use crate::source::StreamSource;
 use imagesize_source::Halt;
@@ -33,10 +34,10 @@ pub fn read_front<F: Fixed>(fixed: &F, bytes: &[u8], told: u64) -> (Result<F::An
     ensures complete { is_faulted result.0 ≡ true → (d : List ℕ) → Begins bytes.now told d → length d ≡ told
         → AllBelow (length bytes.now) (layout_reads d (F.layout fixed.now)).marks → ⊥ }
 
-    // The value depends on a missing byte that the failed read requests.
+    // The value depends on a missing byte that the failed read requests. If no text is read, that read ends among them.
     ensures marked { is_faulted result.0 ≡ true → (d : List ℕ) → Begins bytes.now told d → length d ≡ told
-        → (high : ℕ) → Reach 0 high (F.layout fixed.now)
-        → SomeBetween (length bytes.now) (min result.1 high) (layout_reads d (F.layout fixed.now)).marks }
+        → (texts : Bool) (high : ℕ) → AllRead texts (F.layout fixed.now) → Reach 0 high (F.layout fixed.now)
+        → Needs texts (length bytes.now) (min result.1 high) (layout_reads d (F.layout fixed.now)).marks }
 
     // If all bytes of the input are here, the read does not fail.
     ensures whole { told ≤ length bytes.now → is_faulted result.0 ≡ false }

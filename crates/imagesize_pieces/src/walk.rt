@@ -1,9 +1,10 @@
 //! A walk along the records of an input that arrives in chunks. Each chunk continues it, over the kept bytes and the new ones.
-ghost use Rattle.std.specs.Prelude.{◌≡◌, ℕ, ◌+◌, ◌-◌, ◌<◌, ◌≤◌, ◌++◌, List, length, false, max, min, None, IfSome};
+ghost use Rattle.std.specs.Prelude.{◌≡◌, ℕ, ◌+◌, ◌-◌, ◌<◌, ◌≤◌, ◌++◌, Bool, List, length, false, max, min, None, IfSome};
+ghost use Rattle.imagesize_source.specs.Agreement.{AllRead};
 ghost use Rattle.imagesize_source.specs.Reading.{Reads, is_faulted, is_stopped};
 ghost use Rattle.imagesize_source.specs.Walk.{CanFollow, chain_of};
 ghost use Rattle.imagesize_pieces.specs.Standing.{Stands};
-ghost use Rattle.imagesize_pieces.specs.Stream.{AllBelow, Begins, Reach, Says, SomeBetween};
+ghost use Rattle.imagesize_pieces.specs.Stream.{AllBelow, Begins, Needs, Reach, Says};
 
 use crate::buffer::{bytes_behind, keep_behind};
 use crate::source::StreamSource;
@@ -51,10 +52,13 @@ pub fn read_on<R: Records>(
         → AllBelow (length front + length chunk.now) (whole d).marks → ⊥ }
 
     // The result depends on a byte that has not arrived. It is in the next record, and the read that missed a byte requests it.
+    // If the record reads no text, that read ends before `stand.new.end`.
     ensures marked { result ≡ None → (first : ℕ) (whole : List ℕ → Reads R.Answer) (front : List ℕ)
         → Stands first (R.said records.old) (R.keeps records.old) stand.old buffer.old whole front
         → (d : List ℕ) → Begins (front ++ chunk.now) stand.old.told d → length d ≡ stand.old.told
-        → SomeBetween (max stand.new.passed stand.new.start) (min stand.new.end (stand.new.start + (length buffer.old + 1))) (whole d).marks }
+        → (texts : Bool) (high : ℕ) → ((held : List R.Held) → R.keeps records.new held stand.new.offset
+            → AllRead texts (R.said records.new held stand.new.offset) × Reach stand.new.offset high (R.said records.new held stand.new.offset))
+        → Needs texts (max stand.new.passed stand.new.start) (min stand.new.end high) (whole d).marks }
 {
     let passed = stand.passed + chunk.len() as u64;
     let start = stand.start.min(passed);

@@ -21,6 +21,16 @@ pub any_right : (P : Span → Bool) (s t : List Span) → list_any P t ≡ true 
 any_right P [] t is = is
 any_right P (x ∷ s) t is = or_right (P x) (list_any P (s ++ t)) (any_right P s t is)
 
+-- a weaker test passes too
+pub any_more : (P Q : Span → Bool) (spans : List Span) → ((s : Span) → P s ≡ true → Q s ≡ true) → list_any P spans ≡ true
+    → list_any Q spans ≡ true
+any_more P Q [] more is = absurd cc
+any_more P Q (s ∷ spans) more is = by_test (P s) refl (any_more P Q spans more) is where
+  by_test : (b : Bool) → P s ≡ b → (list_any P spans ≡ true → list_any Q spans ≡ true) → b || list_any P spans ≡ true
+      → Q s || list_any Q spans ≡ true
+  by_test true passes rest is = or_left (Q s) (list_any Q spans) (more s passes)
+  by_test false fails rest is = or_right (Q s) (list_any Q spans) (rest is)
+
 pub middle : (before : List Span) (m : Span) (rest : List Span) → Among m (before ++ m ∷ rest)
 middle [] m rest P is = or_left (P m) (list_any P rest) is
 middle (x ∷ before) m rest P is = or_right (P x) (list_any P (before ++ m ∷ rest)) (middle before m rest P is)

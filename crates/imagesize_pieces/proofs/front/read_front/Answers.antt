@@ -1,12 +1,13 @@
-use Rattle.std.proofs.Common.{◌<◌, ◌^◌, ◌++◌, length, refl, sym, ap, ◌∙◌, subst, arith}
+use Rattle.std.proofs.Common.{◌<◌, ◌^◌, ◌++◌, length, min, refl, sym, ap, ◌∙◌, subst, arith}
 use Rattle.std.proofs.lemmas.Bool.{false_from_ne_true}
+use Rattle.imagesize_source.specs.Agreement.{AllRead}
 use Rattle.imagesize_source.specs.Layout.{layout_reads}
 use Rattle.imagesize_source.specs.Reading.{is_faulted}
 use Rattle.imagesize_source.proofs.Agreement.{alike_layout, with_texts}
 use Rattle.imagesize_source.proofs.Known.{length-filled_input}
 use Rattle.imagesize_source.proofs.Sharing.{shared}
-use Rattle.imagesize_pieces.specs.Stream.{Begins, Says, came, stream_input}
-use Rattle.imagesize_pieces.proofs.Asking.{complete_begun, ends_begun, few_begun, marked_begun, none_missed, says_begun}
+use Rattle.imagesize_pieces.specs.Stream.{Begins, EndsBetween, Says, came, stream_input}
+use Rattle.imagesize_pieces.proofs.Asking.{closed_begun, complete_begun, ends_begun, few_begun, marked_begun, none_missed, says_begun}
 use Rattle.imagesize_pieces.proofs.Beginning.{last_run}
 use Rattle.imagesize_pieces.proofs.Called.{called, goes_on}
 use Rattle.imagesize_pieces.proofs.Reaching.{reach_covered}
@@ -67,7 +68,7 @@ returns-clause-complete g c = λ faults d begins as_long below.
     below
 
 pub returns-clause-marked : goal.returns-clause-marked
-returns-clause-marked g c = λ faults d begins as_long high reach.
+returns-clause-marked g c = λ faults d begins as_long texts high read reach.
     let a = c.new-source.result in let b = c.read-found.new.source in let new = c.new-source.ensures in
     let call = called (λ e. layout_reads e
     (g.F.Fixed.layout c.args.fixed.now)) _ _ _ _ _ _ _ b.log.spans _ b.missed _ new.seen new.missed c.read-found.ensures
@@ -84,8 +85,22 @@ returns-clause-marked g c = λ faults d begins as_long high reach.
     (alike_layout fill d (g.F.Fixed.layout c.args.fixed.now) (with_texts (g.F.Fixed.layout c.args.fixed.now))
     (as_long ∙ sym new.told
     ∙ sym (length-filled_input a.told (came a.start a.kept.now a.chunk.now) (a.kept.now ++ a.chunk.now)))) in
-    let reached = reach_covered d 0 high (g.F.Fixed.layout c.args.fixed.now) reach _ marked.2 in
-    (_, marked.0, omega (arith, marked.1, reached.1, c.end.ensures), marked.2)
+    let reached = reach_covered d 0 high (g.F.Fixed.layout c.args.fixed.now) reach _ marked.2 in (
+      (_, marked.0, omega (arith, marked.1, reached.1, c.end.ensures), marked.2),
+      λ no_text. subst (λ k. EndsBetween (length c.args.bytes.now) (min k high)
+          (layout_reads d (g.F.Fixed.layout c.args.fixed.now)).marks) (sym c.end.ensures)
+          (closed_begun (λ e. layout_reads e (g.F.Fixed.layout c.args.fixed.now))
+          (λ d e. shared d e (g.F.Fixed.layout c.args.fixed.now)) a.told a.start a.kept.now a.chunk.now _ run
+          (omega (arith, a.within))
+          (subst (λ k. k < 2 ^ 63) (sym new.told) c.requires.short) b.log.spans b.missed _ call faults
+          (omega (arith, new.start)) d
+          (subst (λ k. Begins c.args.bytes.now k d) (sym new.told) begins)
+          (alike_layout fill d (g.F.Fixed.layout c.args.fixed.now)
+          (subst (λ b. AllRead b (g.F.Fixed.layout c.args.fixed.now)) no_text read)
+          (as_long ∙ sym new.told
+          ∙ sym (length-filled_input a.told (came a.start a.kept.now a.chunk.now) (a.kept.now ++ a.chunk.now))))
+          high (λ p here. (reach_covered fill 0 high (g.F.Fixed.layout c.args.fixed.now) reach p here).1)),
+    )
 
 pub returns-clause-whole : goal.returns-clause-whole
 returns-clause-whole g c = λ all.

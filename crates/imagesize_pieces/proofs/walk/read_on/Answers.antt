@@ -1,17 +1,18 @@
 use Rattle.std.proofs.Common.{◌≡◌, ◌+◌, ◌-◌, ◌++◌, ◌<◌, ◌^◌, length, min, take, drop, true, sym, ◌∙◌, ap, arith, subst, [], None}
 use Rattle.std.proofs.lemmas.List.{length-append, length-take, length-drop}
-use Rattle.imagesize_source.specs.Agreement.{is_covered}
+use Rattle.imagesize_source.specs.Agreement.{AllRead, is_covered}
 use Rattle.imagesize_source.specs.Chain.{chain_from}
 use Rattle.imagesize_source.specs.Reading.{Reads, is_faulted, put_behind}
 use Rattle.imagesize_source.specs.Walk.{chain_of}
 use Rattle.imagesize_source.proofs.Agreement.{covered-right}
 use Rattle.imagesize_source.proofs.Marks.{behind-behind}
 use Rattle.imagesize_source.proofs.Sharing.{chain_shared}
-use Rattle.imagesize_pieces.specs.Stream.{Begins, Says}
+use Rattle.imagesize_pieces.specs.Stream.{Begins, Reach, Says}
 use Rattle.imagesize_pieces.proofs.Asking.{complete_begun, none_missed, says_begun, says_behind}
 use Rattle.imagesize_pieces.proofs.Beginning.{any_run, begins_left, kept_on, run_held}
 use Rattle.imagesize_pieces.proofs.Called.{called, goes_on, same_frame}
 use Rattle.imagesize_pieces.proofs.Going.{ahead_begun, chain_above, ends_left, few_left, leads_begun, marked_left, stood_as}
+use Rattle.imagesize_pieces.proofs.Needing.{needs_behind, needs_wider}
 use Rattle.imagesize_pieces.proofs.Streaming.{both_bytes}
 use Rattle.imagesize_pieces.proofs.walk.read_on.Goals as goal
 
@@ -290,7 +291,7 @@ returns-then-is_faulted-clause-ends g c = λ none.
     )
 
 pub returns-then-is_faulted-clause-marked : goal.returns-then-is_faulted-clause-marked
-returns-then-is_faulted-clause-marked g c = λ none first whole front s d begins as_long.
+returns-then-is_faulted-clause-marked g c = λ none first whole front s d begins as_long texts high reads.
     let a = c.new-source.result in let b = c.walk_on-found.new.source in let new = c.new-source.ensures in
     let faults : is_faulted c.walk_on-found.result ≡ true = sym c.is_faulted.ensures ∙ c.if-is_faulted.true in
     let runs = c.walk_on-found.ensures.runs first s.held s.known in
@@ -312,20 +313,21 @@ returns-then-is_faulted-clause-marked g c = λ none first whole front s d begins
     a.start s.as_many
     (new.kept ∙ ap (λ k. take k c.args.buffer.now) c.saturating_sub-count.ensures ∙ s.rest)
     (new.chunk ∙ c.bytes_behind-unread.ensures ∙ ap (λ k. drop k c.args.chunk.now) c.saturating_sub.ensures) start_is in
+    let read = subst (λ said. AllRead texts (said stood.held c.walk_on-found.new.offset)
+    × Reach c.walk_on-found.new.offset high (said stood.held c.walk_on-found.new.offset))
+    c.walk_on-found.ensures.same (reads stood.held stood.known) in
     let marked = marked_left (chain_of first (g.R.Records.said c.args.records.now)) _
     (record { held = s.held; offset = c.args.stand.now.offset })
     a.told a.start a.kept.now a.chunk.now (front ++ c.args.chunk.now) run
     (omega (arith, a.within)) short b.log.spans b.missed c.walk_on-found.new.offset stood call.seen call.lacks
-    (length c.args.buffer.now + 1) c.requires.reaches c.requires.follows
-    (omega (arith, start_is, c.args.stand.now.ahead)) d
-    (subst (λ k. Begins (front ++ c.args.chunk.now) k d) (sym new.told) begins) (as_long ∙ sym new.told) in (
-      marked.0,
-      omega (arith, marked.1, s.as_many, length-append front c.args.chunk.now),
-      omega (arith, marked.2, c.end-stand.ensures),
-      subst (λ (w : Reads _). is_covered w.marks marked.0 ≡ true)
-          (sym (s.resumes d (begins_left front c.args.chunk.now c.args.stand.now.told d begins)))
-          (covered-right s.before _ marked.0 marked.3),
-    )
+    (omega (arith, start_is, c.args.stand.now.ahead)) c.requires.follows d
+    (subst (λ k. Begins (front ++ c.args.chunk.now) k d) (sym new.told) begins) (as_long ∙ sym new.told) texts high
+    read.0 read.1 in
+    needs_wider texts _ _ _ _ (whole d).marks
+    (omega (arith, s.as_many, length-append front c.args.chunk.now))
+    (omega (arith, c.end-stand.ensures))
+    (needs_behind texts _ _ s.before _ (whole d).marks
+    (ap (λ (w : Reads _). w.marks) (s.resumes d (begins_left front c.args.chunk.now c.args.stand.now.told d begins))) marked)
 
 pub returns-then-is_faulted-clause-whole : goal.returns-then-is_faulted-clause-whole
 returns-then-is_faulted-clause-whole g c = λ all none.
