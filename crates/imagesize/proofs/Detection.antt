@@ -64,7 +64,7 @@ pub kind_few : (type : ImageType) → kind_cost type ≤ 37
 kind_few Tga = omega arith
 kind_few _ = omega arith
 
-with_costs : (offset : ℕ) (head : List ℕ) (found : ImageType)
+pub with_costs : (offset : ℕ) (head : List ℕ) (found : ImageType)
     → CostsBy kind_cost 37 12 (with_compression offset head found)
 unfolding with_compression
 with_costs offset head (Heif _) =

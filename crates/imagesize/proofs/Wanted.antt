@@ -1,13 +1,13 @@
 -- What known parts tell of each input that has them.
-use Rattle.std.proofs.Common.{◌≡◌, ℕ, ◌^◌, ◌+◌, ◌-◌, ◌<◌, ◌≤◌, Bool, true, false, ◌||◌, ◌&&◌, ◌⊎◌, cond, leb, List, [], ◌∷◌, ◌++◌, drop, slice_index, Option, None, Some, is_some, Result, Ok, Err, inl, inr, refl, sym, ap, ◌∙◌, subst, arith}
+use Rattle.std.proofs.Common.{◌≡◌, ℕ, suc, ◌^◌, ◌+◌, ◌-◌, ◌<◌, ◌≤◌, Bool, true, false, ◌||◌, ◌&&◌, ◌⊎◌, cond, leb, List, [], ◌∷◌, ◌++◌, drop, slice_index, Option, None, Some, is_some, Result, Ok, Err, inl, inr, refl, sym, ap, ◌∙◌, subst, arith}
 use Rattle.std.specs.List.{list_any}
 use Rattle.std.specs.Prelude.{option_map, unwrap_or}
-use Rattle.std.proofs.lemmas.Bool.{cases_lt}
+use Rattle.std.proofs.lemmas.Bool.{cases_lt, or_left, or_right}
 use Rattle.std.specs.Option.{ForSome}
 use Rattle.std.specs.Result.{result_ok}
 use Rattle.std.proofs.lemmas.Bool.Decides.{nat_tests}
 use Rattle.imagesize.specs.Meaning.{kind_of, kind_reads, meaning, meaning_reads, size_of, size_reads}
-use Rattle.imagesize.specs.Parted.{Fits, HasKnown, IfFound, IsProbed, Says, SaysOf, Tells, Wants, has_texts, texts_as, texts_of, found_or_wanted, wanted_of, with_type}
+use Rattle.imagesize.specs.Parted.{Fits, HasKnown, IfFound, IfWanted, IsProbed, Says, SaysOf, Tells, Wants, has_texts, texts_as, texts_of, found_or_wanted, wanted_of, with_type}
 use Rattle.imagesize.specs.declared.parts.PartsAnswer.{PartsAnswer}
 use Rattle.imagesize.specs.declared.parts.PartsAnswer.TheVariants.{Found, Wanted}
 use Rattle.imagesize.specs.declared.types.ImageType.{ImageType}
@@ -17,7 +17,7 @@ use Rattle.imagesize_source.specs.declared.error.ImageError.{ImageError}
 use Rattle.imagesize_source.specs.declared.halt.Halt.{Halt}
 use Rattle.imagesize_source.specs.declared.source.parts.Missing.{Missing}
 use Rattle.imagesize_source.specs.declared.span.Span.{Span}
-use Rattle.imagesize_source.specs.Agreement.{Agrees, IsLocal, Parting, is_covered, has_offset, has_whole}
+use Rattle.imagesize_source.specs.Agreement.{Agrees, EndsBetween, IsLocal, Parting, is_covered, has_offset, has_whole}
 use Rattle.imagesize_source.specs.Input.{span_at}
 use Rattle.imagesize_source.specs.Known.{AllKnown, HasParts, Lacks, byte_in_parts, byte_of, filled_input, length_within, reaches, parts_state}
 use Rattle.imagesize_source.specs.Errors.{is_stopped as is_stopped_error}
@@ -344,6 +344,54 @@ unstopped {X} f n spans bytes texts log missed failure budget r short call = by_
   by_test true faults (Some m) c = tt
   by_test false no_fault m c = slice_unstopped failure budget r
       (only_fault r (f (filled_input n spans bytes)) refl c.runs no_fault)
+
+-- over the filled input, all that a read requests reaches to the end of its span
+pub reaches_end : {X : Type 0} (f : List ℕ → Reads X) (n : ℕ) (spans : List Span) (bytes : List ℕ) (texts : Bool)
+    (log : List Span) (missed : Option Missing) (failure : ImageError) (budget : ℕ) (r : Result X Halt) → n < 2 ^ 63
+    → texts ≡ true → Called f n spans bytes log missed r
+    → IfWanted (found_or_wanted (with_error failure budget r)
+    (option_map (wanted_of texts) (cond (is_faulted r) missed None)))
+    (λ w. EndsBetween w.start (w.start + w.len) (f (filled_input n spans bytes)).marks)
+reaches_end {X} f n spans bytes texts log missed failure budget r short is_text call =
+    subst (λ b. IfWanted (found_or_wanted (with_error failure budget r)
+    (option_map (wanted_of b) (cond (is_faulted r) missed None)))
+    (λ w. EndsBetween w.start (w.start + w.len) (f (filled_input n spans bytes)).marks)) (sym is_text)
+    (by_test (is_faulted r) refl missed call) where
+      by_test : (test : Bool) → is_faulted r ≡ test → (m : Option Missing) → Called f n spans bytes log m r
+          → IfWanted (found_or_wanted (with_error failure budget r) (option_map (wanted_of true) (cond test m None)))
+          (λ w. EndsBetween w.start (w.start + w.len) (f (filled_input n spans bytes)).marks)
+      by_test true faults None c = absurd (c.runs.misses (is_short n short) faults).told
+      by_test true faults (Some m) c =
+          let is = (c.runs.misses (is_short n short) faults).told in
+          let some = (c.lacks m refl).0 in let within = is.within in let reaches = is.reaches in
+          subst (EndsBetween m.start (m.start + m.most)) (sym is.all)
+          (middle is.made is.mark is.rest
+          (λ s. leb (suc m.start) (s.start + s.len) && leb (s.start + s.len) (m.start + m.most)) (grind (arith, nat_tests)))
+      by_test false no_fault m c = tt
+
+pub reaches_type : (type : ImageType) (answer : PartsAnswer (Result ImageSize ImageError)) (P : Span → Type 0)
+    → IfWanted answer P → IfWanted (with_type type answer) P
+reaches_type type (Found answer) P is = is
+reaches_type type (Wanted w) P is = is
+
+-- the end of a read of the size is one of all reads
+pub size_ends : (d : List ℕ) (type : ImageType) (w : Span) → ◌≡◌ {A = Result ImageType ImageError} (Ok type) (kind_of d 0).answer
+    → EndsBetween w.start (w.start + w.len) (size_of type d).marks
+    → EndsBetween w.start (w.start + w.len) (meaning d 0).marks
+unfolding meaning_reads
+size_ends d type w is ends =
+    let found = stated_ok (kind_reads d 0).answer type (sym is) in
+    let first : List Span = (kind_reads d 0).marks in
+    let P : Span → Bool = λ s. leb (suc w.start) (s.start + s.len) && leb (s.start + s.len) (w.start + w.len) in
+    ap (λ r. list_any P (go_on first r (λ found. size_reads found d)).marks) found
+    ∙ any_right P first (size_reads type d).marks ends
+
+pub size_ends_of : (d : List ℕ) (type : ImageType) (answer : PartsAnswer (Result ImageSize ImageError))
+    → ◌≡◌ {A = Result ImageType ImageError} (Ok type) (kind_of d 0).answer
+    → IfWanted answer (λ w. EndsBetween w.start (w.start + w.len) (size_of type d).marks)
+    → IfWanted answer (λ w. EndsBetween w.start (w.start + w.len) (meaning d 0).marks)
+size_ends_of d type (Found answer) is ends = tt
+size_ends_of d type (Wanted w) is ends = size_ends d type w is ends
 
 pub unstopped_type : (type : ImageType) (answer : PartsAnswer (Result ImageSize ImageError))
     → IfFound answer (λ r. is_stopped_error r ≡ false)

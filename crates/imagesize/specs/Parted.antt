@@ -59,6 +59,11 @@ IfFound (Wanted w) IsSo = Unit {0}
 abbrev pub IsProbed : List ℕ → Option ImageType × Result ImageSize ImageError → Type 0
 IsProbed d found = (found.0 ≡ result_ok (kind_of d 0).answer) × (found.1 ≡ (meaning d 0).answer)
 
+-- what holds for a requested span
+abbrev pub IfWanted : {T : Type 0} → PartsAnswer T → (Span → Type 0) → Type 0
+IfWanted (Found found) Holds = Unit {0}
+IfWanted (Wanted w) Holds = Holds w
+
 -- a span has at least one byte, and lies within an input of n bytes
 abbrev pub IsWithin : ℕ → Span → Type 0
 IsWithin n w = (0 < w.len) × (w.start + w.len ≤ n)

@@ -1,8 +1,9 @@
 //! Types and sizes from parts of an input, for a caller that does not have all of it.
-ghost use Rattle.std.specs.Prelude.{◌≡◌, ℕ, ◌^◌, ◌<◌, false, List, None, if◌then◌else◌, option_map};
+ghost use Rattle.std.specs.Prelude.{◌≡◌, ℕ, ◌+◌, ◌^◌, ◌<◌, true, false, List, None, if◌then◌else◌, option_map};
 ghost use Rattle.imagesize.specs.Meaning.{kind_of, meaning, size_of};
-ghost use Rattle.imagesize.specs.Parted.{Fits, HasKnown, IfFound, IsProbed, Says, SaysOf, Tells, has_texts, texts_of, found_or_wanted, wanted_of, with_type};
-ghost use Rattle.imagesize_source.specs.Known.{AllKnown};
+ghost use Rattle.imagesize.specs.Parted.{Fits, HasKnown, IfFound, IfWanted, IsProbed, Says, SaysOf, Tells, has_texts, texts_of, found_or_wanted, wanted_of, with_type};
+ghost use Rattle.imagesize_source.specs.Agreement.{EndsBetween};
+ghost use Rattle.imagesize_source.specs.Known.{AllKnown, filled_input};
 ghost use Rattle.imagesize_source.specs.Errors.{end_of_input, is_stopped};
 ghost use Rattle.imagesize_source.specs.Halts.{with_error};
 ghost use Rattle.imagesize_source.specs.Reading.{is_faulted};
@@ -61,6 +62,12 @@ pub fn parts_probe(
     ensures complete { (d : List ℕ) → HasKnown d total spans.now bytes.now → total < 2 ^ 63
         → AllKnown total spans.now bytes.now (meaning d 0).marks → Tells result }
     ensures fits { Fits total result }
+
+    // Once a text format is known, a span reaches to the end of the text. That end is where the text may end at the latest: in
+    // the input whose unknown bytes are all 1.
+    ensures reaches { total < 2 ^ 63 → AllKnown total spans.now bytes.now (kind_of (filled_input total spans.now bytes.now) 0).marks
+        → texts_of (filled_input total spans.now bytes.now) ≡ true
+        → IfWanted result (λ w. EndsBetween w.start (w.start + w.len) (meaning (filled_input total spans.now bytes.now) 0).marks) }
 
     // No result is a fault, a spent budget or a lack of memory.
     ensures unstopped { total < 2 ^ 63 → IfFound result (λ found. is_stopped found.1 ≡ false) }
@@ -135,6 +142,10 @@ impl ImageType {
             → AllKnown total spans.now bytes.now (size_of self.now d).marks → Tells result }
         ensures fits { Fits total result }
 
+        // For a text format, a span reaches to the end of the text, as `parts_probe` says.
+        ensures reaches { total < 2 ^ 63 → has_texts self.now ≡ true
+            → IfWanted result (λ w. EndsBetween w.start (w.start + w.len) (size_of self.now (filled_input total spans.now bytes.now)).marks) }
+
         // No result is a fault, a spent budget or a lack of memory.
         ensures unstopped { total < 2 ^ 63 → IfFound result (λ answer. is_stopped answer ≡ false) }
     {
@@ -167,6 +178,8 @@ fn size_as(source: &mut PartsSource<'_>, image: ImageType) -> PartsAnswer<ImageR
     ensures says { (d : List ℕ) → HasKnown d source.old.told source.old.spans.now source.old.bytes.now → source.old.told < 2 ^ 63
         → SaysOf (has_texts image) (size_of image d) source.old.told source.old.spans.now source.old.bytes.now result }
     ensures fits { Fits source.old.told result }
+    ensures reaches { source.old.told < 2 ^ 63 → has_texts image ≡ true → IfWanted result (λ w. EndsBetween w.start (w.start + w.len)
+        (size_of image (filled_input source.old.told source.old.spans.now source.old.bytes.now)).marks) }
     ensures unstopped { source.old.told < 2 ^ 63 → IfFound result (λ answer. is_stopped answer ≡ false) }
 {
     source.forget();

@@ -5,14 +5,14 @@ use Rattle.std.proofs.lemmas.Bool.Decides.{nat_tests}
 use Rattle.imagesize_source.specs.declared.halt.Halt.{Halt}
 use Rattle.imagesize_source.specs.declared.source.parts.Missing.{Missing}
 use Rattle.imagesize_source.specs.declared.span.Span.{Span}
-use Rattle.imagesize_source.specs.Agreement.{Alike, Parting, is_covered, has_offset}
+use Rattle.imagesize_source.specs.Agreement.{Alike, EndsBetween, Parting, is_covered, has_offset}
 use Rattle.imagesize_source.specs.Input.{span_at}
 use Rattle.imagesize_source.specs.Reading.{Reads, is_faulted, just, put_behind, uncounted}
 use Rattle.imagesize_source.specs.State.{State, Misses}
 use Rattle.imagesize_source.proofs.Agreement.{covered-left, covered-one, covered-right, covered_one_of}
 use Rattle.imagesize_source.proofs.Among.{Among, covered-any, head_is, later_cut, middle, tail_is}
 use Rattle.imagesize_source.specs.Sharing.{Shares}
-use Rattle.imagesize_pieces.specs.Stream.{AllBelow, Begins, EndsBetween, Says, came, end_of, stream_input, stream_state}
+use Rattle.imagesize_pieces.specs.Stream.{AllBelow, Begins, Says, came, end_of, stream_input, stream_state}
 use Rattle.imagesize_pieces.proofs.Beginning.{Run, begins_left, begins_shares, shares_begun, unknown_behind}
 use Rattle.imagesize_pieces.proofs.Called.{Called, all_seen, answered, is_short, some_is}
 

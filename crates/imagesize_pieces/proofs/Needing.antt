@@ -1,12 +1,11 @@
 -- What a result needs, between wider bounds and after other spans.
-use Rattle.std.proofs.Common.{◌≡◌, ℕ, suc, leb, ◌+◌, ◌<◌, ◌≤◌, Bool, true, false, ◌&&◌, List, ◌++◌, sym, ap, ◌∙◌, subst, arith}
-use Rattle.std.specs.List.{list_any}
+use Rattle.std.proofs.Common.{◌≡◌, ℕ, suc, leb, ◌+◌, ◌≤◌, Bool, true, ◌&&◌, List, ◌++◌, sym, subst, arith}
 use Rattle.std.proofs.lemmas.Bool.Decides.{nat_tests}
 use Rattle.imagesize_source.specs.declared.span.Span.{Span}
-use Rattle.imagesize_source.specs.Agreement.{is_covered}
+use Rattle.imagesize_source.specs.Agreement.{EndsBetween, is_covered}
 use Rattle.imagesize_source.proofs.Agreement.{covered-right}
 use Rattle.imagesize_source.proofs.Among.{any_more, any_right}
-use Rattle.imagesize_pieces.specs.Stream.{EndsBetween, Needs}
+use Rattle.imagesize_pieces.specs.Stream.{Needs}
 
 pub ends_wider : (low high less more : ℕ) (spans : List Span) → less ≤ low → high ≤ more → EndsBetween low high spans
     → EndsBetween less more spans

@@ -1,7 +1,6 @@
 -- An input that arrives in chunks: what the bytes so far say about every input that begins with them.
-use Rattle.std.specs.Prelude.{◌≡◌, ℕ, ◌+◌, ◌≤◌, ◌<◌, ◌&&◌, nat_le, nat_lt, Bool, true, false, List, [], ◌∷◌, ◌++◌, length, take, drop, Option, None, Some, Result}
-use Rattle.std.specs.List.{list_any}
-use Rattle.imagesize_source.specs.Agreement.{is_covered}
+use Rattle.std.specs.Prelude.{◌≡◌, ℕ, ◌+◌, ◌≤◌, ◌<◌, Bool, true, false, List, [], ◌∷◌, ◌++◌, length, take, drop, Option, None, Some, Result}
+use Rattle.imagesize_source.specs.Agreement.{EndsBetween, is_covered}
 use Rattle.imagesize_source.specs.Known.{byte_in_parts, filled_input, parts_state}
 use Rattle.imagesize_source.specs.Layout.{Layout, done, refuse, field, reading, begin_record}
 use Rattle.imagesize_source.specs.Reading.{Reads, just, most, put_behind, uncounted}
@@ -32,10 +31,6 @@ AllBelow n spans = (offset : ℕ) → is_covered spans offset ≡ true → offse
 -- an offset of the spans is at least `low` and below `high`
 abbrev pub SomeBetween : ℕ → ℕ → List Span → Type 0
 SomeBetween low high spans = (offset : ℕ) × (low ≤ offset) × (offset < high) × (is_covered spans offset ≡ true)
-
--- one of the spans ends after the offset `low`, and not after `high`
-abbrev pub EndsBetween : ℕ → ℕ → List Span → Type 0
-EndsBetween low high spans = list_any (λ s. nat_lt low (s.start + s.len) && nat_le (s.start + s.len) high) spans ≡ true
 
 -- What a result still needs lies between these offsets: some byte, and if no text is read, the end of a read.
 abbrev pub Needs : Bool → ℕ → ℕ → List Span → Type 0

@@ -57,7 +57,7 @@ pub fn read_on<R: Records>(
         → Stands first (R.said records.old) (R.keeps records.old) stand.old buffer.old whole front
         → (d : List ℕ) → Begins (front ++ chunk.now) stand.old.told d → length d ≡ stand.old.told
         → (texts : Bool) (high : ℕ) → ((held : List R.Held) → R.keeps records.new held stand.new.offset
-            → AllRead texts (R.said records.new held stand.new.offset) × Reach stand.new.offset high (R.said records.new held stand.new.offset))
+        → AllRead texts (R.said records.new held stand.new.offset) × Reach stand.new.offset high (R.said records.new held stand.new.offset))
         → Needs texts (max stand.new.passed stand.new.start) (min stand.new.end high) (whole d).marks }
 {
     let passed = stand.passed + chunk.len() as u64;

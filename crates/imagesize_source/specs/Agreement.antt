@@ -23,6 +23,10 @@ pub record Agrees (d e : List ℕ) (spans : List Span) : Type 0 where
 abbrev pub has_whole : List Span → Span → Bool
 has_whole spans w = list_any (λ s. nat_le s.start w.start && nat_le (w.start + w.len) (s.start + s.len)) spans
 
+-- one of the spans ends after the offset `low`, and not after `high`
+abbrev pub EndsBetween : ℕ → ℕ → List Span → Type 0
+EndsBetween low high spans = list_any (λ s. nat_lt low (s.start + s.len) && nat_le (s.start + s.len) high) spans ≡ true
+
 -- Where two inputs part. Reads over both have the same spans (`seen`), then a span each from the same offset on. The
 -- inputs differ at an offset of both. If no text is read, these two spans are equal.
 pub record Parting (texts : Bool) (d e : List ℕ) (s t : List Span) : Type 0 where

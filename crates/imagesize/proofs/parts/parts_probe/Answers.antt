@@ -1,9 +1,11 @@
-use Rattle.std.proofs.Common.{◌≡◌, ◌<◌, ◌^◌, Result, ◌∙◌, ap, sym, subst, false}
-use Rattle.imagesize.proofs.Wanted.{SaysOfEach, moved, tells, type_refused, type_sized, type_wanted, unstopped_type}
-use Rattle.imagesize.specs.Meaning.{meaning, kind_reads, size_reads}
-use Rattle.imagesize.specs.Parted.{IfFound, IsProbed, Says, has_texts, texts_of}
+use Rattle.std.proofs.Common.{◌≡◌, ◌+◌, ◌<◌, ◌^◌, Result, ◌∙◌, ap, sym, subst, true, false}
+use Rattle.imagesize.proofs.Wanted.{SaysOfEach, filled_known, moved, reaches_type, size_ends_of, tells, type_refused, type_sized, type_wanted, unstopped_type}
+use Rattle.imagesize.specs.Meaning.{kind_of, meaning, kind_reads, size_of, size_reads}
+use Rattle.imagesize.specs.Parted.{IfFound, IfWanted, IsProbed, Says, has_texts, texts_as, texts_of}
 use Rattle.imagesize.specs.declared.parts.PartsAnswer.TheVariants.{Found, Wanted}
 use Rattle.imagesize.specs.declared.types.ImageType.{ImageType}
+use Rattle.imagesize_source.specs.Agreement.{EndsBetween}
+use Rattle.imagesize_source.specs.Known.{filled_input}
 use Rattle.imagesize_source.specs.Errors.{is_stopped}
 use Rattle.imagesize_source.specs.declared.error.ImageError.{ImageError}
 use Rattle.imagesize.proofs.parts.parts_probe.Goals as goal
@@ -62,3 +64,30 @@ returns-in-Found-Err-clause-unstopped c = λ short.
     → IfFound (Found c.in-Found-Err.field-0) (λ answer. is_stopped answer ≡ false)) new.told
     c.in-Found-Err.ensures.unstopped in
     ap (λ (r : Result ImageType ImageError). is_stopped r) (sym c.in-Found-Err.field-0-is) ∙ kind short
+
+pub returns-in-Found-Ok-clause-reaches : goal.returns-in-Found-Ok-clause-reaches
+returns-in-Found-Ok-clause-reaches c = λ short all is_text.
+    let new = c.new-source.ensures in let kept = c.in-Found-Ok.ensures in
+    let n = c.args.total in let spans = c.args.spans.now in let bytes = c.args.bytes.now in
+    let d = filled_input n spans bytes in
+    let kind = moved (SaysOfEach false (λ d. kind_reads d 0) (Found c.in-Found-Ok.field-0)) _ _ _ _ _ _
+    new.told new.spans new.bytes kept.says in
+    let is = sym c.in-Found-Ok.field-0-is ∙ kind d (filled_known n spans bytes) short in
+    let size = moved (λ n spans bytes. n < 2 ^ 63 → has_texts c.in-Found-Ok.image ≡ true
+    → IfWanted c.size_as.result (λ w. EndsBetween w.start (w.start + w.len)
+    (size_of c.in-Found-Ok.image (filled_input n spans bytes)).marks)) _ _ _ _ _ _
+    (kept.told ∙ new.told) (kept.spans ∙ new.spans) (kept.bytes ∙ new.bytes) c.size_as.ensures.reaches in
+    subst (λ a. IfWanted a (λ w. EndsBetween w.start (w.start + w.len) (meaning d 0).marks))
+    (sym c.with_type.ensures)
+    (reaches_type c.in-Found-Ok.image c.size_as.result _
+    (size_ends_of d c.in-Found-Ok.image c.size_as.result is (size short (ap texts_as is ∙ is_text))))
+
+pub returns-in-Wanted-clause-reaches : goal.returns-in-Wanted-clause-reaches
+returns-in-Wanted-clause-reaches c = λ short all is_text.
+    let new = c.new-source.ensures in
+    let n = c.args.total in let spans = c.args.spans.now in let bytes = c.args.bytes.now in
+    let d = filled_input n spans bytes in
+    let kind = moved (SaysOfEach false (λ d. kind_reads d 0) (Wanted c.in-Wanted.span)) _ _ _ _ _ _
+    new.told new.spans new.bytes c.in-Wanted.ensures.says in
+    absurd (tells false (λ answer. answer ≡ (kind_of d 0).answer) (kind_of d 0).marks n spans bytes (Wanted c.in-Wanted.span)
+    (kind d (filled_known n spans bytes) short) all)

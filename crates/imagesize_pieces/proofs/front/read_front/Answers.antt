@@ -1,12 +1,12 @@
 use Rattle.std.proofs.Common.{◌<◌, ◌^◌, ◌++◌, length, min, refl, sym, ap, ◌∙◌, subst, arith}
 use Rattle.std.proofs.lemmas.Bool.{false_from_ne_true}
-use Rattle.imagesize_source.specs.Agreement.{AllRead}
+use Rattle.imagesize_source.specs.Agreement.{AllRead, EndsBetween}
 use Rattle.imagesize_source.specs.Layout.{layout_reads}
 use Rattle.imagesize_source.specs.Reading.{is_faulted}
 use Rattle.imagesize_source.proofs.Agreement.{alike_layout, with_texts}
 use Rattle.imagesize_source.proofs.Known.{length-filled_input}
 use Rattle.imagesize_source.proofs.Sharing.{shared}
-use Rattle.imagesize_pieces.specs.Stream.{Begins, EndsBetween, Says, came, stream_input}
+use Rattle.imagesize_pieces.specs.Stream.{Begins, Says, came, stream_input}
 use Rattle.imagesize_pieces.proofs.Asking.{closed_begun, complete_begun, ends_begun, few_begun, marked_begun, none_missed, says_begun}
 use Rattle.imagesize_pieces.proofs.Beginning.{last_run}
 use Rattle.imagesize_pieces.proofs.Called.{called, goes_on}
