@@ -167,14 +167,13 @@ module _ {C X : Type 0} (c : Chain C X) (P : List C → Type 0) (t : Along C) (t
       (is.made ++ span_at is.mark.start (what.0.start - is.mark.start)) begins seen_known)
 
   -- An input of the told length depends on it.
-  pub marked_left : (k : ℕ) → Reaches c k → ((e : List ℕ) → Advances c e) → start ≤ t.offset → (d : List ℕ)
-      → Begins front told d → length d ≡ told
-      → SomeBetween (max (length front) offset) (min (end_of missed) (offset + k)) (chain_from c d t).marks
-  marked_left k reaches adv from d begins as_long =
+  pub marked_left : (high : ℕ) → Reach offset high (c.said stood.held offset) → ((e : List ℕ) → Advances c e)
+      → start ≤ t.offset → (d : List ℕ) → Begins front told d → length d ≡ told
+      → SomeBetween (max (length front) offset) (min (end_of missed) high) (chain_from c d t).marks
+  marked_left high reaches adv from d begins as_long =
       let none = lacks what.0 what.1 in let some = none.0 in let few = none.1 in
       let here = record_covered d begins as_long in
-      let between = reach_covered d offset (offset + k) (c.said stood.held offset) (reaches stood.held offset)
-      what.0.start here in
+      let between = reach_covered d offset high (c.said stood.held offset) reaches what.0.start here in
       let behind = unknown_behind told start kept unread front run fits what.0.start none.3
       (omega (arith, ahead_begun, from, between.0)) in
       let ends : end_of missed ≡ what.0.start + what.0.most = ap end_of what.1 in (

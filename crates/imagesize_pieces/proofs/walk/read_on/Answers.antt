@@ -7,7 +7,7 @@ use Rattle.imagesize_source.specs.Walk.{chain_of}
 use Rattle.imagesize_source.proofs.Agreement.{covered-right}
 use Rattle.imagesize_source.proofs.Marks.{behind-behind}
 use Rattle.imagesize_source.proofs.Sharing.{chain_shared}
-use Rattle.imagesize_pieces.specs.Stream.{Begins, Says}
+use Rattle.imagesize_pieces.specs.Stream.{Begins, Reach, Says}
 use Rattle.imagesize_pieces.proofs.Asking.{complete_begun, none_missed, says_begun, says_behind}
 use Rattle.imagesize_pieces.proofs.Beginning.{any_run, begins_left, kept_on, run_held}
 use Rattle.imagesize_pieces.proofs.Called.{called, goes_on, same_frame}
@@ -290,7 +290,7 @@ returns-then-is_faulted-clause-ends g c = λ none.
     )
 
 pub returns-then-is_faulted-clause-marked : goal.returns-then-is_faulted-clause-marked
-returns-then-is_faulted-clause-marked g c = λ none first whole front s d begins as_long.
+returns-then-is_faulted-clause-marked g c = λ none high far first whole front s d begins as_long.
     let a = c.new-source.result in let b = c.walk_on-found.new.source in let new = c.new-source.ensures in
     let faults : is_faulted c.walk_on-found.result ≡ true = sym c.is_faulted.ensures ∙ c.if-is_faulted.true in
     let runs = c.walk_on-found.ensures.runs first s.held s.known in
@@ -316,7 +316,8 @@ returns-then-is_faulted-clause-marked g c = λ none first whole front s d begins
     (record { held = s.held; offset = c.args.stand.now.offset })
     a.told a.start a.kept.now a.chunk.now (front ++ c.args.chunk.now) run
     (omega (arith, a.within)) short b.log.spans b.missed c.walk_on-found.new.offset stood call.seen call.lacks
-    (length c.args.buffer.now + 1) c.requires.reaches c.requires.follows
+    high (subst (λ said. Reach c.walk_on-found.new.offset high (said stood.held c.walk_on-found.new.offset))
+    c.walk_on-found.ensures.same (far stood.held stood.known)) c.requires.follows
     (omega (arith, start_is, c.args.stand.now.ahead)) d
     (subst (λ k. Begins (front ++ c.args.chunk.now) k d) (sym new.told) begins) (as_long ∙ sym new.told) in (
       marked.0,
