@@ -50,8 +50,11 @@ pub fn read_on<R: Records>(
         → (d : List ℕ) → Begins (front ++ chunk.now) stand.old.told d → length d ≡ stand.old.told
         → AllBelow (length front + length chunk.now) (whole d).marks → ⊥ }
 
-    // The buffer holds the bytes from the next record on.
+    // The buffer holds the bytes from the next record on, and not all bytes up to which that record is read.
     ensures starts { result ≡ None → stand.new.start ≡ stand.new.offset }
+    ensures few { result ≡ None → (high : ℕ)
+        → ((held : List R.Held) → R.keeps records.new held stand.new.offset → Reach stand.new.offset high (R.said records.new held stand.new.offset))
+        → stand.new.passed < high }
 
     // The result depends on a byte that has not arrived. It is in the next record, and the read that missed a byte requests it.
     // It is before each offset `high` up to which that record is read.
