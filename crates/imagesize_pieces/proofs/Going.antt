@@ -116,11 +116,10 @@ module _ {C X : Type 0} (c : Chain C X) (P : List C → Type 0) (t : Along C) (t
   ahead_begun = stood.ahead honest
 
   -- what is missed lies in the record, and after the bytes so far, so that few of them are kept
-  pub few_left : (k : ℕ) → Reaches c k → start ≤ t.offset → length front < offset + k
-  few_left k reaches from =
+  pub few_left : (high : ℕ) → Reach offset high (c.said stood.held offset) → start ≤ t.offset → length front < high
+  few_left high reaches from =
       let is = what.2 in let none = lacks what.0 what.1 in
-      let between = reach_covered fill offset (offset + k) (c.said stood.held offset)
-      (reaches stood.held offset) what.0.start
+      let between = reach_covered fill offset high (c.said stood.held offset) reaches what.0.start
       (missed_covered (next_record c fill u).marks what.0 is none.0) in
       let behind = unknown_behind told start kept unread front run fits what.0.start none.3
       (omega (arith, ahead_begun, from, between.0)) in

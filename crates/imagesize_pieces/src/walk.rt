@@ -51,13 +51,20 @@ pub fn read_on<R: Records>(
         → (d : List ℕ) → Begins (front ++ chunk.now) stand.old.told d → length d ≡ stand.old.told
         → AllBelow (length front + length chunk.now) (whole d).marks → ⊥ }
 
+    // The buffer holds the bytes from the next record on, and not all bytes up to which that record is read.
+    ensures starts { result ≡ None → stand.new.start ≡ stand.new.offset }
+    ensures few { result ≡ None → (high : ℕ)
+        → ((held : List R.Held) → R.keeps records.new held stand.new.offset → Reach stand.new.offset high (R.said records.new held stand.new.offset))
+        → stand.new.passed < high }
+
     // The result depends on a byte that has not arrived. It is in the next record, and the read that missed a byte requests it.
-    // If the record reads no text, that read ends before `stand.new.end`.
-    ensures marked { result ≡ None → (first : ℕ) (whole : List ℕ → Reads R.Answer) (front : List ℕ)
+    // It is before each offset `high` up to which that record is read. If the record reads no text, that read ends before
+    // `stand.new.end`.
+    ensures marked { result ≡ None → (texts : Bool) (high : ℕ) → ((held : List R.Held) → R.keeps records.new held stand.new.offset
+        → AllRead texts (R.said records.new held stand.new.offset) × Reach stand.new.offset high (R.said records.new held stand.new.offset))
+        → (first : ℕ) (whole : List ℕ → Reads R.Answer) (front : List ℕ)
         → Stands first (R.said records.old) (R.keeps records.old) stand.old buffer.old whole front
         → (d : List ℕ) → Begins (front ++ chunk.now) stand.old.told d → length d ≡ stand.old.told
-        → (texts : Bool) (high : ℕ) → ((held : List R.Held) → R.keeps records.new held stand.new.offset
-        → AllRead texts (R.said records.new held stand.new.offset) × Reach stand.new.offset high (R.said records.new held stand.new.offset))
         → Needs texts (max stand.new.passed stand.new.start) (min stand.new.end high) (whole d).marks }
 {
     let passed = stand.passed + chunk.len() as u64;

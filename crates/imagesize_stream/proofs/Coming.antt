@@ -1,7 +1,8 @@
 -- What more bytes leave of what the bytes so far tell.
-use Rattle.std.proofs.Common.{◌≡◌, ℕ, ◌-◌, ◌≤◌, List, [], ◌∷◌, ◌++◌, length, take, drop, Option, Some, None, Result, Ok, refl, sym, ap, ◌∙◌, subst, arith}
+use Rattle.std.proofs.Common.{◌≡◌, ℕ, ◌-◌, ◌≤◌, Bool, List, [], ◌∷◌, ◌++◌, length, take, drop, Option, Some, None, Result, Ok, refl, sym, ap, ◌∙◌, subst, arith}
 use Rattle.std.proofs.lemmas.List.{length-take}
 use Rattle.imagesize.specs.Meaning.{meaning_reads}
+use Rattle.imagesize.specs.Parted.{has_texts}
 use Rattle.imagesize.specs.declared.types.ImageType.{ImageType}
 use Rattle.imagesize_pieces.proofs.Beginning.{begins_left}
 use Rattle.imagesize_pieces.specs.Stream.{Begins, Says, Streams}
@@ -9,7 +10,7 @@ use Rattle.imagesize.specs.Meaning.{kind_reads}
 use Rattle.imagesize_source.specs.Layout.{layout_reads}
 use Rattle.imagesize_stream.proofs.Hearing.{opened_behind}
 use Rattle.imagesize_stream.specs.Probe.{IfAwaiting}
-use Rattle.imagesize_stream.specs.Steps.{Awaits, IsSteady, awaited_said}
+use Rattle.imagesize_stream.specs.Steps.{Awaits, IsSteady, awaited_said, is_text}
 use Rattle.imagesize_stream.specs.Streamed.{opening}
 use Rattle.imagesize_stream.specs.declared.awaited.Awaited.{Awaited}
 use Rattle.imagesize_stream.specs.declared.front.Opening.TheVariants as opened
@@ -18,7 +19,7 @@ use Rattle.imagesize_stream.specs.declared.stage.Stage.TheVariants.{Done, First,
 use Rattle.imagesize_source.specs.Reading.{Reads}
 use Rattle.imagesize_source.specs.declared.halt.Halt.{Halt}
 use Rattle.imagesize_stream.specs.Heard.{SizeIs, TypeIs}
-use Rattle.imagesize_stream.specs.Probe.{TypeSays}
+use Rattle.imagesize_stream.specs.Probe.{TypeSays, texts_by}
 use Rattle.imagesize_types.specs.declared.size.ImageSize.{ImageSize}
 
 pub type_on : (front chunk : List ℕ) (told now : ℕ) (kind : Option ImageType) → now ≡ told → TypeIs front told kind
@@ -46,11 +47,12 @@ pub opened_came : (buffer : List ℕ) (passed start told offset : ℕ) (next : A
     → passed ≤ length buffer → IsSteady next offset
     → Says (take passed buffer) told (λ d. kind_reads d 0) (Ok type)
     → Says (take passed buffer) told (λ d. layout_reads d (opening type)) (Ok (opened.Records next offset))
-    → Streams 0 awaited_said (λ held. Awaits next held offset) start offset told passed (take (passed - start) buffer)
+    → is_text next ≡ has_texts type
+    → Streams 0 awaited_said (λ held. Awaits (has_texts type) next held offset) start offset told passed (take (passed - start) buffer)
     (λ d. meaning_reads d 0) (take passed buffer)
-opened_came buffer passed start told offset next type first within steady says size = record {
+opened_came buffer passed start told offset next type first within steady says size texts = record {
   held = next ∷ [];
-  known = (refl, steady);
+  known = (refl, steady, texts);
   as_many = omega (arith, length-take passed buffer, within);
   rest =
       let all : passed - start ≡ passed = omega (arith, first) in
@@ -70,3 +72,24 @@ awaiting_map First f p = f p
 awaiting_map (Records next) f p = f p
 awaiting_map (Footer size) f p = f p
 awaiting_map (Done size) f p = tt
+
+-- the records of a walk are texts, or none is, by the type
+pub texts_over : (kind : Option ImageType) (texts : Bool) (next : Awaited) (start offset told passed : ℕ)
+    (kept : List ℕ) (whole : List ℕ → Reads ImageSize) (front : List ℕ) → is_text next ≡ texts
+    → Streams 0 awaited_said (λ held. Awaits (texts_by kind) next held offset) start offset told passed kept whole front
+    → (texts_by kind ≡ texts)
+    × Streams 0 awaited_said (λ held. Awaits texts next held offset) start offset told passed kept whole front
+texts_over kind texts next start offset told passed kept whole front is came =
+    let same : texts_by kind ≡ texts = sym came.known.2 ∙ is in (
+      same,
+      subst (λ t. Streams 0 awaited_said (λ held. Awaits t next held offset) start offset told passed kept whole front)
+          same came,
+    )
+
+pub texts_back : (kind : Option ImageType) (texts : Bool) (next : Awaited) (start offset told passed : ℕ)
+    (kept : List ℕ) (whole : List ℕ → Reads ImageSize) (front : List ℕ) → texts_by kind ≡ texts
+    → Streams 0 awaited_said (λ held. Awaits texts next held offset) start offset told passed kept whole front
+    → Streams 0 awaited_said (λ held. Awaits (texts_by kind) next held offset) start offset told passed kept whole front
+texts_back kind texts next start offset told passed kept whole front same came =
+    subst (λ t. Streams 0 awaited_said (λ held. Awaits t next held offset) start offset told passed kept whole front)
+    (sym same) came

@@ -1,13 +1,13 @@
 -- How far the record that is awaited is read.
-use Rattle.std.proofs.Common.{◌≡◌, ℕ, ◌+◌, ◌-◌, ◌≤◌, min, ◌++◌, drop, Bool, true, false, ◌&&◌, eqb, List, length, slice_index, take, Option, None, Some, Result, Ok, Err, arith}
+use Rattle.std.proofs.Common.{◌≡◌, ℕ, ◌+◌, ◌-◌, ◌<◌, ◌≤◌, min, ◌++◌, drop, Bool, true, false, ◌&&◌, eqb, List, length, slice_index, take, Option, None, Some, Result, Ok, Err, ap, ◌∙◌, subst, arith}
 use Rattle.std.specs.Str.{trim}
-use Rattle.imagesize_pieces.proofs.Reaching.{reach_accept, reach_bind, reach_if}
+use Rattle.imagesize_pieces.proofs.Reaching.{reach_accept, reach_bind, reach_if, reach_more}
 use Rattle.imagesize_pieces.specs.Stream.{Reach}
 use Rattle.imagesize_source.specs.Chain.{Said, Decided, Next}
 use Rattle.imagesize_source.specs.Layout.{Layout, accept, bind, bytes, if_there, whole}
 use Rattle.imagesize_source.specs.Layout.Layout.{begin_record, refuse, «done»}
 use Rattle.imagesize_source.specs.declared.halt.Halt.TheVariants.{Corrupted, DataWindowNotFound, NoDimensionsInIfd}
-use Rattle.imagesize_stream.specs.Steps.{after, decides, ipco_leads, iprp_leads, jxl_verdict, kept_front, kept_of, listed_with, meta_leads, names_of, property_step, step, height_step, word_step}
+use Rattle.imagesize_stream.specs.Steps.{Awaits, after, awaited_said, decides, ipco_leads, iprp_leads, is_text, jxl_verdict, kept_front, kept_of, last_awaited, listed_with, meta_leads, names_of, property_step, reach_of, step, height_step, word_step}
 use Rattle.imagesize_stream.specs.declared.awaited.Awaited.{Awaited}
 use Rattle.imagesize_stream.specs.declared.awaited.Awaited.TheVariants.{Attribute, Box, Chunk, Comment, Directory, Entry, Height, Icon, Ipco, Iprp, Line, Meta, Property, Segment, Word}
 use Rattle.imagesize_texts.proofs.Texts.{line_ok}
@@ -47,31 +47,31 @@ after_size : {C : Type 0} (low high : ℕ) (on : C → Awaited) (said : Said C I
 after_size low high on (Decided size) = tt
 after_size low high on (Next v offset) = tt
 
-frame_far : (offset : ℕ) → Reach offset (offset + 1024) (jpeg_frame offset)
+frame_far : (offset : ℕ) → Reach offset (offset + 132) (jpeg_frame offset)
 frame_far offset = (omega arith, omega arith, λ height. (omega arith, omega arith, λ width. tt))
 
-other_far : (offset marker : ℕ) → Reach offset (offset + 1024) (jpeg_other offset marker)
+other_far : (offset marker : ℕ) → Reach offset (offset + 132) (jpeg_other offset marker)
 other_far offset marker = (omega arith, omega arith, λ length. tt)
 
-segment_far : (k offset : ℕ) → Reach offset (offset + 1024) (jpeg_segment k offset)
+segment_far : (k offset : ℕ) → Reach offset (offset + 132) (jpeg_segment k offset)
 segment_far k offset = (
   omega arith,
   omega arith,
-  λ head few. reach_if (eqb (slice_index head 0) 0xFF) offset (offset + 1024) (jpeg_marked k offset (slice_index head 1))
+  λ head few. reach_if (eqb (slice_index head 0) 0xFF) offset (offset + 132) (jpeg_marked k offset (slice_index head 1))
       (refuse Corrupted)
-      (reach_if (is_own_frame k (slice_index head 1)) offset (offset + 1024) (jpeg_frame offset) _ (frame_far offset)
-      (reach_if (is_own_end k (slice_index head 1)) offset (offset + 1024) (refuse Corrupted)
+      (reach_if (is_own_frame k (slice_index head 1)) offset (offset + 132) (jpeg_frame offset) _ (frame_far offset)
+      (reach_if (is_own_end k (slice_index head 1)) offset (offset + 132) (refuse Corrupted)
       (jpeg_other offset (slice_index head 1)) tt
       (other_far offset (slice_index head 1)))) tt,
 )
 
-chunk_far : (offset : ℕ) → Reach offset (offset + 1024) (ilbm_chunk offset)
+chunk_far : (offset : ℕ) → Reach offset (offset + 132) (ilbm_chunk offset)
 chunk_far offset = (
   omega arith,
   omega arith,
-  λ head few. reach_if (is_bitmap_header head) offset (offset + 1024) (bitmap_header offset) _
+  λ head few. reach_if (is_bitmap_header head) offset (offset + 132) (bitmap_header offset) _
       (omega arith, omega arith, λ width. (omega arith, omega arith, λ height. tt))
-      (reach_if (is_body head) offset (offset + 1024) (refuse Corrupted)
+      (reach_if (is_body head) offset (offset + 132) (refuse Corrupted)
       (done (Next tt (offset + chunk_bytes (chunk_length head)))) tt tt),
 )
 
@@ -133,29 +133,29 @@ hdr_far offset = (
       (reach_accept offset (offset + 1024) (resolution text) (λ size. done (Decided size)) (λ size _. tt)) tt),
 )
 
-accepted_far : (offset : ℕ) (r : Result ImageSize Halt) → Reach offset (offset + 1024) (accept r decides)
-accepted_far offset (Ok size) = tt
-accepted_far offset (Err e) = tt
+accepted_far : (low high : ℕ) (r : Result ImageSize Halt) → Reach low high (accept r decides)
+accepted_far low high (Ok size) = tt
+accepted_far low high (Err e) = tt
 
 height_far : (offset : ℕ) (width : Option ℕ) → Reach offset (offset + 1024) (word offset (height_step width))
 height_far offset width = (
   omega arith,
   omega arith,
   λ bs most. reach_accept offset (offset + 1024) (word_text bs) (height_step width)
-      (λ w _. accepted_far offset (pnm_size width (number_text (trim w.text)))),
+      (λ w _. accepted_far offset (offset + 1024) (pnm_size width (number_text (trim w.text)))),
 )
 
-answer_far : (offset : ℕ) (best : Option ImageSize) → Reach offset (offset + 1024) (icon_answer best)
+answer_far : (offset : ℕ) (best : Option ImageSize) → Reach offset (offset + 132) (icon_answer best)
 answer_far offset None = tt
 answer_far offset (Some size) = tt
 
 icon_far : (count seen : ℕ) (best : Option ImageSize) (offset : ℕ)
-    → Reach offset (offset + 1024) (icon_in count seen best offset)
+    → Reach offset (offset + 132) (icon_in count seen best offset)
 icon_far count seen best offset =
-    reach_if (eqb seen count) offset (offset + 1024) (icon_answer best)
+    reach_if (eqb seen count) offset (offset + 132) (icon_answer best)
     (begin_record (if_there offset 2 (icon_entry best offset))) (answer_far offset best)
     (omega arith, omega arith, λ bs few. entry_far (whole 2 bs)) where
-      entry_far : (found : Option (List ℕ)) → Reach offset (offset + 1024) (icon_entry best offset found)
+      entry_far : (found : Option (List ℕ)) → Reach offset (offset + 132) (icon_entry best offset found)
       entry_far None = answer_far offset best
       entry_far (Some bytes) = tt
 
@@ -164,89 +164,89 @@ head_few Tiff = (omega arith, omega arith, omega arith)
 head_few BigTiff = (omega arith, omega arith, omega arith)
 
 listed_far : (header : Header) (count seen : ℕ) (width height : Option ℕ) (offset : ℕ)
-    → Reach offset (offset + 1024) (entry_behind header count seen width height offset)
+    → Reach offset (offset + 132) (entry_behind header count seen width height offset)
 unfolding tiff_entry tiff_head tiff_value
 listed_far header count seen width height offset =
     let few = head_few header.version in
-    reach_if (eqb seen count) offset (offset + 1024) (refuse NoDimensionsInIfd)
+    reach_if (eqb seen count) offset (offset + 132) (refuse NoDimensionsInIfd)
     (bind (tiff_entry header offset) (entry_says header width height offset)) tt
-    (reach_bind offset (offset + 1024) (tiff_entry header offset) (entry_says header width height offset) (
+    (reach_bind offset (offset + 132) (tiff_entry header offset) (entry_says header width height offset) (
       omega arith,
       omega (arith, few.0),
-      λ head most. reach_accept offset (offset + 1024)
+      λ head most. reach_accept offset (offset + 132)
           (field_type_of header.version (field_type_in header.order (take 4 head))) _
-          (λ field_type _. reach_bind offset (offset + 1024)
+          (λ field_type _. reach_bind offset (offset + 132)
           (tiff_value header.version (offset + head_bytes header.version)) _ (
             omega arith,
             omega (arith, few.0, few.1),
-            λ bs short. reach_accept offset (offset + 1024) (whole_value (whole (value_bytes header.version) bs)) done
+            λ bs short. reach_accept offset (offset + 132) (whole_value (whole (value_bytes header.version) bs)) done
                 (λ value _. tt),
           ) (λ value. tt)),
     ) (λ entry. says_far (size_if_known (side_with 0x100 width entry) (side_with 0x101 height entry)) entry)) where
       says_far : (size : Option ImageSize) (entry : tiff.Entry)
-          → Reach offset (offset + 1024) (done (size_or_next size entry (offset + entry_bytes header.version)))
+          → Reach offset (offset + 132) (done (size_or_next size entry (offset + entry_bytes header.version)))
       says_far None entry = tt
       says_far (Some size) entry = tt
 
-box_far : (tag : List ℕ) (offset : ℕ) → Reach offset (offset + 1024) (searched_box tag offset)
+box_far : (tag : List ℕ) (offset : ℕ) → Reach offset (offset + 132) (searched_box tag offset)
 box_far tag offset = (
   omega arith,
   omega arith,
-  λ head few. by_searched (Reach offset (offset + 1024)) tag offset head tt tt
+  λ head few. by_searched (Reach offset (offset + 132)) tag offset head tt tt
       (λ big. tt),
 )
 
 after_box : (offset : ℕ) (next : Awaited) (leads : FoundBox → Layout (Said Awaited ImageSize))
-    → ((found : FoundBox) → Reach offset (offset + 1024) (leads found))
-    → (said : Said (Unit {0}) FoundBox) → Reach offset (offset + 1024) (after (λ _. next) leads said)
+    → ((found : FoundBox) → Reach offset (offset + 132) (leads found))
+    → (said : Said (Unit {0}) FoundBox) → Reach offset (offset + 132) (after (λ _. next) leads said)
 after_box offset next leads far (Decided found) = far found
 after_box offset next leads far (Next v q) = tt
 
 property_far : (g : Gathered) (offset : ℕ)
-    → Reach offset (offset + 1024) (bind (property_at g.left offset) (property_step g offset))
+    → Reach offset (offset + 132) (bind (property_at g.left offset) (property_step g offset))
 property_far g offset = (
   omega arith,
   omega arith,
-  λ bs few. by_found (λ t. Reach offset (offset + 1024) (bind t (property_step g offset))) g.left offset (whole 8 bs)
-      (accepted_far offset (gathered_answer g)) tt
+  λ bs few. by_found (λ t. Reach offset (offset + 132) (bind t (property_step g offset))) g.left offset (whole 8 bs)
+      (accepted_far offset (offset + 132) (gathered_answer g)) tt
       (omega arith, omega arith, λ content short. tt) (omega arith, omega arith, λ content short. tt) (λ size big. tt),
 )
 
 -- what a box of a JPEG XL says is no reading
-said_far : (offset : ℕ) (said : Said (List ℕ) (List ℕ)) → Reach offset (offset + 1024) (done said)
+said_far : (offset : ℕ) (said : Said (List ℕ) (List ℕ)) → Reach offset (offset + 132) (done said)
 said_far offset said = tt
 
 content_far : (held : List ℕ) (offset : ℕ) (head : BoxHead) → head.length ≤ 16
-    → Reach offset (offset + 1024) (box_content held offset head)
+    → Reach offset (offset + 132) (box_content held offset head)
 content_far held offset head short =
-    by_content (Reach offset (offset + 1024)) held offset head
-    (by_piece (Reach offset (offset + 1024)) (offset + head.length) (min 16 (box_room head))
+    by_content (Reach offset (offset + 132)) held offset head
+    (by_piece (Reach offset (offset + 132)) (offset + head.length) (min 16 (box_room head))
     (λ front. done (Decided front)) (λ _. tt)
     (λ _. (omega arith, omega (arith, short), λ front few. tt)))
     tt
     (λ _. (
       omega arith,
       omega (arith, short),
-      λ index few. by_piece (Reach offset (offset + 1024)) (offset + (head.length + 4))
+      λ index few. by_piece (Reach offset (offset + 132)) (offset + (head.length + 4))
           (min (box_room head - 4) (16 - length held))
           (λ piece. done (partial_said held offset head index piece)) (λ _. tt)
           (λ _. (omega arith, omega (arith, short), λ piece less. tt)),
     ))
     tt
 
-jxl_far : (held : List ℕ) (offset : ℕ) → Reach offset (offset + 1024) (jxl_box held offset)
+jxl_far : (held : List ℕ) (offset : ℕ) → Reach offset (offset + 132) (jxl_box held offset)
 unfolding box_head
 jxl_far held offset = (
   omega arith,
   omega arith,
-  λ front few. by_head (Reach offset (offset + 1024)) offset front (box_content held offset) (
+  λ front few. by_head (Reach offset (offset + 132)) offset front (box_content held offset) (
     omega arith,
     omega arith,
-    λ size. by_checked (Reach offset (offset + 1024)) offset (record { tag = drop 4 front; size = size; length = 16 })
+    λ size. by_checked (Reach offset (offset + 132)) offset (record { tag = drop 4 front; size = size; length = 16 })
         (box_content held offset) (λ e. tt)
         (λ _ _. content_far held offset (record { tag = drop 4 front; size = size; length = 16 }) (omega arith)),
   )
-      (by_checked (Reach offset (offset + 1024)) offset
+      (by_checked (Reach offset (offset + 132)) offset
       (record { tag = drop 4 front; size = number Big (take 4 front); length = 8 })
       (box_content held offset) (λ e. tt)
       (λ _ _. content_far held offset (record { tag = drop 4 front; size = number Big (take 4 front); length = 8 })
@@ -254,16 +254,16 @@ jxl_far held offset = (
 )
 
 after_piece : (offset : ℕ) (on : List ℕ → Awaited) (said : Said (List ℕ) (List ℕ))
-    → Reach offset (offset + 1024) (after on jxl_verdict said)
-after_piece offset on (Decided front) = accepted_far offset (jxl_size front)
+    → Reach offset (offset + 132) (after on jxl_verdict said)
+after_piece offset on (Decided front) = accepted_far offset (offset + 132) (jxl_size front)
 after_piece offset on (Next piece q) = tt
 
-pub step_far : (next : Awaited) (offset : ℕ) → Reach offset (offset + 1024) (step next offset)
-step_far (Segment depth) offset = reach_bind offset (offset + 1024) (jpeg_segment depth offset) _ (segment_far depth offset)
-    (after_size offset (offset + 1024) (λ marker. Segment (depth_behind depth marker)))
+pub step_far : (next : Awaited) (offset : ℕ) → Reach offset (offset + reach_of (is_text next)) (step next offset)
+step_far (Segment depth) offset = reach_bind offset (offset + 132) (jpeg_segment depth offset) _ (segment_far depth offset)
+    (after_size offset (offset + 132) (λ marker. Segment (depth_behind depth marker)))
 step_far Chunk offset =
-    reach_bind offset (offset + 1024) (ilbm_chunk offset) _ (chunk_far offset)
-    (after_size offset (offset + 1024) (λ _. Chunk))
+    reach_bind offset (offset + 132) (ilbm_chunk offset) _ (chunk_far offset)
+    (after_size offset (offset + 132) (λ _. Chunk))
 step_far (Attribute long) offset =
     reach_bind offset (offset + 1024) (exr_attribute (names_of long) offset) _
     (attribute_far (names_of long) offset (names_few long))
@@ -271,25 +271,25 @@ step_far (Attribute long) offset =
 step_far Line offset = reach_bind offset (offset + 1024) (line_at 0x0A offset 256 (hdr_line offset)) _ (hdr_far offset)
     (after_size offset (offset + 1024) (λ _. Line))
 step_far (Icon count seen largest) offset =
-    reach_bind offset (offset + 1024) (icon_in count seen largest offset) _ (icon_far count seen largest offset)
-    (after_size offset (offset + 1024) (λ size. Icon count (seen + 1) (later_largest largest size)))
+    reach_bind offset (offset + 132) (icon_in count seen largest offset) _ (icon_far count seen largest offset)
+    (after_size offset (offset + 132) (λ size. Icon count (seen + 1) (later_largest largest size)))
 step_far (Directory header) offset = (omega arith, omega (arith, (head_few header.version).2), λ count. tt)
 step_far (Entry l) offset =
-    reach_bind offset (offset + 1024) (entry_behind l.header l.count l.seen l.width l.height offset) _
+    reach_bind offset (offset + 132) (entry_behind l.header l.count l.seen l.width l.height offset) _
     (listed_far l.header l.count l.seen l.width l.height offset)
-    (after_size offset (offset + 1024) (λ entry. Entry (listed_with l entry)))
+    (after_size offset (offset + 132) (λ entry. Entry (listed_with l entry)))
 step_far Meta offset =
-    reach_bind offset (offset + 1024) (searched_box (codes "meta") offset) _ (box_far (codes "meta") offset)
+    reach_bind offset (offset + 132) (searched_box (codes "meta") offset) _ (box_far (codes "meta") offset)
     (after_box offset Meta (meta_leads offset) (λ found. (omega arith, omega arith, λ version few. tt)))
 step_far Iprp offset =
-    reach_bind offset (offset + 1024) (searched_box (codes "iprp") offset) _ (box_far (codes "iprp") offset)
+    reach_bind offset (offset + 132) (searched_box (codes "iprp") offset) _ (box_far (codes "iprp") offset)
     (after_box offset Iprp (iprp_leads offset) (λ found. tt))
 step_far Ipco offset =
-    reach_bind offset (offset + 1024) (searched_box (codes "ipco") offset) _ (box_far (codes "ipco") offset)
+    reach_bind offset (offset + 132) (searched_box (codes "ipco") offset) _ (box_far (codes "ipco") offset)
     (after_box offset Ipco (ipco_leads offset) (λ found. tt))
 step_far (Property g) offset = property_far g offset
 step_far (Box kept) offset =
-    reach_bind offset (offset + 1024) (jxl_box (kept_front kept) offset) _ (jxl_far (kept_front kept) offset)
+    reach_bind offset (offset + 132) (jxl_box (kept_front kept) offset) _ (jxl_far (kept_front kept) offset)
     (after_piece offset (λ piece. Box (kept_of (kept_front kept ++ piece))))
 step_far Word offset = (
   omega arith,
@@ -304,3 +304,23 @@ step_far Comment offset = (
       (λ taken _. tt),
 )
 step_far (Height width) offset = height_far offset width
+
+-- no record is read further than a text
+pub step_near : (next : Awaited) (offset : ℕ) → Reach offset (offset + 1024) (step next offset)
+step_near next offset =
+    reach_more offset (offset + reach_of (is_text next)) (offset + 1024) (step next offset)
+    (omega (arith, reach_few (is_text next))) (step_far next offset) where
+      reach_few : (text : Bool) → reach_of text ≤ 1024
+      reach_few true = omega arith
+      reach_few false = omega arith
+
+-- a record of a format with texts, or of one without
+pub awaits_far : {texts : Bool} {next : Awaited} (held : List Awaited) (offset : ℕ) → Awaits texts next held offset
+    → Reach offset (offset + reach_of texts) (awaited_said held offset)
+awaits_far {texts} {next} held offset awaits =
+    subst (λ text. Reach offset (offset + reach_of text) (awaited_said held offset)) (ap is_text awaits.0 ∙ awaits.2)
+    (step_far (last_awaited held) offset)
+
+pub reach_some : (text : Bool) → 0 < reach_of text
+reach_some true = omega arith
+reach_some false = omega arith

@@ -5,6 +5,7 @@ use Rattle.std.proofs.lemmas.Bool.{cases_lt}
 use Rattle.std.proofs.lemmas.List.{drop-append-le, drop-drop, drop-take, drop_all, length-drop, length-take, take_all, take_min}
 use Rattle.std.specs.Result.{result_ok}
 use Rattle.imagesize.specs.Meaning.{kind_reads, meaning_reads}
+use Rattle.imagesize.specs.Parted.{texts_as, texts_of}
 use Rattle.imagesize.specs.declared.types.ImageType.{ImageType}
 use Rattle.imagesize.specs.declared.types.ImageType.TheVariants.{Tga}
 use Rattle.imagesize_fixed.specs.Tga.{is_tga_footer}
@@ -12,13 +13,15 @@ use Rattle.imagesize_pieces.proofs.Beginning.{begins_left}
 use Rattle.imagesize_pieces.specs.Stream.{Begins, SomeBetween}
 use Rattle.imagesize_pieces.specs.declared.stand.Stand.{Stand}
 use Rattle.imagesize_source.specs.Input.{part}
+use Rattle.imagesize_source.specs.Outcome.{stated}
 use Rattle.imagesize_source.specs.declared.halt.Halt.{Halt}
 use Rattle.imagesize_source.specs.declared.halt.Halt.TheVariants.{NotSupported}
 use Rattle.imagesize_source.specs.declared.span.Span.{Span}
 use Rattle.imagesize_stream.specs.Given.{DependsFrom, HasPart, IsGiven, KnownBy, MayBeAt}
 use Rattle.imagesize_stream.specs.Heard.{IsByFooter, OutOfHeader, RestsOnMore}
-use Rattle.imagesize_stream.specs.Probe.{AheadBy, CameBy, CameTo, HoldsAt, HoldsBy, IfAwaiting, MarkedBy, NextBy, RestsOnNext}
+use Rattle.imagesize_stream.specs.Probe.{AheadBy, CameBy, CameTo, HoldsAt, HoldsBy, IfAwaiting, MarkedBy, NextBy, RestsOnNext, texts_by}
 use Rattle.imagesize_stream.specs.Pushed.{stage_answer}
+use Rattle.imagesize_stream.specs.Steps.{is_text, reach_of}
 use Rattle.imagesize_stream.proofs.Coming.{awaiting_map}
 use Rattle.imagesize_types.specs.declared.size.ImageSize.{ImageSize}
 use Rattle.imagesize_stream.specs.declared.stage.Stage.{Stage}
@@ -304,9 +307,12 @@ next_behind (Done size) start passed next end told is ahead = tt
 
 pub next_none : (kind : Option ImageType) (stage : Stage) (passed end told : ℕ) → stage_answer kind stage ≡ None
     → NextBy stage passed end told → (passed < end) × (end ≤ told) × (end ≤ passed + 1024)
-next_none kind First passed end told none next = (next.0, next.1.0, next.1.1.0)
-next_none kind (Records awaited) passed end told none next = (next.0, next.1.0, next.1.1)
-next_none kind (Footer size) passed end told none next = (next.0, next.1.0, next.1.1)
+next_none kind First passed end told none next = (next.0, next.1.0, let few = next.1.1.0 in omega (arith, few))
+next_none kind (Records awaited) passed end told none next = (next.0, next.1.0, widened (is_text awaited) next.1.1) where
+  widened : (text : Bool) → end ≤ passed + reach_of text → end ≤ passed + 1024
+  widened true few = few
+  widened false few = omega (arith, few)
+next_none kind (Footer size) passed end told none next = (next.0, next.1.0, let few = next.1.1 in omega (arith, few))
 next_none kind (Done size) passed end told none next = absurd cc
 
 -- the result depends on a byte of the requested span
@@ -337,3 +343,21 @@ first_next kind (Records awaited) start offset passed end told none holds next i
     let some = holds.1.1 in absurd (omega (arith, some, is))
 first_next kind (Footer size) start offset passed end told none holds next is = absurd (omega (arith, holds, is))
 first_next kind (Done size) start offset passed end told none holds next is = absurd cc
+
+texts_stated : (r : Result ImageType Halt) → texts_as (stated r) ≡ texts_by (result_ok r)
+texts_stated (Ok type) = refl
+texts_stated (Err e) = refl
+
+-- In a format without texts, few bytes are requested.
+pub few_none : (kind : Option ImageType) (stage : Stage) (start offset passed end told : ℕ) (buffer d : List ℕ)
+    → stage_answer kind stage ≡ None → length d ≡ told → NextBy stage passed end told
+    → KnownBy stage kind start offset passed told buffer d → texts_of d ≡ false → end ≤ passed + 132
+few_none kind First start offset passed end told buffer d none as_long next known without = next.1.1.0
+few_none kind (Records awaited) start offset passed end told buffer d none as_long next known without =
+    let type = known.0 d (begins_first d told passed as_long) in
+    let no_text : is_text awaited ≡ false =
+    known.1.known.2 ∙ ap texts_by (sym type) ∙ sym (texts_stated (kind_reads d 0).answer) ∙ without in
+    subst (λ text. end ≤ passed + reach_of text) no_text next.1.1
+few_none kind (Footer size) start offset passed end told buffer d none as_long next known without =
+    let few = next.1.1 in omega (arith, few)
+few_none kind (Done size) start offset passed end told buffer d none as_long next known without = absurd cc

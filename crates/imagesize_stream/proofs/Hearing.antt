@@ -4,6 +4,7 @@ use Rattle.std.proofs.lemmas.Bool.{cases_lt}
 use Rattle.std.proofs.lemmas.Bool.Decides.{nat_tests}
 use Rattle.std.specs.Result.{result_ok}
 use Rattle.imagesize.specs.Meaning.{kind_reads, meaning_reads, size_reads}
+use Rattle.imagesize.specs.Parted.{has_texts}
 use Rattle.imagesize.specs.declared.types.ImageType.{ImageType}
 use Rattle.imagesize_pieces.specs.Stream.{AllBelow, Begins, Says, SomeBetween}
 use Rattle.imagesize_pieces.proofs.Beginning.{begins_all}
@@ -19,7 +20,7 @@ use Rattle.imagesize_stream.proofs.Firsts.{type_by_first}
 use Rattle.imagesize_stream.proofs.Opened.{opened_as, opened_rest}
 use Rattle.imagesize_stream.proofs.Saying.{OpensSteady, opening_steady, saying}
 use Rattle.imagesize_stream.specs.Heard.{RestsBetween, RestsOnMore, SizeIs, TypeIs}
-use Rattle.imagesize_stream.specs.Steps.{IsSteady}
+use Rattle.imagesize_stream.specs.Steps.{IsSteady, is_text}
 use Rattle.imagesize_stream.specs.Streamed.{first_layout, opening, type_behind}
 use Rattle.imagesize_stream.specs.declared.awaited.Awaited.{Awaited}
 use Rattle.imagesize_stream.specs.declared.front.First.{First}
@@ -97,9 +98,10 @@ module _ (front : List ℕ) (told : ℕ) where
     }
 
     pub steady_said : length front ≤ told → (next : Awaited) (offset : ℕ)
-        → Says front told (λ d. layout_reads d (opening type)) (Ok (opened.Records next offset)) → IsSteady next offset
+        → Says front told (λ d. layout_reads d (opening type)) (Ok (opened.Records next offset))
+        → IsSteady next offset × (is_text next ≡ has_texts type)
     steady_said fits next offset is =
-        saying OpensSteady front (opening type) (opened.Records next offset) (opening_steady type)
+        saying (OpensSteady (has_texts type)) front (opening type) (opened.Records next offset) (opening_steady type)
         (ap (λ (r : Reads Opening). r.answer) (is.is front (begins_all front told fits)))
 
   -- a mark of the first readings is one of all

@@ -1,5 +1,6 @@
 -- What a layout says, whatever its readings answer.
-use Rattle.std.proofs.Common.{◌≡◌, ℕ, List, Option, Some, None, Result, Ok, Err, subst, arith}
+use Rattle.std.proofs.Common.{◌≡◌, ℕ, Bool, true, false, List, Option, Some, None, Result, Ok, Err, refl, subst, arith}
+use Rattle.imagesize.specs.Parted.{has_texts}
 use Rattle.imagesize.specs.Types.{way_of}
 use Rattle.imagesize.specs.declared.types.ImageType.{ImageType}
 use Rattle.imagesize.specs.declared.types.ImageType.TheVariants.{Exr, Hdr, Heif, Ico, Ilbm, Jpeg, Jxl, Pnm, Tiff}
@@ -10,7 +11,7 @@ use Rattle.imagesize_source.specs.Reading.{Reads, go_on, number_at, read_of}
 use Rattle.imagesize_source.specs.Way.{Way, Fixed, Recorded, Texts}
 use Rattle.imagesize_source.specs.declared.halt.Halt.{Halt}
 use Rattle.imagesize_source.specs.declared.span.Span.{Span}
-use Rattle.imagesize_stream.specs.Steps.{IsSteady}
+use Rattle.imagesize_stream.specs.Steps.{IsSteady, is_text}
 use Rattle.imagesize_stream.specs.Streamed.{jxl_opened, opening, opening_by, opening_records, opens, sized}
 use Rattle.imagesize_boxes.specs.Jxl.{jxl_size, jxl_start}
 use Rattle.imagesize_stream.specs.declared.awaited.Awaited.TheVariants.{Directory, Line}
@@ -55,40 +56,41 @@ saying_bind P (field order offset k f) g each = λ v. saying_bind P (f v) g each
 saying_bind P (reading r offset f) g each = λ bs. saying_bind P (f bs) g each
 saying_bind P (begin_record t) g each = saying_bind P t g each
 
--- the record that the first bytes tell stands well
-abbrev pub OpensSteady : Opening → Type 0
-OpensSteady (opened.Size size) = Unit {0}
-OpensSteady (opened.Records next offset) = IsSteady next offset
+-- the record that the first bytes tell stands well, and is a text if the format has texts
+abbrev pub OpensSteady : Bool → Opening → Type 0
+OpensSteady texts (opened.Size size) = Unit {0}
+OpensSteady texts (opened.Records next offset) = IsSteady next offset × (is_text next ≡ texts)
 
-steady_sized : (t : Layout ImageSize) → Saying OpensSteady (sized t)
-steady_sized t = saying_bind OpensSteady t (λ size. done (opened.Size size)) (λ size. tt)
+steady_sized : (texts : Bool) (t : Layout ImageSize) → Saying (OpensSteady texts) (sized t)
+steady_sized texts t = saying_bind (OpensSteady texts) t (λ size. done (opened.Size size)) (λ size. tt)
 
-jxl_sized : (r : Result ImageSize Halt) → Saying OpensSteady (accept r (λ size. done (opened.Size size)))
+jxl_sized : (r : Result ImageSize Halt) → Saying (OpensSteady false) (accept r (λ size. done (opened.Size size)))
 jxl_sized (Ok size) = tt
 jxl_sized (Err e) = tt
 
-jxl_steady : (found : Option (List ℕ)) → Saying OpensSteady (jxl_opened found)
+jxl_steady : (found : Option (List ℕ)) → Saying (OpensSteady false) (jxl_opened found)
 jxl_steady (Some front) = jxl_sized (jxl_size front)
-jxl_steady None = omega arith
+jxl_steady None = (omega arith, refl)
 
-records_steady : (type : ImageType) → Saying OpensSteady (opening_records type)
-records_steady Exr = λ version. tt
-records_steady Hdr = saying_bind OpensSteady hdr_identifier (λ first. opens Line first) (λ first. tt)
-records_steady (Heif _) = λ first. tt
-records_steady Ico = λ count. (omega arith, tt)
-records_steady Ilbm = tt
-records_steady Jpeg = omega arith
-records_steady Jxl = saying_bind OpensSteady jxl_start jxl_opened jxl_steady
-records_steady Pnm = tt
+records_steady : (type : ImageType) → Saying (OpensSteady (has_texts type)) (opening_records type)
+records_steady Exr = λ version. (tt, refl)
+records_steady Hdr = saying_bind (OpensSteady true) hdr_identifier (λ first. opens Line first) (λ first. (tt, refl))
+records_steady (Heif _) = λ first. (tt, refl)
+records_steady Ico = λ count. ((omega arith, tt), refl)
+records_steady Ilbm = (tt, refl)
+records_steady Jpeg = (omega arith, refl)
+records_steady Jxl = saying_bind (OpensSteady false) jxl_start jxl_opened jxl_steady
+records_steady Pnm = (tt, refl)
 records_steady Tiff =
-    saying_bind OpensSteady tiff_header (λ header. opens (Directory header) header.directory) (λ header. tt)
+    saying_bind (OpensSteady false) tiff_header (λ header. opens (Directory header) header.directory)
+    (λ header. (tt, refl))
 records_steady type = tt
 
-steady_by : (w : Way ImageSize) (first : Layout Opening) → Saying OpensSteady first
-    → Saying OpensSteady (opening_by w first)
-steady_by (Fixed most layout) first steady = steady_sized layout
-steady_by (Recorded outside each stated reads) first steady = steady
-steady_by (Texts reads) first steady = steady
+steady_by : (texts : Bool) (w : Way ImageSize) (first : Layout Opening) → Saying (OpensSteady texts) first
+    → Saying (OpensSteady texts) (opening_by w first)
+steady_by texts (Fixed most layout) first steady = steady_sized texts layout
+steady_by texts (Recorded outside each stated reads) first steady = steady
+steady_by texts (Texts reads) first steady = steady
 
-pub opening_steady : (type : ImageType) → Saying OpensSteady (opening type)
-opening_steady type = steady_by (way_of type) (opening_records type) (records_steady type)
+pub opening_steady : (type : ImageType) → Saying (OpensSteady (has_texts type)) (opening type)
+opening_steady type = steady_by (has_texts type) (way_of type) (opening_records type) (records_steady type)

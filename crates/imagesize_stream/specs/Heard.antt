@@ -2,6 +2,7 @@
 use Rattle.std.specs.Prelude.{◌≡◌, ◌⊎◌, ℕ, ◌-◌, ◌<◌, ◌≤◌, min, true, List, length, if◌then◌else◌, Option, Result, Ok, Err, IfSome}
 use Rattle.std.specs.Result.{result_ok}
 use Rattle.imagesize.specs.Meaning.{kind_reads, meaning_reads}
+use Rattle.imagesize.specs.Parted.{has_texts}
 use Rattle.imagesize.specs.declared.types.ImageType.{ImageType}
 use Rattle.imagesize_pieces.specs.Stream.{AllBelow, Begins, Says, SomeBetween}
 use Rattle.imagesize.specs.declared.types.ImageType.TheVariants.{Tga}
@@ -12,7 +13,7 @@ use Rattle.imagesize_source.specs.Layout.{layout_reads}
 use Rattle.imagesize_source.specs.declared.halt.Halt.{Halt}
 use Rattle.imagesize_source.specs.declared.halt.Halt.TheVariants.{NotSupported}
 use Rattle.imagesize_types.specs.declared.size.ImageSize.{ImageSize}
-use Rattle.imagesize_stream.specs.Steps.{IsSteady}
+use Rattle.imagesize_stream.specs.Steps.{IsSteady, is_text}
 use Rattle.imagesize_stream.specs.Streamed.{opening}
 use Rattle.imagesize_stream.specs.declared.front.Opening.TheVariants as opened
 use Rattle.imagesize_stream.specs.declared.hear.Heard.{Heard}
@@ -54,6 +55,7 @@ Hears front told (Answer image size) = TypeIs front told image × SizeIs front t
 Hears front told (Records image next offset) =
     IsSteady next offset × Says front told (λ d. kind_reads d 0) (Ok image)
     × Says front told (λ d. layout_reads d (opening image)) (Ok (opened.Records next offset)) × (12 ≤ length front)
+    × (is_text next ≡ has_texts image)
 Hears front told (Footer size) = (18 ≤ length front) × ((d : List ℕ) → Begins front told d → IsByFooter size d)
 
 -- P, if bytes are missing

@@ -1,15 +1,16 @@
 -- A probe whose bytes arrive in chunks: which bytes arrived, and what they say.
-use Rattle.std.specs.Prelude.{◌≡◌, ℕ, ◌+◌, ◌-◌, ◌<◌, ◌≤◌, max, min, false, List, length, drop, take, Option, Some, IfSome}
+use Rattle.std.specs.Prelude.{◌≡◌, ℕ, ◌+◌, ◌-◌, ◌<◌, ◌≤◌, max, min, Bool, false, List, length, drop, take, Option, None, Some, IfSome}
 use Rattle.std.specs.Coded.{Unit-prop, coded_bool, le_prop, ×_prop}
 use denote.Struct.Props.{≡_prop}
 use Rattle.imagesize.specs.Meaning.{meaning_reads}
+use Rattle.imagesize.specs.Parted.{has_texts}
 use Rattle.imagesize.specs.declared.types.ImageType.{ImageType}
 use Rattle.imagesize_pieces.specs.Stream.{Begins, SomeBetween, Streams}
 use Rattle.imagesize_pieces.specs.declared.stand.Stand.{Stand}
 use Rattle.imagesize_source.specs.Reading.{is_stopped}
 use Rattle.imagesize_source.specs.declared.span.Span.{Span}
 use Rattle.imagesize_stream.specs.Heard.{IsByFooter, OutOfHeader, SizeIs, TypeIs}
-use Rattle.imagesize_stream.specs.Steps.{Awaits, IsSteady, awaited_said, steady_prop}
+use Rattle.imagesize_stream.specs.Steps.{Awaits, IsSteady, awaited_said, is_text, reach_of, steady_prop}
 use Rattle.imagesize_stream.specs.declared.stage.Stage.{Stage}
 use Rattle.imagesize_stream.specs.declared.stage.Stage.TheVariants.{Done, First, Footer, Records}
 
@@ -17,12 +18,17 @@ use Rattle.imagesize_stream.specs.declared.stage.Stage.TheVariants.{Done, First,
 abbrev pub TypeSays : List ℕ → ℕ → Option ImageType → Type 0
 TypeSays front told kind = IfSome kind (λ type. TypeIs front told (Some type))
 
+-- whether the type is a text format
+abbrev pub texts_by : Option ImageType → Bool
+texts_by None = false
+texts_by (Some type) = has_texts type
+
 -- These bytes arrived. By the stage, the buffer holds all of them, those from the position of the walk on, or the last
 -- 18; or the result is known.
 abbrev pub CameBy : Stage → Option ImageType → ℕ → ℕ → ℕ → ℕ → List ℕ → List ℕ → Type 0
 CameBy First kind start offset passed told buffer front = (take passed buffer ≡ front) × TypeSays front told kind
 CameBy (Records next) kind start offset passed told buffer front =
-    TypeIs front told kind × Streams 0 awaited_said (λ held. Awaits next held offset) start offset told passed (take (passed - start) buffer)
+    TypeIs front told kind × Streams 0 awaited_said (λ held. Awaits (texts_by kind) next held offset) start offset told passed (take (passed - start) buffer)
     (λ d. meaning_reads d 0) front
 CameBy (Footer size) kind start offset passed told buffer front =
     (passed ≡ length front) × (take 18 buffer ≡ drop (length front - 18) front) × TypeSays front told kind
@@ -56,12 +62,12 @@ IfAwaiting (Footer size) P = P
 IfAwaiting (Done size) P = Unit {0}
 
 -- While there is no answer, bytes are missing up to this end, after those that came and after the start. A footer has 18
--- bytes, a record 1,024 at most. Of the first bytes 18 or more are requested at once.
+-- bytes, a text 1,024 at most, another record 132. Of the first bytes 18 or more are requested at once, and 132 at most.
 abbrev pub AheadBy : Stage → ℕ → ℕ → ℕ → ℕ → Type 0
 AheadBy First start passed end told =
-    (passed < end) × ((start < end) × ((end ≤ told) × ((end ≤ start + 1024) × (min 18 told ≤ end))))
-AheadBy (Records next) start passed end told = (passed < end) × ((start < end) × ((end ≤ told) × (end ≤ start + 1024)))
-AheadBy (Footer size) start passed end told = (passed < end) × ((start + 18 ≤ end) × ((end ≤ told) × (end ≤ start + 1024)))
+    (passed < end) × ((start < end) × ((end ≤ told) × ((end ≤ start + 132) × (min 18 told ≤ end))))
+AheadBy (Records next) start passed end told = (passed < end) × ((start < end) × ((end ≤ told) × (end ≤ start + reach_of (is_text next))))
+AheadBy (Footer size) start passed end told = (passed < end) × ((start + 18 ≤ end) × ((end ≤ told) × (end ≤ start + 18)))
 AheadBy (Done size) start passed end told = Unit {0}
 
 abbrev pub IsAhead : Stage → Stand → Type 0
@@ -69,9 +75,9 @@ IsAhead stage stand = AheadBy stage stand.start stand.passed stand.end stand.tol
 
 -- While there is no answer, the requested span is from the byte after those that came up to this end.
 abbrev pub NextBy : Stage → ℕ → ℕ → ℕ → Type 0
-NextBy First passed end told = (passed < end) × ((end ≤ told) × ((end ≤ passed + 1024) × (min 18 told ≤ end)))
-NextBy (Records next) passed end told = (passed < end) × ((end ≤ told) × (end ≤ passed + 1024))
-NextBy (Footer size) passed end told = (passed < end) × ((end ≤ told) × (end ≤ passed + 1024))
+NextBy First passed end told = (passed < end) × ((end ≤ told) × ((end ≤ passed + 132) × (min 18 told ≤ end)))
+NextBy (Records next) passed end told = (passed < end) × ((end ≤ told) × (end ≤ passed + reach_of (is_text next)))
+NextBy (Footer size) passed end told = (passed < end) × ((end ≤ told) × (end ≤ passed + 18))
 NextBy (Done size) passed end told = Unit {0}
 
 pub next_prop : (stage : Stage) (passed end told : ℕ) → IsProp (NextBy stage passed end told)

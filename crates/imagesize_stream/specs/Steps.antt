@@ -1,5 +1,5 @@
 -- The record that a stream waits for, as one sequence for all formats whose size is in records.
-use Rattle.std.specs.Prelude.{◌≡◌, ℕ, ◌+◌, ◌-◌, ◌++◌, length, take, replicate, ◌<◌, ◌≤◌, ◌==◌, Bool, List, Option, None, Some, Result, Err, codes, ok_or, unwrap_or, if◌then◌else◌}
+use Rattle.std.specs.Prelude.{◌≡◌, ℕ, ◌+◌, ◌-◌, ◌++◌, length, take, replicate, ◌<◌, ◌≤◌, ◌==◌, Bool, true, false, List, Option, None, Some, Result, Err, codes, ok_or, unwrap_or, if◌then◌else◌}
 use Rattle.std.specs.Coded.{Unit-prop, le_prop, ×_prop}
 use Rattle.std.specs.List.{last_or}
 use Rattle.std.specs.Str.{trim}
@@ -114,6 +114,19 @@ step (Property g) offset = bind (property_at g.left offset) (property_step g off
 step (Box kept) offset =
     bind (jxl_box (kept_front kept) offset) (after (λ piece. Box (kept_of (kept_front kept ++ piece))) jxl_verdict)
 
+-- whether a record is a text: a line, a word, or names that end with a zero
+abbrev pub is_text : Awaited → Bool
+is_text (Attribute long) = true
+is_text Line = true
+is_text Word = true
+is_text Comment = true
+is_text (Height width) = true
+is_text _ = false
+
+-- how many bytes from its offset on a record is read at most, by whether it is a text
+abbrev pub reach_of : Bool → ℕ
+reach_of texts = if texts then 1024 else 132
+
 -- a record holds the record after it
 abbrev pub last_awaited : List Awaited → Awaited
 last_awaited held = unwrap_or (last_or None held) Chunk
@@ -194,11 +207,11 @@ leading next (found.Other held length) = found.Other next length
 abbrev pub leading_to : Awaited → Result (Found (Unit {0}) ImageSize) Halt → Result (Found Awaited ImageSize) Halt
 leading_to next found = map_answer (leading next) found
 
--- what then holds of the record after it
-abbrev pub StaysSteady : Said Awaited ImageSize → Type 0
-StaysSteady (Decided size) = Unit {0}
-StaysSteady (Next next offset) = IsSteady next offset
+-- What then holds of the record after it. In a format, all records are texts, or none.
+abbrev pub StaysSteady : Bool → Said Awaited ImageSize → Type 0
+StaysSteady texts (Decided size) = Unit {0}
+StaysSteady texts (Next next offset) = IsSteady next offset × (is_text next ≡ texts)
 
 -- `next` is the record after those that hold these
-abbrev pub Awaits : Awaited → List Awaited → ℕ → Type 0
-Awaits next held offset = (last_awaited held ≡ next) × IsSteady next offset
+abbrev pub Awaits : Bool → Awaited → List Awaited → ℕ → Type 0
+Awaits texts next held offset = (last_awaited held ≡ next) × IsSteady next offset × (is_text next ≡ texts)

@@ -1,11 +1,11 @@
 //! The record that a stream waits for, in each format whose size is in records.
-ghost use Rattle.std.specs.Prelude.{◌≡◌, ℕ, ◌<◌, ◌≤◌, length, [], false, IfErr, IfOk};
+ghost use Rattle.std.specs.Prelude.{◌≡◌, ℕ, ◌<◌, ◌≤◌, length, [], true, false, IfErr, IfOk};
 ghost use Rattle.imagesize_source.specs.Layout.{bind};
 ghost use Rattle.imagesize_source.specs.Paying.{Nears, Paid};
 ghost use Rattle.imagesize_source.specs.Reading.{is_stopped, map_answer, number_read};
 ghost use Rattle.imagesize_source.specs.State.{Follows, Runs};
 ghost use Rattle.imagesize_source.specs.Walk.{said_at};
-ghost use Rattle.imagesize_stream.specs.Steps.{IsSmall, IsSteady, StaysSteady, after, decides, ends_with, kept_of, leading_to, names_of, step, word_leads};
+ghost use Rattle.imagesize_stream.specs.Steps.{IsSmall, IsSteady, StaysSteady, after, decides, ends_with, is_text, kept_of, leading_to, names_of, step, word_leads};
 ghost use Rattle.imagesize_texts.specs.Texts.{read_word_of};
 ghost use Rattle.imagesize_walked.specs.Tiff.{head_bytes, value_bytes};
 ghost use Rattle.imagesize_stream.specs.declared.awaited.Awaited.TheVariants as awaited;
@@ -92,26 +92,79 @@ pub(crate) struct Listed {
 }
 
 impl Awaited {
-    // Reads the record at an offset. Then this is the record after it.
-    pub(crate) fn advance<S: Source>(
+    // Whether the record is a text.
+    pub(crate) fn is_text(&self) -> bool
+        ensures { result ≡ is_text self.now }
+    {
+        matches!(
+            self,
+            Awaited::Attribute { .. }
+                | Awaited::Line
+                | Awaited::Word
+                | Awaited::Comment
+                | Awaited::Height { .. }
+        )
+    }
+
+    // Reads the record at an offset. Then this is the record after it. `TEXTS` says whether the records are texts.
+    #[inline(always)]
+    pub(crate) fn advance<S: Source, const TEXTS: bool>(
         &mut self,
         source: &mut S,
         offset: u64,
     ) -> Result<Found<(), ImageSize>, Halt>
-        requires { IsSteady self.old offset }
+        requires steady { IsSteady self.old offset }
+        requires texts { is_text self.old ≡ TEXTS }
         ensures nears { IfOk (leading_to self.new result) (λ found. Nears (S.state source.old) (S.state source.new) offset (said_at offset found)) }
-        ensures steady { IfOk (leading_to self.new result) (λ found. StaysSteady (said_at offset found)) }
+        ensures steady { IfOk (leading_to self.new result) (λ found. StaysSteady TEXTS (said_at offset found)) }
+        ensures stays { IfErr result (λ _. self.new ≡ self.old) }
+        ensures runs { Follows (S.state source.old) (S.state source.new) (map_answer (said_at offset) (leading_to self.new result)) (step self.old offset) }
+    {
+        if TEXTS {
+            self.advance_text(source, offset)
+        } else {
+            self.advance_other(source, offset)
+        }
+    }
+
+    // Reads a record that is a text.
+    fn advance_text<S: Source>(
+        &mut self,
+        source: &mut S,
+        offset: u64,
+    ) -> Result<Found<(), ImageSize>, Halt>
+        requires { is_text self.old ≡ true }
+        ensures nears { IfOk (leading_to self.new result) (λ found. Nears (S.state source.old) (S.state source.new) offset (said_at offset found)) }
+        ensures steady { IfOk (leading_to self.new result) (λ found. StaysSteady true (said_at offset found)) }
+        ensures stays { IfErr result (λ _. self.new ≡ self.old) }
+        ensures runs { Follows (S.state source.old) (S.state source.new) (map_answer (said_at offset) (leading_to self.new result)) (step self.old offset) }
+    {
+        match *self {
+            Awaited::Attribute { long } => read_attribute(source, offset, long),
+            Awaited::Line => read_line(source, offset),
+            Awaited::Word => read_word(self, source, offset),
+            Awaited::Comment => read_comment(self, source, offset),
+            Awaited::Height { width } => read_height(source, offset, width),
+            _ => unreachable!(),
+        }
+    }
+
+    // Reads a record that is no text.
+    fn advance_other<S: Source>(
+        &mut self,
+        source: &mut S,
+        offset: u64,
+    ) -> Result<Found<(), ImageSize>, Halt>
+        requires steady { IsSteady self.old offset }
+        requires other { is_text self.old ≡ false }
+        ensures nears { IfOk (leading_to self.new result) (λ found. Nears (S.state source.old) (S.state source.new) offset (said_at offset found)) }
+        ensures steady { IfOk (leading_to self.new result) (λ found. StaysSteady false (said_at offset found)) }
         ensures stays { IfErr result (λ _. self.new ≡ self.old) }
         ensures runs { Follows (S.state source.old) (S.state source.new) (map_answer (said_at offset) (leading_to self.new result)) (step self.old offset) }
     {
         match *self {
             Awaited::Segment { depth } => read_segment(self, source, offset, depth),
             Awaited::Chunk => read_same(&mut Chunks, source, offset),
-            Awaited::Attribute { long } => read_attribute(source, offset, long),
-            Awaited::Line => read_line(source, offset),
-            Awaited::Word => read_word(self, source, offset),
-            Awaited::Comment => read_comment(self, source, offset),
-            Awaited::Height { width } => read_height(source, offset, width),
             Awaited::Icon {
                 count,
                 seen,
@@ -124,6 +177,7 @@ impl Awaited {
             Awaited::Ipco => read_ipco(self, source, offset),
             Awaited::Property(gathered) => read_listed(self, source, offset, gathered),
             Awaited::Box(kept) => read_jxl_box(self, source, offset, kept),
+            _ => unreachable!(),
         }
     }
 
@@ -164,7 +218,7 @@ fn read_segment<S: Source>(
 ) -> Result<Found<(), ImageSize>, Halt>
     requires { depth < offset }
     ensures nears { IfOk (leading_to next.new result) (λ found. Nears (S.state source.old) (S.state source.new) offset (said_at offset found)) }
-    ensures steady { IfOk (leading_to next.new result) (λ found. StaysSteady (said_at offset found)) }
+    ensures steady { IfOk (leading_to next.new result) (λ found. StaysSteady false (said_at offset found)) }
     ensures stays { IfErr result (λ _. next.new ≡ next.old) }
     ensures runs { Follows (S.state source.old) (S.state source.new) (map_answer (said_at offset) (leading_to next.new result)) (step (awaited.Segment depth) offset) }
 {
@@ -186,7 +240,7 @@ fn read_attribute<S: Source>(
     long: bool,
 ) -> Result<Found<(), ImageSize>, Halt>
     ensures nears { IfOk (leading_to (awaited.Attribute long) result) (λ found. Nears (S.state source.old) (S.state source.new) offset (said_at offset found)) }
-    ensures steady { IfOk (leading_to (awaited.Attribute long) result) (λ found. StaysSteady (said_at offset found)) }
+    ensures steady { IfOk (leading_to (awaited.Attribute long) result) (λ found. StaysSteady true (said_at offset found)) }
     ensures runs { Follows (S.state source.old) (S.state source.new) (map_answer (said_at offset) (leading_to (awaited.Attribute long) result)) (step (awaited.Attribute long) offset) }
 {
     let mut attributes = Attributes {
@@ -204,7 +258,7 @@ fn names_of(long: bool) -> usize
 
 fn read_line<S: Source>(source: &mut S, offset: u64) -> Result<Found<(), ImageSize>, Halt>
     ensures nears { IfOk (leading_to awaited.Line result) (λ found. Nears (S.state source.old) (S.state source.new) offset (said_at offset found)) }
-    ensures steady { IfOk (leading_to awaited.Line result) (λ found. StaysSteady (said_at offset found)) }
+    ensures steady { IfOk (leading_to awaited.Line result) (λ found. StaysSteady true (said_at offset found)) }
     ensures runs { Follows (S.state source.old) (S.state source.new) (map_answer (said_at offset) (leading_to awaited.Line result)) (step awaited.Line offset) }
 {
     let mut lines = Lines {
@@ -220,7 +274,7 @@ fn read_word<S: Source>(
     offset: u64,
 ) -> Result<Found<(), ImageSize>, Halt>
     ensures nears { IfOk (leading_to next.new result) (λ found. Nears (S.state source.old) (S.state source.new) offset (said_at offset found)) }
-    ensures steady { IfOk (leading_to next.new result) (λ found. StaysSteady (said_at offset found)) }
+    ensures steady { IfOk (leading_to next.new result) (λ found. StaysSteady true (said_at offset found)) }
     ensures stays { IfErr result (λ _. next.new ≡ next.old) }
     ensures runs { Follows (S.state source.old) (S.state source.new) (map_answer (said_at offset) (leading_to next.new result)) (step awaited.Word offset) }
 {
@@ -237,6 +291,7 @@ fn read_word<S: Source>(
 fn behind_word(word: &Word<'_>) -> Awaited
     ensures is { result ≡ word_leads (read_word_of word.now) }
     ensures steady { (q : ℕ) → IsSteady result q }
+    ensures text { is_text result ≡ true }
 {
     if pnm::is_comment(word.text) {
         return if word.ended_by == b'\n' {
@@ -260,7 +315,7 @@ fn read_comment<S: Source>(
     offset: u64,
 ) -> Result<Found<(), ImageSize>, Halt>
     ensures nears { IfOk (leading_to next.new result) (λ found. Nears (S.state source.old) (S.state source.new) offset (said_at offset found)) }
-    ensures steady { IfOk (leading_to next.new result) (λ found. StaysSteady (said_at offset found)) }
+    ensures steady { IfOk (leading_to next.new result) (λ found. StaysSteady true (said_at offset found)) }
     ensures stays { IfErr result (λ _. next.new ≡ next.old) }
     ensures runs { Follows (S.state source.old) (S.state source.new) (map_answer (said_at offset) (leading_to next.new result)) (step awaited.Comment offset) }
 {
@@ -280,7 +335,7 @@ fn read_height<S: Source>(
     width: Option<usize>,
 ) -> Result<Found<(), ImageSize>, Halt>
     ensures nears { IfOk (leading_to (awaited.Height width) result) (λ found. Nears (S.state source.old) (S.state source.new) offset (said_at offset found)) }
-    ensures steady { IfOk (leading_to (awaited.Height width) result) (λ found. StaysSteady (said_at offset found)) }
+    ensures steady { IfOk (leading_to (awaited.Height width) result) (λ found. StaysSteady true (said_at offset found)) }
     ensures runs { Follows (S.state source.old) (S.state source.new) (map_answer (said_at offset) (leading_to (awaited.Height width) result)) (step (awaited.Height width) offset) }
 {
     let mut buffer = [0u8; WORD_ROOM];
@@ -301,7 +356,7 @@ fn read_icon<S: Source>(
     requires seen { seen ≤ count }
     requires small { IsSmall largest }
     ensures nears { IfOk (leading_to next.new result) (λ found. Nears (S.state source.old) (S.state source.new) offset (said_at offset found)) }
-    ensures steady { IfOk (leading_to next.new result) (λ found. StaysSteady (said_at offset found)) }
+    ensures steady { IfOk (leading_to next.new result) (λ found. StaysSteady false (said_at offset found)) }
     ensures stays { IfErr result (λ _. next.new ≡ next.old) }
     ensures runs { Follows (S.state source.old) (S.state source.new) (map_answer (said_at offset) (leading_to next.new result)) (step (awaited.Icon count seen largest) offset) }
 {
@@ -331,7 +386,7 @@ fn read_directory<S: Source>(
     header: Header,
 ) -> Result<Found<(), ImageSize>, Halt>
     ensures nears { IfOk (leading_to next.new result) (λ found. Nears (S.state source.old) (S.state source.new) offset (said_at offset found)) }
-    ensures steady { IfOk (leading_to next.new result) (λ found. StaysSteady (said_at offset found)) }
+    ensures steady { IfOk (leading_to next.new result) (λ found. StaysSteady false (said_at offset found)) }
     ensures stays { IfErr result (λ _. next.new ≡ next.old) }
     ensures runs { Follows (S.state source.old) (S.state source.new) (map_answer (said_at offset) (leading_to next.new result)) (step (awaited.Directory header) offset) }
 {
@@ -380,7 +435,7 @@ fn read_entry<S: Source>(
 ) -> Result<Found<(), ImageSize>, Halt>
     requires { listed.seen ≤ listed.count }
     ensures nears { IfOk (leading_to next.new result) (λ found. Nears (S.state source.old) (S.state source.new) offset (said_at offset found)) }
-    ensures steady { IfOk (leading_to next.new result) (λ found. StaysSteady (said_at offset found)) }
+    ensures steady { IfOk (leading_to next.new result) (λ found. StaysSteady false (said_at offset found)) }
     ensures stays { IfErr result (λ _. next.new ≡ next.old) }
     ensures runs { Follows (S.state source.old) (S.state source.new) (map_answer (said_at offset) (leading_to next.new result)) (step (awaited.Entry listed) offset) }
 {
@@ -401,7 +456,7 @@ fn read_entry_of<S: Source, const HEAD: usize, const VALUE: usize>(
     requires head { HEAD ≡ head_bytes listed.header.version }
     requires value { VALUE ≡ value_bytes listed.header.version }
     ensures nears { IfOk (leading_to next.new result) (λ found. Nears (S.state source.old) (S.state source.new) offset (said_at offset found)) }
-    ensures steady { IfOk (leading_to next.new result) (λ found. StaysSteady (said_at offset found)) }
+    ensures steady { IfOk (leading_to next.new result) (λ found. StaysSteady false (said_at offset found)) }
     ensures stays { IfErr result (λ _. next.new ≡ next.old) }
     ensures runs { Follows (S.state source.old) (S.state source.new) (map_answer (said_at offset) (leading_to next.new result)) (step (awaited.Entry listed) offset) }
 {
@@ -441,7 +496,7 @@ fn read_meta<S: Source>(
     offset: u64,
 ) -> Result<Found<(), ImageSize>, Halt>
     ensures nears { IfOk (leading_to next.new result) (λ found. Nears (S.state source.old) (S.state source.new) offset (said_at offset found)) }
-    ensures steady { IfOk (leading_to next.new result) (λ found. StaysSteady (said_at offset found)) }
+    ensures steady { IfOk (leading_to next.new result) (λ found. StaysSteady false (said_at offset found)) }
     ensures stays { IfErr result (λ _. next.new ≡ next.old) }
     ensures runs { Follows (S.state source.old) (S.state source.new) (map_answer (said_at offset) (leading_to next.new result)) (step awaited.Meta offset) }
 {
@@ -468,7 +523,7 @@ fn read_iprp<S: Source>(
     offset: u64,
 ) -> Result<Found<(), ImageSize>, Halt>
     ensures nears { IfOk (leading_to next.new result) (λ found. Nears (S.state source.old) (S.state source.new) offset (said_at offset found)) }
-    ensures steady { IfOk (leading_to next.new result) (λ found. StaysSteady (said_at offset found)) }
+    ensures steady { IfOk (leading_to next.new result) (λ found. StaysSteady false (said_at offset found)) }
     ensures stays { IfErr result (λ _. next.new ≡ next.old) }
     ensures runs { Follows (S.state source.old) (S.state source.new) (map_answer (said_at offset) (leading_to next.new result)) (step awaited.Iprp offset) }
 {
@@ -494,7 +549,7 @@ fn read_ipco<S: Source>(
     offset: u64,
 ) -> Result<Found<(), ImageSize>, Halt>
     ensures nears { IfOk (leading_to next.new result) (λ found. Nears (S.state source.old) (S.state source.new) offset (said_at offset found)) }
-    ensures steady { IfOk (leading_to next.new result) (λ found. StaysSteady (said_at offset found)) }
+    ensures steady { IfOk (leading_to next.new result) (λ found. StaysSteady false (said_at offset found)) }
     ensures stays { IfErr result (λ _. next.new ≡ next.old) }
     ensures runs { Follows (S.state source.old) (S.state source.new) (map_answer (said_at offset) (leading_to next.new result)) (step awaited.Ipco offset) }
 {
@@ -526,7 +581,7 @@ fn read_listed<S: Source>(
     gathered: Gathered,
 ) -> Result<Found<(), ImageSize>, Halt>
     ensures nears { IfOk (leading_to next.new result) (λ found. Nears (S.state source.old) (S.state source.new) offset (said_at offset found)) }
-    ensures steady { IfOk (leading_to next.new result) (λ found. StaysSteady (said_at offset found)) }
+    ensures steady { IfOk (leading_to next.new result) (λ found. StaysSteady false (said_at offset found)) }
     ensures stays { IfErr result (λ _. next.new ≡ next.old) }
     ensures runs { Follows (S.state source.old) (S.state source.new) (map_answer (said_at offset) (leading_to next.new result)) (step (awaited.Property gathered) offset) }
 {
@@ -559,7 +614,7 @@ fn read_jxl_box<S: Source>(
 ) -> Result<Found<(), ImageSize>, Halt>
     requires { kept.len ≤ 16 }
     ensures nears { IfOk (leading_to next.new result) (λ found. Nears (S.state source.old) (S.state source.new) offset (said_at offset found)) }
-    ensures steady { IfOk (leading_to next.new result) (λ found. StaysSteady (said_at offset found)) }
+    ensures steady { IfOk (leading_to next.new result) (λ found. StaysSteady false (said_at offset found)) }
     ensures stays { IfErr result (λ _. next.new ≡ next.old) }
     ensures runs { Follows (S.state source.old) (S.state source.new) (map_answer (said_at offset) (leading_to next.new result)) (step (awaited.Box kept) offset) }
 {

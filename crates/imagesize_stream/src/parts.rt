@@ -42,7 +42,7 @@ pub struct PartsProbe {
 impl PartsProbe {
     ghost use Rattle.std.specs.Prelude.{◌≡◌, ◌⊎◌, ℕ, ◌+◌, ◌-◌, ◌<◌, ◌≤◌, ◌^◌, false, List, length, min};
     ghost use Rattle.imagesize.specs.Meaning.{meaning};
-    ghost use Rattle.imagesize.specs.Parted.{Fits, IfFound, IsProbed};
+    ghost use Rattle.imagesize.specs.Parted.{Fits, IfFound, IsProbed, texts_of};
     ghost use Rattle.imagesize.specs.declared.parts.PartsAnswer.TheVariants as answer;
     ghost use Rattle.imagesize_pieces.specs.Stream.{AllBelow};
     ghost use Rattle.imagesize_source.specs.Errors.{is_stopped};
@@ -65,8 +65,9 @@ impl PartsProbe {
 
     /// Returns the type, if one was found, and the size or the error. If bytes are missing, requests a span.
     ///
-    /// The span has all bytes that the next read requests. It lies within the input and has 1 to 1,024 bytes. If the caller
-    /// always passes whole spans, the result depends on a byte of each span.
+    /// The span has all bytes that the next read requests. It lies within the input and has at least one byte. It has at most
+    /// 132 bytes, or 1,024 if the type stores its size in texts (EXR, Radiance and Netpbm). If the caller always passes whole
+    /// spans, the result depends on a byte of each span.
     pub fn answer(&self) -> PartsAnswer<(Option<ImageType>, ImageResult<ImageSize>)>
         ensures is { result ≡ next_of self.now }
 
@@ -82,8 +83,9 @@ impl PartsProbe {
         // No result is a fault, a spent budget or a lack of memory.
         ensures unstopped { IfFound result (λ found. is_stopped found.1 ≡ false) }
 
-        // The span has 1,024 bytes at most.
+        // The span has 1,024 bytes at most. For a type without texts it has 132 at most.
         ensures short { IfWanted result (λ w. w.len ≤ 1024) }
+        ensures shorter { (d : List ℕ) → MayBe self.now d → texts_of d ≡ false → IfWanted result (λ w. w.len ≤ 132) }
     {
         match self.probe.answer() {
             Some(found) => PartsAnswer::Found(found),

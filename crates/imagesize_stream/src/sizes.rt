@@ -7,20 +7,20 @@ use imagesize_source::source::Source;
 use imagesize_source::walk::{Found, Records};
 use imagesize_types::size::ImageSize;
 
-/// The records from the next one on.
+/// The records from the next one on. `TEXTS` says whether they are texts.
 #[derive(Clone, Copy)]
-pub(crate) struct Sizes {
+pub(crate) struct Sizes<const TEXTS: bool> {
     pub(crate) next: Awaited,
 }
 
-impl Records for Sizes {
+impl<const TEXTS: bool> Records for Sizes<TEXTS> {
     type Held = Awaited;
 
     type Answer = ImageSize;
 
     ghost said = { λ _ held offset. awaited_said held offset };
 
-    ghost keeps = { λ sizes held offset. Awaits sizes.next held offset };
+    ghost keeps = { λ sizes held offset. Awaits TEXTS sizes.next held offset };
 
     #[inline(always)]
     fn read_record<S: Source>(
@@ -28,7 +28,7 @@ impl Records for Sizes {
         source: &mut S,
         offset: u64,
     ) -> Result<Found<Awaited, ImageSize>, Halt> {
-        match self.next.advance(source, offset)? {
+        match self.next.advance::<S, TEXTS>(source, offset)? {
             Found::Answer(size) => Ok(Found::Answer(size)),
             Found::Other { length, .. } => Ok(Found::Other {
                 held: self.next,

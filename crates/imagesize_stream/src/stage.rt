@@ -5,7 +5,7 @@ ghost use Rattle.imagesize_source.specs.Input.{part};
 ghost use Rattle.imagesize_stream.specs.Given.{IsGiven, MayBeAt};
 ghost use Rattle.imagesize_stream.specs.Heard.{RestsOnMore};
 ghost use Rattle.imagesize_stream.specs.Probe.{CameTo, HoldsAt, IfAwaiting, IsAhead, RestsOnNext};
-ghost use Rattle.imagesize_stream.specs.Steps.{IsSteady};
+ghost use Rattle.imagesize_stream.specs.Steps.{IsSteady, is_text, reach_of};
 ghost use Rattle.imagesize_stream.specs.declared.stage.Stage.TheVariants as stage;
 
 use crate::awaited::Awaited;
@@ -28,8 +28,11 @@ const FIRST: u64 = 132;
 // How many bytes the header of a TGA has. So many are requested at once.
 const HEADER: u64 = 18;
 
-// How many bytes a record has at most.
-const RECORD: u64 = 1024;
+// How many bytes of a record that is a text are read at most.
+const TEXT: u64 = 1024;
+
+// How many bytes of any other record are read at most.
+const RECORD: u64 = 132;
 
 /// The stage of a push parser.
 #[derive(Clone, Copy)]
@@ -64,14 +67,54 @@ pub(crate) fn walk(next: Awaited, stand: &mut Stand, buffer: &mut [u8; ROOM], ch
         → RestsOnNext result stand.new (front ++ chunk.now) stand.old.told }
     ensures whole { IfAwaiting result (stand.old.told ≤ stand.old.passed + length chunk.now → ⊥) }
 {
-    let mut sizes = Sizes { next };
+    if next.is_text() {
+        walk_over::<true>(next, stand, buffer, chunk)
+    } else {
+        walk_over::<false>(next, stand, buffer, chunk)
+    }
+}
+
+// Continues the walk with the next chunk. `TEXTS` says whether the records are texts.
+fn walk_over<const TEXTS: bool>(
+    next: Awaited,
+    stand: &mut Stand,
+    buffer: &mut [u8; ROOM],
+    chunk: &[u8],
+) -> Stage
+    requires steady { IsSteady next stand.old.offset }
+    requires texts { is_text next ≡ TEXTS }
+    requires few { stand.old.passed - stand.old.start ≤ 1023 }
+    requires typed { 12 ≤ stand.old.passed }
+    requires fits { stand.old.passed + length chunk.now ≤ stand.old.told }
+    ensures told { stand.new.told ≡ stand.old.told }
+    ensures holds { HoldsAt result stand.new }
+    ensures ahead { IsAhead result stand.new }
+    ensures passed { IfAwaiting result (stand.new.passed ≡ stand.old.passed + length chunk.now) }
+
+    // For each list of bytes that may have arrived before:
+    ensures goes_on { (kind : Option ImageType) (front : List ℕ) → CameTo (stage.Records next) kind stand.old buffer.old front
+        → CameTo result kind stand.new buffer.new (front ++ chunk.now) }
+    ensures complete { IfAwaiting result ((kind : Option ImageType) (front : List ℕ) → CameTo (stage.Records next) kind stand.old buffer.old front
+        → RestsOnMore (front ++ chunk.now) stand.old.told) }
+    ensures marked { (kind : Option ImageType) (front : List ℕ) → CameTo (stage.Records next) kind stand.old buffer.old front
+        → RestsOnNext result stand.new (front ++ chunk.now) stand.old.told }
+    ensures whole { IfAwaiting result (stand.old.told ≤ stand.old.passed + length chunk.now → ⊥) }
+{
+    let mut sizes = Sizes::<TEXTS> { next };
     match read_on(&mut sizes, stand, buffer, chunk) {
         Some(size) => Stage::Done { size },
         None => {
-            stand.end = stand.end.min(stand.start + RECORD);
+            stand.end = stand.end.min(stand.start + reach(TEXTS));
             Stage::Records { next: sizes.next }
         }
     }
+}
+
+// How many bytes of a record are read at most.
+fn reach(text: bool) -> u64
+    ensures { result ≡ reach_of text }
+{
+    if text { TEXT } else { RECORD }
 }
 
 /// Waits for the last bytes. Once all bytes arrived, these decide whether it is a TGA.

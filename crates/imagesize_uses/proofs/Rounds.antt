@@ -7,7 +7,7 @@ use Rattle.std.proofs.lemmas.Bool.Decides.{nat_tests}
 use Rattle.std.proofs.lemmas.List.{take_all}
 use Rattle.std.proofs.lemmas.Nat.{mul-le}
 use Rattle.imagesize.specs.Meaning.{meaning}
-use Rattle.imagesize.specs.Parted.{IsWithin}
+use Rattle.imagesize.specs.Parted.{IsWithin, texts_of}
 use Rattle.imagesize.specs.declared.parts.PartsAnswer.{PartsAnswer}
 use Rattle.imagesize.specs.declared.parts.PartsAnswer.TheVariants.{Found, Wanted}
 use Rattle.imagesize_source.specs.Agreement.{is_covered}
@@ -185,7 +185,7 @@ GoesBeyond old new offset bytes =
 module _ {d : List ℕ} {probe : PartsProbe} {before now first asked : ℕ} (w : Span)
     (f : Fetching d probe before now first asked) (is : Wanted w ≡ next_of probe)
     (within : MayBe probe d → (w.start < 12) ⊎ (18 ≤ w.start) → HasMarked w d) (fits : IsWithin (total_of probe) w)
-    (short : w.len ≤ 1024) where
+    (short : w.len ≤ 1024) (shorter : MayBe probe d → texts_of d ≡ false → w.len ≤ 132) where
   inside : IsWithin (length d) w
   inside = subst (λ n. IsWithin n w) (sym f.may.given.as_long) fits
 
@@ -195,8 +195,12 @@ module _ {d : List ℕ} {probe : PartsProbe} {before now first asked : ℕ} (w :
   marked : HasMarked w d
   marked = within f.may (apart (length d) w inside opened)
 
+  few_by_type : (texts : Bool) → texts_of d ≡ texts → w.len ≤ cond texts 1024 132
+  few_by_type true is = short
+  few_by_type false is = shorter f.may is
+
   few : w.len ≤ most_at_once d
-  few = omega (arith, short, inside.1)
+  few = let least = few_by_type (texts_of d) refl in omega (arith, least, inside.1)
 
   from : next_start (length d) (next_of probe) ≡ w.start
   from = sym (ap (next_start (length d)) is)

@@ -59,13 +59,13 @@ pub enum Interrupted {
     Short,
 }
 
-// How many bytes one fetch requests at most.
+// How many bytes one fetch requests at most, of any type.
 const MOST: usize = 1024;
 
 /// Reads type and size of the image in an input, and fetches only what is needed for them.
 ///
-/// A fetch requests at most 1,024 bytes, and all fetches together at most as many as the input has. The call allocates
-/// nothing.
+/// A fetch requests at most 132 bytes, or 1,024 if the type stores its size in texts (EXR, Radiance and Netpbm). All fetches
+/// together request at most as many bytes as the input has. The call allocates nothing.
 ///
 /// Errors: the first fetch that fails or gives too few bytes.
 pub fn probe_remote<R: Remote>(remote: &mut R) -> Result<Probed, Interrupted>
@@ -78,7 +78,7 @@ pub fn probe_remote<R: Remote>(remote: &mut R) -> Result<Probed, Interrupted>
     // All fetches together request at most as many bytes as the input has.
     ensures once { R.asked remote.new ≤ R.asked remote.old + length (R.input remote.old) }
 
-    // They request at most 1,024 bytes for each byte that the spans cover.
+    // They request at most 132 bytes for each byte that the spans cover, or 1,024 in a text format.
     ensures most { R.asked remote.new ≤ R.asked remote.old
         + offsets (length (R.input remote.old)) (meaning (R.input remote.old) 0).marks * most_at_once (R.input remote.old) }
 

@@ -77,7 +77,8 @@ keep_behind-requires-clause-fits g c =
     (record { held = c.requires.keeps.0; offset = c.args.stand.now.offset })
     a.told a.start a.kept.now a.chunk.now _ run
     (omega (arith, a.within)) short b.log.spans b.missed c.walk_on-found.new.offset stood call.seen call.lacks
-    (length c.args.buffer.now + 1) c.requires.reaches (omega (arith, start_is, c.args.stand.now.ahead)) in
+    (c.walk_on-found.new.offset + (length c.args.buffer.now + 1))
+    (c.requires.reaches stood.held c.walk_on-found.new.offset) (omega (arith, start_is, c.args.stand.now.ahead)) in
     let ends = run.ends in
     let kept_long : length a.kept.now ≡ c.args.stand.now.passed - c.args.stand.now.start =
     ap length (new.kept ∙ ap (λ k. take k c.args.buffer.now) c.saturating_sub-count.ensures)
@@ -135,7 +136,8 @@ returns-then-is_faulted-clause-buffer g c = λ none.
     (record { held = c.requires.keeps.0; offset = c.args.stand.now.offset })
     a.told a.start a.kept.now a.chunk.now _ run
     (omega (arith, a.within)) short b.log.spans b.missed c.walk_on-found.new.offset stood call.seen call.lacks
-    (length c.args.buffer.now + 1) c.requires.reaches (omega (arith, start_is, c.args.stand.now.ahead)) in
+    (c.walk_on-found.new.offset + (length c.args.buffer.now + 1))
+    (c.requires.reaches stood.held c.walk_on-found.new.offset) (omega (arith, start_is, c.args.stand.now.ahead)) in
     let ends = run.ends in
     let kept_long : length a.kept.now ≡ c.args.stand.now.passed - c.args.stand.now.start =
     ap length (new.kept ∙ ap (λ k. take k c.args.buffer.now) c.saturating_sub-count.ensures)
@@ -145,6 +147,43 @@ returns-then-is_faulted-clause-buffer g c = λ none.
     unread_long ∙ ap length (c.bytes_behind-unread.ensures ∙ ap (λ k. drop k c.args.chunk.now) c.saturating_sub.ensures)
     ∙ length-drop (c.args.stand.now.start - c.args.stand.now.passed) c.args.chunk.now in
     omega (arith, few, ahead, kept_long, chunk_long, start_is, c.args.stand.now.ahead, c.keep_behind.auto.buffer)
+
+pub returns-then-is_faulted-clause-few : goal.returns-then-is_faulted-clause-few
+returns-then-is_faulted-clause-few g c = λ none high far.
+    let a = c.new-source.result in let b = c.walk_on-found.new.source in let new = c.new-source.ensures in
+    let faults : is_faulted c.walk_on-found.result ≡ true = sym c.is_faulted.ensures ∙ c.if-is_faulted.true in
+    let runs = c.walk_on-found.ensures.runs 0 c.requires.keeps.0 c.requires.keeps.1 in
+    let call = called (λ e. chain_from (chain_of 0 (g.R.Records.said c.args.records.now)) e
+    (record { held = c.requires.keeps.0; offset = c.args.stand.now.offset }))
+    _ _ _ _ _ _ _ b.log.spans _ b.missed _ new.seen new.missed runs b.seen b.lacks in
+    let same = same_frame _ _ _ _ _ _ [] [] None None runs.frame in
+    let stood = stood_as (chain_of 0 (g.R.Records.said c.args.records.now))
+    (λ behind. g.R.Records.keeps c.walk_on-found.new.records behind c.walk_on-found.new.offset)
+    (record {
+      held = c.requires.keeps.0;
+      offset = c.args.stand.now.offset;
+    }) c.walk_on-found.new.offset _ _ _ _ _ _ _ _ _ _ _ new.seen new.missed same
+    (c.walk_on-found.ensures.stands 0 c.requires.keeps.0 c.requires.keeps.1 faults) in
+    let start_is : a.start ≡ min c.args.stand.now.start (c.args.stand.now.passed + length c.args.chunk.now) = new.start
+    ∙ c.min-start.ensures in
+    let short = subst (λ k. k < 2 ^ 63) (sym new.told) c.args.stand.now.short in
+    let run = any_run a.kept.now a.chunk.now a.start in
+    let few = few_left (chain_of 0 (g.R.Records.said c.args.records.now)) _
+    (record { held = c.requires.keeps.0; offset = c.args.stand.now.offset })
+    a.told a.start a.kept.now a.chunk.now _ run
+    (omega (arith, a.within)) short b.log.spans b.missed c.walk_on-found.new.offset stood call.seen call.lacks
+    high
+    (subst (λ said. Reach c.walk_on-found.new.offset high (said stood.held c.walk_on-found.new.offset))
+    c.walk_on-found.ensures.same (far stood.held stood.known)) (omega (arith, start_is, c.args.stand.now.ahead)) in
+    let ends = run.ends in
+    let kept_long : length a.kept.now ≡ c.args.stand.now.passed - c.args.stand.now.start =
+    ap length (new.kept ∙ ap (λ k. take k c.args.buffer.now) c.saturating_sub-count.ensures)
+    ∙ length-take (c.args.stand.now.passed - c.args.stand.now.start) c.args.buffer.now ∙ omega (arith, c.requires.buffer) in
+    let unread_long : length a.chunk.now ≡ length c.bytes_behind-unread.result.now = ap length new.chunk in
+    let chunk_long : length a.chunk.now ≡ length c.args.chunk.now - (c.args.stand.now.start - c.args.stand.now.passed) =
+    unread_long ∙ ap length (c.bytes_behind-unread.ensures ∙ ap (λ k. drop k c.args.chunk.now) c.saturating_sub.ensures)
+    ∙ length-drop (c.args.stand.now.start - c.args.stand.now.passed) c.args.chunk.now in
+    omega (arith, few, ends, kept_long, unread_long, chunk_long, start_is)
 
 pub returns-then-is_faulted-clause-goes_on : goal.returns-then-is_faulted-clause-goes_on
 returns-then-is_faulted-clause-goes_on g c = λ none first whole front s.
@@ -291,7 +330,7 @@ returns-then-is_faulted-clause-ends g c = λ none.
     )
 
 pub returns-then-is_faulted-clause-marked : goal.returns-then-is_faulted-clause-marked
-returns-then-is_faulted-clause-marked g c = λ none first whole front s d begins as_long texts high reads.
+returns-then-is_faulted-clause-marked g c = λ none texts high reads first whole front s d begins as_long.
     let a = c.new-source.result in let b = c.walk_on-found.new.source in let new = c.new-source.ensures in
     let faults : is_faulted c.walk_on-found.result ≡ true = sym c.is_faulted.ensures ∙ c.if-is_faulted.true in
     let runs = c.walk_on-found.ensures.runs first s.held s.known in

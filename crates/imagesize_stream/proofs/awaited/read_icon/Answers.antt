@@ -1,4 +1,4 @@
-use Rattle.std.proofs.Common.{◌+◌, rules, ap, sym, ◌∙◌}
+use Rattle.std.proofs.Common.{◌+◌, rules, refl, ap, sym, ◌∙◌}
 use Rattle.imagesize_source.specs.Chain.{Next}
 use Rattle.imagesize_source.specs.Layout.Layout.{«done»}
 use Rattle.imagesize_stream.proofs.Behind.{icon_small, runs_off, runs_on, small_icon}
@@ -21,7 +21,7 @@ returns-in_err-size-clause-runs g c =
 pub returns-in-Other-clause-steady : goal.returns-in-Other-clause-steady
 returns-in-Other-clause-steady g c =
     let on = rw c.in-Other.is at c.in_ok-size.ensures.on in
-    (search rules, icon_small c.read_icon.new.self.largest on.2)
+    ((search rules, icon_small c.read_icon.new.self.largest on.2), refl)
 
 pub returns-in-Other-clause-runs : goal.returns-in-Other-clause-runs
 returns-in-Other-clause-runs g c =

@@ -1,4 +1,4 @@
-use Rattle.std.proofs.Common.{◌+◌, rules, ap, sym, arith}
+use Rattle.std.proofs.Common.{◌+◌, rules, refl, ap, sym, arith}
 use Rattle.imagesize_source.specs.Chain.{Next}
 use Rattle.imagesize_source.specs.Layout.Layout.{«done»}
 use Rattle.imagesize_stream.specs.Steps.{after, decides}
@@ -19,7 +19,7 @@ pub returns-in-Other-clause-steady : goal.returns-in-Other-clause-steady
 returns-in-Other-clause-steady g c =
     let leads = leads_as _ _ _ (rw c.in-Other.is at c.in_ok-size.ensures.depth) in
     let nears = rw c.in-Other.is at c.in_ok-size.ensures.nears in
-    omega (arith, leads, nears.0, depth_rises c.args.depth c.in-Other.held, c.requires)
+    (omega (arith, leads, nears.0, depth_rises c.args.depth c.in-Other.held, c.requires), refl)
 
 pub returns-in-Other-clause-runs : goal.returns-in-Other-clause-runs
 returns-in-Other-clause-runs g c =

@@ -47,10 +47,12 @@ returns-in-Records-clause-hears c =
     let says = c.read_front-found.ensures.says (sym c.is_faulted.ensures ∙ c.if-is_faulted.false) in
     let said = rw c.in-Ok.is at says in
     let is = subst (λ (x : Opening). Says c.args.bytes.now c.args.told (λ d. layout_reads d (opening c.args.image))
-    (Ok x)) c.in-Records.is said in (
-      steady_said c.args.bytes.now c.args.told c.args.image c.requires.image c.requires.fits c.in-Records.next
-          c.in-Records.offset is,
+    (Ok x)) c.in-Records.is said in
+    let steady = steady_said c.args.bytes.now c.args.told c.args.image c.requires.image c.requires.fits c.in-Records.next
+    c.in-Records.offset is in (
+      steady.0,
       c.requires.image,
       is,
       kind_typed c.args.bytes.now c.args.told c.requires.fits c.args.image c.requires.image,
+      steady.1,
     )

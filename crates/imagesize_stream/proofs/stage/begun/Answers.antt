@@ -14,7 +14,7 @@ returns-in-Records-clause-goes_on c =
       type_is (take c.args.stand.now.passed c.args.buffer.now) c.args.stand.now.told _ hears.1,
       opened_came c.args.buffer.now c.args.stand.now.passed c.args.stand.now.start c.args.stand.now.told
           c.in-Records.offset c.in-Records.next c.in-Records.image
-          c.requires.first (omega (arith, c.requires.few)) hears.0 hears.1 hears.2,
+          c.requires.first (omega (arith, c.requires.few)) hears.0 hears.1 hears.2 hears.4,
     )
 
 pub returns-in-Records-clause-complete : goal.returns-in-Records-clause-complete
@@ -25,7 +25,7 @@ returns-in-Records-clause-complete c =
       type_is (take c.args.stand.now.passed c.args.buffer.now) c.args.stand.now.told _ hears.1,
       opened_came c.args.buffer.now c.args.stand.now.passed c.args.stand.now.start c.args.stand.now.told
           c.in-Records.offset c.in-Records.next c.in-Records.image
-          c.requires.first (omega (arith, c.requires.few)) hears.0 hears.1 hears.2,
+          c.requires.first (omega (arith, c.requires.few)) hears.0 hears.1 hears.2 hears.4,
     )) c.walk.ensures.complete
 
 pub returns-in-Footer-clause-goes_on : goal.returns-in-Footer-clause-goes_on
@@ -56,7 +56,7 @@ returns-in-Records-clause-marked c =
       type_is (take c.args.stand.now.passed c.args.buffer.now) c.args.stand.now.told _ hears.1,
       opened_came c.args.buffer.now c.args.stand.now.passed c.args.stand.now.start c.args.stand.now.told
           c.in-Records.offset c.in-Records.next c.in-Records.image
-          c.requires.first (omega (arith, c.requires.few)) hears.0 hears.1 hears.2,
+          c.requires.first (omega (arith, c.requires.few)) hears.0 hears.1 hears.2 hears.4,
     )
 
 pub returns-in-Footer-clause-complete : goal.returns-in-Footer-clause-complete

@@ -1,6 +1,6 @@
 use Rattle.std.proofs.Common.{sym, ◌∙◌, arith}
 use Rattle.imagesize.specs.Meaning.{meaning_reads}
-use Rattle.imagesize_stream.proofs.Given.{marked_none, next_none}
+use Rattle.imagesize_stream.proofs.Given.{few_none, marked_none, next_none}
 use Rattle.imagesize_stream.proofs.parts.PartsProbe.answer.Goals as goal
 
 pub returns-in-None-clause-within : goal.returns-in-None-clause-within
@@ -18,3 +18,10 @@ returns-in-None-clause-short c =
     let next = next_none s.kind s.stage s.stand.passed s.stand.end s.stand.told (sym c.answer.ensures.is ∙ c.in-None.is)
     c.args.self.now.next in
     omega (arith, next.2)
+
+pub returns-in-None-clause-shorter : goal.returns-in-None-clause-shorter
+returns-in-None-clause-shorter c = λ d may without.
+    let s = c.args.self.now.probe in
+    let few = few_none s.kind s.stage s.stand.start s.stand.offset s.stand.passed s.stand.end s.stand.told s.buffer d
+    (sym c.answer.ensures.is ∙ c.in-None.is) may.given.as_long c.args.self.now.next may.given.known without in
+    omega (arith, few)

@@ -5,7 +5,9 @@ use Rattle.imagesize_stream.specs.declared.awaited.Awaited.TheVariants.{Chunk}
 use Rattle.imagesize_stream.proofs.sizes.SizesRecords.read_record.Goals as goal
 
 pub returns-in-Other-clause-keeps : goal.returns-in-Other-clause-keeps
-returns-in-Other-clause-keeps g c = λ held kept. (
-  ap (λ o. unwrap_or o Chunk) (last_push None held c.advance.new.self),
-  rw c.in-Other.is at c.in_ok-size.ensures.steady,
-)
+returns-in-Other-clause-keeps g c = λ held kept.
+    let steady = rw c.in-Other.is at c.in_ok-size.ensures.steady in (
+      ap (λ o. unwrap_or o Chunk) (last_push None held c.advance.new.self),
+      steady.0,
+      steady.1,
+    )

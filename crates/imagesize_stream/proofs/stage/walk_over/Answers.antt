@@ -1,0 +1,68 @@
+use Rattle.std.proofs.Common.{◌+◌, ◌++◌, [], ◌∷◌, length, refl, ap, arith}
+use Rattle.std.proofs.lemmas.List.{length-append}
+use Rattle.imagesize.specs.Meaning.{meaning_reads}
+use Rattle.imagesize_pieces.proofs.Reaching.{reach_more}
+use Rattle.imagesize_stream.proofs.Coming.{size_by, texts_back, texts_over, type_on}
+use Rattle.imagesize_stream.proofs.Far.{awaits_far, reach_some, step_near}
+use Rattle.imagesize_stream.proofs.Steps.{awaited_advances}
+use Rattle.imagesize_stream.specs.Steps.{is_text, last_awaited, reach_of, step}
+use Rattle.imagesize_stream.proofs.stage.walk_over.Goals as goal
+
+pub read_on-requires-clause-follows : goal.read_on-requires-clause-follows
+read_on-requires-clause-follows g c = awaited_advances
+
+pub read_on-requires-clause-keeps : goal.read_on-requires-clause-keeps
+read_on-requires-clause-keeps g c = (c.args.next ∷ [], (refl, c.requires.steady, c.requires.texts))
+
+pub read_on-requires-clause-reaches : goal.read_on-requires-clause-reaches
+read_on-requires-clause-reaches g c = λ held offset.
+    reach_more offset (offset + 1024) (offset + (length c.args.buffer.now + 1)) (step (last_awaited held) offset)
+    (omega arith) (step_near (last_awaited held) offset)
+
+pub returns-in-Some-clause-goes_on : goal.returns-in-Some-clause-goes_on
+returns-in-Some-clause-goes_on g c = λ kind front came.
+    let over = texts_over kind _ _ _ _ _ _ _ _ _ c.requires.texts came.1 in (
+      type_on front c.args.chunk.now c.args.stand.now.told c.read_on.new.stand.told kind c.read_on.ensures.told came.0,
+      size_by (front ++ c.args.chunk.now) c.args.stand.now.told c.read_on.new.stand.told c.in-Some.size
+          c.read_on.ensures.told (c.in-Some.ensures.says 0 (λ d. meaning_reads d 0) front over.1),
+      omega (arith, came.1.as_many, length-append front c.args.chunk.now, c.requires.fits, c.read_on.ensures.told),
+    )
+
+pub returns-in-None-clause-goes_on : goal.returns-in-None-clause-goes_on
+returns-in-None-clause-goes_on g c = λ kind front came.
+    let over = texts_over kind _ _ _ _ _ _ _ _ _ c.requires.texts came.1 in (
+      type_on front c.args.chunk.now c.args.stand.now.told c.read_on.new.stand.told kind c.read_on.ensures.told came.0,
+      texts_back kind _ _ _ _ _ _ _ _ _ over.0
+          (c.in-None.ensures.goes_on refl 0 (λ d. meaning_reads d 0) front over.1),
+    )
+
+pub returns-in-None-clause-complete : goal.returns-in-None-clause-complete
+returns-in-None-clause-complete g c = λ kind front came d begins as_long below.
+    let over = texts_over kind _ _ _ _ _ _ _ _ _ c.requires.texts came.1 in
+    c.in-None.ensures.complete refl 0 (λ d. meaning_reads d 0) front over.1 d begins as_long
+    (λ p here. omega (arith, below p here, length-append front c.args.chunk.now))
+
+pub returns-in-None-clause-ahead : goal.returns-in-None-clause-ahead
+returns-in-None-clause-ahead g c =
+    let ends = c.in-None.ensures.ends refl in let keeps = c.in-None.ensures.keeps refl in
+    let starts = c.in-None.ensures.starts refl in
+    let few = c.in-None.ensures.few refl _ (λ held awaits. awaits_far held c.read_on.new.stand.offset awaits) in
+    let same = ap reach_of keeps.1.2 in
+    let some = reach_some (is_text c.read_on.new.records.next) in (
+      omega (arith, ends.0, few, starts, c.min-stand.ensures, c.reach.ensures),
+      (
+        omega (arith, ends.1, some, same, c.min-stand.ensures, c.reach.ensures),
+        (
+          omega (arith, ends.2, c.min-stand.ensures),
+          omega (arith, same, c.min-stand.ensures, c.reach.ensures),
+        ),
+      ),
+    )
+
+pub returns-in-None-clause-marked : goal.returns-in-None-clause-marked
+returns-in-None-clause-marked g c = λ kind front came d begins as_long.
+    let over = texts_over kind _ _ _ _ _ _ _ _ _ c.requires.texts came.1 in
+    let starts = c.in-None.ensures.starts refl in
+    let marked = c.in-None.ensures.marked refl _ (λ held awaits. awaits_far held c.read_on.new.stand.offset awaits)
+    0 (λ d. meaning_reads d 0) front over.1 d begins as_long in
+    (marked.0, marked.1, omega (arith, marked.2, starts, c.min-stand.ensures), marked.3)
