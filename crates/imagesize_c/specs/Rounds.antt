@@ -1,6 +1,6 @@
 -- What the spans that were passed to a probe say, and what the calls over it write.
 use Rattle.std.specs.Prelude.{◌≡◌, ℕ, ◌+◌, ◌-◌, ◌<◌, ◌≤◌, ◌^◌, List, length, min, Option, Result}
-use Rattle.imagesize.specs.Parted.{IfFound}
+use Rattle.imagesize.specs.Parted.{IfFound, IfWanted}
 use Rattle.imagesize.specs.declared.parts.PartsAnswer.{PartsAnswer}
 use Rattle.imagesize.specs.declared.parts.PartsAnswer.TheVariants.{Found, Wanted}
 use Rattle.imagesize.specs.declared.types.ImageType.{ImageType}
@@ -9,7 +9,7 @@ use Rattle.imagesize_c.specs.Told.{TellsSize, TellsType}
 use Rattle.imagesize_source.specs.declared.error.ImageError.{ImageError}
 use Rattle.imagesize_source.specs.declared.span.Span.{Span}
 use Rattle.imagesize_stream.specs.Given.{HasPart}
-use Rattle.imagesize_stream.specs.Parts.{IfWanted, MayBe, next_of, total_of}
+use Rattle.imagesize_stream.specs.Parts.{MayBe, next_of, total_of}
 use Rattle.imagesize_stream.specs.declared.parts.PartsProbe.{PartsProbe}
 use Rattle.imagesize_types.specs.declared.size.ImageSize.{ImageSize}
 

@@ -23,6 +23,7 @@ use Rattle.imagesize_pieces.specs.Stream.{Begins, Needs, Reach, came, end_of, st
 use Rattle.imagesize_pieces.proofs.Asking.{alike_among, alike_covered, ends_among, mark_ends, missed_is, missed_covered}
 use Rattle.imagesize_pieces.proofs.Beginning.{Run, begins_shares, unknown_behind}
 use Rattle.imagesize_pieces.proofs.Called.{is_short, moved, some_is}
+use Rattle.imagesize_pieces.proofs.Needing.{onward_any}
 use Rattle.imagesize_pieces.proofs.Reaching.{covered_either, reach_covered}
 
 -- each record reads so many bytes from its offset on at most
@@ -63,12 +64,6 @@ stood_as c P t offset told m start kept unread others content first log before m
     (moved (λ x y z. Stood c P (stream_state told start kept unread first before)
     (parts_state x y z log missed) t offset) told m
     (came start kept unread) others (kept ++ unread) content same.0 same.1 same.2 stood))
-
--- what holds for a mark of the first readings holds for one of all
-onward_any : {X Y : Type 0} (marks : List Span) (r : Result X Halt) (f : X → Reads Y) (P : Span → Bool)
-    → list_any P marks ≡ true → list_any P (go_on marks r f).marks ≡ true
-onward_any marks (Ok x) f P here = any_left P marks (f x).marks here
-onward_any marks (Err e) f P here = here
 
 module _ {C X : Type 0} (c : Chain C X) (P : List C → Type 0) (t : Along C) (told start : ℕ)
     (kept unread front : List ℕ)

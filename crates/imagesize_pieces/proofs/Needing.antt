@@ -1,10 +1,12 @@
 -- What a result needs, between wider bounds and after other spans.
-use Rattle.std.proofs.Common.{◌≡◌, ℕ, suc, leb, ◌+◌, ◌≤◌, Bool, true, ◌&&◌, List, ◌++◌, sym, subst, arith}
+use Rattle.std.proofs.Common.{◌≡◌, ℕ, suc, leb, ◌+◌, ◌<◌, ◌≤◌, Bool, true, false, ◌&&◌, List, ◌++◌, Result, Ok, Err, refl, sym, ◌∙◌, subst, arith}
+use Rattle.std.specs.List.{list_any}
 use Rattle.std.proofs.lemmas.Bool.Decides.{nat_tests}
+use Rattle.imagesize_source.specs.declared.halt.Halt.{Halt}
 use Rattle.imagesize_source.specs.declared.span.Span.{Span}
-use Rattle.imagesize_source.specs.Agreement.{EndsBetween, is_covered}
-use Rattle.imagesize_source.proofs.Agreement.{covered-right}
-use Rattle.imagesize_source.proofs.Among.{any_more, any_right}
+use Rattle.imagesize_source.specs.Agreement.{EndsBetween, has_offset}
+use Rattle.imagesize_source.specs.Reading.{Reads, go_on}
+use Rattle.imagesize_source.proofs.Among.{any_left, any_more, any_right, covered-any}
 use Rattle.imagesize_pieces.specs.Stream.{Needs}
 
 pub ends_wider : (low high less more : ℕ) (spans : List Span) → less ≤ low → high ≤ more → EndsBetween low high spans
@@ -20,15 +22,38 @@ needs_wider texts low high less more spans early late needs = (
   λ none. ends_wider low high less more spans early late (needs.1 none),
 )
 
-pub needs_behind : (texts : Bool) (low high : ℕ) (before spans all : List Span) → all ≡ before ++ spans
-    → Needs texts low high spans → Needs texts low high all
-needs_behind texts low high before spans all is needs = (
+-- what holds for a mark of the first readings holds for one of all
+pub onward_any : {X Y : Type 0} (marks : List Span) (r : Result X Halt) (f : X → Reads Y) (P : Span → Bool)
+    → list_any P marks ≡ true → list_any P (go_on marks r f).marks ≡ true
+onward_any marks (Ok x) f P here = any_left P marks (f x).marks here
+onward_any marks (Err e) f P here = here
+
+-- of more spans
+pub needs_any : (texts : Bool) (low high : ℕ) (spans all : List Span)
+    → ((P : Span → Bool) → list_any P spans ≡ true → list_any P all ≡ true) → Needs texts low high spans
+    → Needs texts low high all
+needs_any texts low high spans all more needs = (
   (
     needs.0.0,
     needs.0.1,
     needs.0.2,
-    subst (λ s. is_covered s needs.0.0 ≡ true) (sym is) (covered-right before spans needs.0.0 needs.0.3),
+    covered-any all needs.0.0
+        ∙ more (λ s. has_offset s needs.0.0) (sym (covered-any spans needs.0.0) ∙ needs.0.3),
   ),
-  λ none. subst (EndsBetween low high) (sym is)
-      (any_right (λ s. leb (suc low) (s.start + s.len) && leb (s.start + s.len) high) before spans (needs.1 none)),
+  λ none. more (λ s. leb (suc low) (s.start + s.len) && leb (s.start + s.len) high) (needs.1 none),
 )
+
+pub needs_behind : (texts : Bool) (low high : ℕ) (before spans all : List Span) → all ≡ before ++ spans
+    → Needs texts low high spans → Needs texts low high all
+needs_behind texts low high before spans all is needs = subst (Needs texts low high) (sym is)
+    (needs_any texts low high spans (before ++ spans) (λ P here. any_right P before spans here) needs)
+
+-- whether texts are read or not
+pub needs_texts : (texts : Bool) (low high : ℕ) (spans : List Span) → Needs false low high spans
+    → Needs texts low high spans
+needs_texts texts low high spans needs = (needs.0, λ none. needs.1 refl)
+
+pub needs_as : {texts other : Bool} (low high less more : ℕ) (spans : List Span) → texts ≡ other → less ≤ low → high ≤ more
+    → Needs texts low high spans → Needs other less more spans
+needs_as {texts} {other} low high less more spans same early late needs =
+    subst (λ t. Needs t less more spans) same (needs_wider texts low high less more spans early late needs)

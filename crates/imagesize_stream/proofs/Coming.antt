@@ -1,13 +1,15 @@
 -- What more bytes leave of what the bytes so far tell.
-use Rattle.std.proofs.Common.{◌≡◌, ℕ, ◌-◌, ◌≤◌, Bool, List, [], ◌∷◌, ◌++◌, length, take, drop, Option, Some, None, Result, Ok, refl, sym, ap, ◌∙◌, subst, arith}
+use Rattle.std.proofs.Common.{◌≡◌, ℕ, ◌-◌, ◌≤◌, Bool, List, [], ◌∷◌, ◌++◌, length, take, drop, Option, Some, None, Result, Ok, Err, refl, sym, ap, ◌∙◌, subst, arith}
 use Rattle.std.proofs.lemmas.List.{length-take}
+use Rattle.std.specs.Result.{result_ok}
 use Rattle.imagesize.specs.Meaning.{meaning_reads}
-use Rattle.imagesize.specs.Parted.{has_texts}
+use Rattle.imagesize.specs.Parted.{has_texts, texts_as}
 use Rattle.imagesize.specs.declared.types.ImageType.{ImageType}
 use Rattle.imagesize_pieces.proofs.Beginning.{begins_left}
 use Rattle.imagesize_pieces.specs.Stream.{Begins, Says, Streams}
 use Rattle.imagesize.specs.Meaning.{kind_reads}
 use Rattle.imagesize_source.specs.Layout.{layout_reads}
+use Rattle.imagesize_source.specs.Outcome.{stated}
 use Rattle.imagesize_stream.proofs.Hearing.{opened_behind}
 use Rattle.imagesize_stream.specs.Probe.{IfAwaiting}
 use Rattle.imagesize_stream.specs.Steps.{Awaits, IsSteady, awaited_said, is_text}
@@ -93,3 +95,7 @@ pub texts_back : (kind : Option ImageType) (texts : Bool) (next : Awaited) (star
 texts_back kind texts next start offset told passed kept whole front same came =
     subst (λ t. Streams 0 awaited_said (λ held. Awaits t next held offset) start offset told passed kept whole front)
     (sym same) came
+
+pub texts_stated : (r : Result ImageType Halt) → texts_as (stated r) ≡ texts_by (result_ok r)
+texts_stated (Ok type) = refl
+texts_stated (Err e) = refl

@@ -10,8 +10,9 @@ use Rattle.imagesize.specs.declared.types.ImageType.{ImageType}
 use Rattle.imagesize.specs.declared.types.ImageType.TheVariants.{Tga}
 use Rattle.imagesize_fixed.specs.Tga.{is_map_sound, is_pixel_sound, is_tga, is_tga_footer, lacks_its_map, may_be_tga, tga, tga_by_header}
 use Rattle.imagesize_pieces.proofs.Beginning.{begins_all, begins_left}
-use Rattle.imagesize_pieces.specs.Stream.{Begins, Reach, Says}
-use Rattle.imagesize_source.specs.Agreement.{is_covered}
+use Rattle.imagesize_pieces.proofs.Needing.{needs_any, onward_any}
+use Rattle.imagesize_pieces.specs.Stream.{Begins, Needs, Reach, Says}
+use Rattle.imagesize_source.specs.Agreement.{EndsBetween, is_covered}
 use Rattle.imagesize_source.specs.Input.{part, span_at, span_of}
 use Rattle.imagesize_source.specs.Layout.{Layout, bind, layout_reads}
 use Rattle.imagesize_source.specs.Layout.Layout.{begin_record, field, reading, refuse, «done»}
@@ -21,16 +22,20 @@ use Rattle.imagesize_source.specs.declared.endian.Endian.TheVariants.{Little}
 use Rattle.imagesize_source.specs.declared.halt.Halt.{Halt}
 use Rattle.imagesize_source.specs.declared.halt.Halt.TheVariants.{NotSupported}
 use Rattle.imagesize_source.specs.declared.span.Span.{Span}
-use Rattle.imagesize_source.proofs.Agreement.{covered-left, covered-one, covered-right}
+use Rattle.imagesize_source.proofs.Agreement.{covered-one}
+use Rattle.imagesize_source.proofs.Among.{any_left, any_right}
 use Rattle.imagesize_source.proofs.Layouts.{over-bind}
 use Rattle.imagesize_stream.proofs.Firsts.{type_by_first}
-use Rattle.imagesize_stream.proofs.Hearing.{first_covered}
 use Rattle.imagesize_stream.proofs.Saying.{Saying, saying, saying_bind}
 use Rattle.imagesize_stream.specs.Heard.{IsByFooter, OutOfHeader, RestsOnMore, SizeIs, TypeIs}
 use Rattle.imagesize_stream.specs.Streamed.{first_by, first_layout, type_behind}
 use Rattle.imagesize_stream.specs.declared.front.First.{First}
 use Rattle.imagesize_stream.specs.declared.front.First.TheVariants as first
 use Rattle.imagesize_types.specs.declared.size.ImageSize.{ImageSize}
+
+last_ends : (n : ℕ) → 18 ≤ n → EndsBetween (n - 1) n (span_at (n - 18) 18)
+unfolding span_at
+last_ends n long = grind (arith, nat_tests)
 
 -- A layout that refuses nothing, and reads no byte from an offset on.
 abbrev pub Sure : {X : Type 0} → ℕ → Layout X → Type 0
@@ -204,34 +209,45 @@ module _ (front : List ℕ) (told : ℕ) (head : List ℕ)
       let yes : leb 18 (length d) ≡ true = grind (arith, nat_tests) in
       let there = bytes_sure d (length d - 18) 18 (omega (arith, long)) in rw (may, yes, there) refl
 
-  -- its last byte is one of the footer
-  footer_covered : (d : List ℕ) → 18 ≤ length d → is_covered (span_of d (length d - 18) 18) (length d - 1) ≡ true
+  -- the footer ends with the last byte
+  footer_needed : (d : List ℕ) → 18 ≤ length d
+      → Needs false (length d - 1) (length d) (span_of d (length d - 18) 18)
   unfolding span_of
-  footer_covered d long =
+  footer_needed d long =
       let count : min 18 (length d - (length d - 18)) ≡ 18 = omega (arith, long) in
       let at : (length d - 18) + 17 ≡ length d - 1 = omega (arith, long) in
-      rw count (subst (λ p. is_covered (span_at (length d - 18) 18) p ≡ true) at
-      (covered-one (length d - 18) 18 17 (omega arith)))
+      rw count (
+        (
+          length d - 1,
+          omega arith,
+          omega (arith, long),
+          subst (λ p. is_covered (span_at (length d - 18) 18) p ≡ true) at
+              (covered-one (length d - 18) 18 17 (omega arith)),
+        ),
+        λ _. last_ends (length d) long,
+      )
 
-  kind_covered : (d : List ℕ) → Begins front told d → 18 ≤ length d
-      → is_covered (kind_reads d 0).marks (length d - 1) ≡ true
-  kind_covered d begins long =
-      subst (λ (r : Reads ImageType). is_covered r.marks (length d - 1) ≡ true)
+  kind_needed : (d : List ℕ) → Begins front told d → 18 ≤ length d
+      → Needs false (length d - 1) (length d) (kind_reads d 0).marks
+  kind_needed d begins long =
+      subst (λ (r : Reads ImageType). Needs false (length d - 1) (length d) r.marks)
       (sym (type_reads d begins ∙ ap (λ w. put_behind says.marks (uncounted w)) (footer_reads d long)))
-      (covered-right says.marks _ (length d - 1)
-      (covered-left (span_of d (length d - 18) 18) _ (length d - 1) (footer_covered d long)))
+      (needs_any false (length d - 1) (length d) (span_of d (length d - 18) 18) _
+      (λ P here. any_right P says.marks _ (any_left P (span_of d (length d - 18) 18) _ here)) (footer_needed d long))
 
   pub rests_on_last : (d : List ℕ) → Begins front told d → 18 ≤ length d
-      → is_covered (meaning_reads d 0).marks (length d - 1) ≡ true
+      → Needs false (length d - 1) (length d) (meaning_reads d 0).marks
   unfolding meaning_reads
   rests_on_last d begins long =
-      first_covered front told (kind_reads d 0).marks (kind_reads d 0).answer (λ found. size_reads found d)
-      (length d - 1) (kind_covered d begins long)
+      needs_any false (length d - 1) (length d) (kind_reads d 0).marks _
+      (onward_any (kind_reads d 0).marks (kind_reads d 0).answer (λ found. size_reads found d))
+      (kind_needed d begins long)
 
   pub rests_on_more : 18 ≤ told → length front < 18 → RestsOnMore front told
   rests_on_more long few = λ d begins as_long below.
-      let last = below (length d - 1) (rests_on_last d begins (omega (arith, long, as_long))) in
-      omega (arith, last, as_long, long, few)
+      let rests = rests_on_last d begins (omega (arith, long, as_long)) in
+      let last = below rests.0.0 rests.0.3 in
+      omega (arith, last, rests.0.1, as_long, long, few)
 
   module _ (sound : Bool) (size : ImageSize)
       (header : Says front told (λ d. layout_reads d (tga_by_header head)) (Ok sound))

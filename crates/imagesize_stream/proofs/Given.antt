@@ -10,7 +10,8 @@ use Rattle.imagesize.specs.declared.types.ImageType.{ImageType}
 use Rattle.imagesize.specs.declared.types.ImageType.TheVariants.{Tga}
 use Rattle.imagesize_fixed.specs.Tga.{is_tga_footer}
 use Rattle.imagesize_pieces.proofs.Beginning.{begins_left}
-use Rattle.imagesize_pieces.specs.Stream.{Begins, SomeBetween}
+use Rattle.imagesize_pieces.proofs.Needing.{needs_wider}
+use Rattle.imagesize_pieces.specs.Stream.{Begins, Needs}
 use Rattle.imagesize_pieces.specs.declared.stand.Stand.{Stand}
 use Rattle.imagesize_source.specs.Input.{part}
 use Rattle.imagesize_source.specs.Outcome.{stated}
@@ -22,7 +23,7 @@ use Rattle.imagesize_stream.specs.Heard.{IsByFooter, OutOfHeader, RestsOnMore}
 use Rattle.imagesize_stream.specs.Probe.{AheadBy, CameBy, CameTo, HoldsAt, HoldsBy, IfAwaiting, MarkedBy, NextBy, RestsOnNext, texts_by}
 use Rattle.imagesize_stream.specs.Pushed.{stage_answer}
 use Rattle.imagesize_stream.specs.Steps.{is_text, reach_of}
-use Rattle.imagesize_stream.proofs.Coming.{awaiting_map}
+use Rattle.imagesize_stream.proofs.Coming.{awaiting_map, texts_stated}
 use Rattle.imagesize_types.specs.declared.size.ImageSize.{ImageSize}
 use Rattle.imagesize_stream.specs.declared.stage.Stage.{Stage}
 use Rattle.imagesize_stream.specs.declared.stage.Stage.TheVariants.{Done, First, Footer, Records}
@@ -219,24 +220,25 @@ known_behind (Done size) kind start offset passed next end told buffer d as_long
 
 pub depends_behind : (stage : Stage) (start offset passed next end : ℕ) (d : List ℕ) → next ≡ max passed start
     → HoldsBy stage start offset passed → IfAwaiting stage (DependsFrom passed d)
-    → MarkedBy stage start passed end (meaning_reads d 0).marks → IfAwaiting stage (DependsFrom next d)
+    → MarkedBy (texts_of d) stage start passed end (meaning_reads d 0).marks → IfAwaiting stage (DependsFrom next d)
 depends_behind First start offset passed next end d is holds depends marked =
     subst (λ k. DependsFrom k d) (omega (arith, is, holds.0)) depends
 depends_behind (Records awaited) start offset passed next end d is holds depends marked =
-    λ below. let early = below marked.0 marked.3 in omega (arith, early, marked.1, is)
+    λ below. let early = below marked.0.0 marked.0.3 in omega (arith, early, marked.0.1, is)
 depends_behind (Footer size) start offset passed next end d is holds depends marked =
-    λ below. let early = below marked.0 marked.3 in omega (arith, early, marked.1, is)
+    λ below. let early = below marked.0.0 marked.0.3 in omega (arith, early, marked.0.1, is)
 depends_behind (Done size) start offset passed next end d is holds depends marked = tt
 
-pub marked_behind : (stage : Stage) (start offset passed next end : ℕ) (marks : List Span) → next ≡ max passed start
-    → HoldsBy stage start offset passed → MarkedBy stage start passed end marks → MarkedBy stage start next end marks
-marked_behind First start offset passed next end marks is holds marked =
-    subst (λ k. OutOfHeader k → SomeBetween k end marks) (omega (arith, is, holds.0)) marked
-marked_behind (Records awaited) start offset passed next end marks is holds marked =
-    (marked.0, omega (arith, is, marked.1), marked.2, marked.3)
-marked_behind (Footer size) start offset passed next end marks is holds marked =
-    (marked.0, omega (arith, is, marked.1), marked.2, marked.3)
-marked_behind (Done size) start offset passed next end marks is holds marked = tt
+pub marked_behind : (texts : Bool) (stage : Stage) (start offset passed next end : ℕ) (marks : List Span)
+    → next ≡ max passed start → HoldsBy stage start offset passed → MarkedBy texts stage start passed end marks
+    → MarkedBy texts stage start next end marks
+marked_behind texts First start offset passed next end marks is holds marked =
+    subst (λ k. OutOfHeader k → Needs texts k end marks) (omega (arith, is, holds.0)) marked
+marked_behind texts (Records awaited) start offset passed next end marks is holds marked =
+    needs_wider texts (max passed start) end (max next start) end marks (omega (arith, is)) (omega arith) marked
+marked_behind texts (Footer size) start offset passed next end marks is holds marked =
+    needs_wider texts (max passed start) end (max next start) end marks (omega (arith, is)) (omega arith) marked
+marked_behind texts (Done size) start offset passed next end marks is holds marked = tt
 
 -- before any byte came
 pub none_given : (stage : Stage) (kind : Option ImageType) (stand : Stand) (buffer d : List ℕ)
@@ -316,15 +318,15 @@ next_none kind (Footer size) passed end told none next = (next.0, next.1.0, let 
 next_none kind (Done size) passed end told none next = absurd cc
 
 -- the result depends on a byte of the requested span
-pub marked_none : (kind : Option ImageType) (stage : Stage) (start passed end : ℕ) (marks : List Span)
-    → stage_answer kind stage ≡ None → MarkedBy stage start passed end marks → OutOfHeader passed
-    → SomeBetween passed end marks
-marked_none kind First start passed end marks none marked out = marked out
-marked_none kind (Records awaited) start passed end marks none marked out =
-    (marked.0, omega (arith, marked.1), marked.2, marked.3)
-marked_none kind (Footer size) start passed end marks none marked out =
-    (marked.0, omega (arith, marked.1), marked.2, marked.3)
-marked_none kind (Done size) start passed end marks none marked out = absurd cc
+pub marked_none : (kind : Option ImageType) (texts : Bool) (stage : Stage) (start passed end : ℕ) (marks : List Span)
+    → stage_answer kind stage ≡ None → MarkedBy texts stage start passed end marks → OutOfHeader passed
+    → Needs texts passed end marks
+marked_none kind texts First start passed end marks none marked out = marked out
+marked_none kind texts (Records awaited) start passed end marks none marked out =
+    needs_wider texts (max passed start) end passed end marks (omega arith) (omega arith) marked
+marked_none kind texts (Footer size) start passed end marks none marked out =
+    needs_wider texts (max passed start) end passed end marks (omega arith) (omega arith) marked
+marked_none kind texts (Done size) start passed end marks none marked out = absurd cc
 
 -- before any byte came the stage is the first one
 pub none_passed : (kind : Option ImageType) (stage : Stage) (start offset passed : ℕ) → stage_answer kind stage ≡ None
@@ -343,10 +345,6 @@ first_next kind (Records awaited) start offset passed end told none holds next i
     let some = holds.1.1 in absurd (omega (arith, some, is))
 first_next kind (Footer size) start offset passed end told none holds next is = absurd (omega (arith, holds, is))
 first_next kind (Done size) start offset passed end told none holds next is = absurd cc
-
-texts_stated : (r : Result ImageType Halt) → texts_as (stated r) ≡ texts_by (result_ok r)
-texts_stated (Ok type) = refl
-texts_stated (Err e) = refl
 
 -- In a format without texts, few bytes are requested.
 pub few_none : (kind : Option ImageType) (stage : Stage) (start offset passed end told : ℕ) (buffer d : List ℕ)

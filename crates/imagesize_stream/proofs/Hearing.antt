@@ -1,20 +1,23 @@
 -- What the first bytes say of every image that begins with them.
-use Rattle.std.proofs.Common.{◌≡◌, ℕ, ◌-◌, ◌<◌, ◌≤◌, ◌⊎◌, inl, inr, leb, List, [], ◌++◌, length, true, false, Result, Ok, Err, refl, sym, ap, ◌∙◌, subst, arith}
+use Rattle.std.proofs.Common.{◌≡◌, ℕ, Bool, ◌-◌, ◌<◌, ◌≤◌, ◌⊎◌, inl, inr, leb, List, [], ◌++◌, length, true, false, Result, Ok, Err, refl, sym, ap, ◌∙◌, subst, arith}
 use Rattle.std.proofs.lemmas.Bool.{cases_lt}
 use Rattle.std.proofs.lemmas.Bool.Decides.{nat_tests}
+use Rattle.std.specs.List.{list_any}
 use Rattle.std.specs.Result.{result_ok}
 use Rattle.imagesize.specs.Meaning.{kind_reads, meaning_reads, size_reads}
-use Rattle.imagesize.specs.Parted.{has_texts}
+use Rattle.imagesize.specs.Parted.{has_texts, texts_as, texts_of}
 use Rattle.imagesize.specs.declared.types.ImageType.{ImageType}
-use Rattle.imagesize_pieces.specs.Stream.{AllBelow, Begins, Says, SomeBetween}
+use Rattle.imagesize_pieces.specs.Stream.{AllBelow, Begins, Needs, Says}
 use Rattle.imagesize_pieces.proofs.Beginning.{begins_all}
-use Rattle.imagesize_source.specs.Agreement.{is_covered}
+use Rattle.imagesize_pieces.proofs.Needing.{needs_any, needs_texts, onward_any}
+use Rattle.imagesize_source.specs.Agreement.{has_offset, is_covered}
 use Rattle.imagesize_source.specs.Layout.{layout_reads}
 use Rattle.imagesize_source.specs.Reading.{Reads, and_then, bytes_at, go_on, put_behind, uncounted}
 use Rattle.imagesize_source.specs.declared.halt.Halt.{Halt}
 use Rattle.imagesize_source.specs.declared.halt.Halt.TheVariants.{Ended}
 use Rattle.imagesize_source.specs.declared.span.Span.{Span}
-use Rattle.imagesize_source.proofs.Agreement.{covered-left, covered-right}
+use Rattle.imagesize_source.proofs.Among.{any_right, covered-any}
+use Rattle.imagesize_source.specs.Outcome.{stated}
 use Rattle.imagesize_source.proofs.Marks.{behind-behind}
 use Rattle.imagesize_stream.proofs.Firsts.{type_by_first}
 use Rattle.imagesize_stream.proofs.Opened.{opened_as, opened_rest}
@@ -104,26 +107,26 @@ module _ (front : List ℕ) (told : ℕ) where
         saying (OpensSteady (has_texts type)) front (opening type) (opened.Records next offset) (opening_steady type)
         (ap (λ (r : Reads Opening). r.answer) (is.is front (begins_all front told fits)))
 
-  -- a mark of the first readings is one of all
-  pub first_covered : {X Y : Type 0} (marks : List Span) (r : Result X Halt) (f : X → Reads Y) (offset : ℕ)
-      → is_covered marks offset ≡ true
-      → is_covered (go_on marks r f).marks offset ≡ true
-  first_covered marks (Ok x) f offset here = covered-left marks (f x).marks offset here
-  first_covered marks (Err e) f offset here = here
+  -- what holds for a mark of the first bytes holds for one of all
+  type_any : (d : List ℕ) (P : Span → Bool) → list_any P (layout_reads d first_layout).marks ≡ true
+      → list_any P (meaning_reads d 0).marks ≡ true
+  unfolding meaning_reads
+  type_any d P here =
+      onward_any (kind_reads d 0).marks (kind_reads d 0).answer (λ found. size_reads found d) P
+      (subst (λ (r : Reads ImageType). list_any P r.marks ≡ true) (sym (type_by_first d))
+      (onward_any (layout_reads d first_layout).marks (layout_reads d first_layout).answer (type_behind d) P here))
 
   type_covered : (d : List ℕ) (offset : ℕ) → is_covered (layout_reads d first_layout).marks offset ≡ true
       → is_covered (meaning_reads d 0).marks offset ≡ true
-  unfolding meaning_reads
-  type_covered d offset here =
-      first_covered (kind_reads d 0).marks (kind_reads d 0).answer (λ found. size_reads found d) offset
-      (subst (λ (r : Reads ImageType). is_covered r.marks offset ≡ true) (sym (type_by_first d))
-      (first_covered (layout_reads d first_layout).marks (layout_reads d first_layout).answer
-      (type_behind d) offset here))
+  type_covered d offset here = covered-any (meaning_reads d 0).marks offset
+      ∙ type_any d (λ s. has_offset s offset) (sym (covered-any (layout_reads d first_layout).marks offset) ∙ here)
 
   pub first_asked : (low high : ℕ) → ((d : List ℕ) → Begins front told d → length d ≡ told
-      → SomeBetween low high (layout_reads d first_layout).marks) → RestsBetween low high front told
+      → Needs false low high (layout_reads d first_layout).marks) → RestsBetween low high front told
   first_asked low high some d begins as_long =
-      let here = some d begins as_long in (here.0, here.1, here.2, type_covered d here.0 here.3)
+      needs_texts (texts_of d) low high (meaning_reads d 0).marks
+      (needs_any false low high (layout_reads d first_layout).marks (meaning_reads d 0).marks (type_any d)
+      (some d begins as_long))
 
   pub first_missing : ((d : List ℕ) → Begins front told d → length d ≡ told
       → AllBelow (length front) (layout_reads d first_layout).marks → ⊥)
@@ -131,16 +134,22 @@ module _ (front : List ℕ) (told : ℕ) where
   first_missing none =
       λ d begins as_long below. none d begins as_long (λ offset here. below offset (type_covered d offset here))
 
+  size_any : (type : ImageType) (says : Says front told (λ d. kind_reads d 0) (Ok type)) (d : List ℕ)
+      → Begins front told d → (P : Span → Bool) → list_any P (layout_reads d (opening type)).marks ≡ true
+      → list_any P (meaning_reads d 0).marks ≡ true
+  size_any type says d begins P here =
+      subst (λ (r : Reads ImageSize). list_any P r.marks ≡ true) (sym (meaning_behind type says d begins))
+      (any_right P says.marks (size_reads type d).marks
+      (subst (λ (r : Reads ImageSize). list_any P r.marks ≡ true) (sym (opened_as type d))
+      (onward_any (layout_reads d (opening type)).marks (layout_reads d (opening type)).answer (opened_rest d) P here)))
+
   size_covered : (type : ImageType) (says : Says front told (λ d. kind_reads d 0) (Ok type)) (d : List ℕ)
       → Begins front told d → (offset : ℕ)
       → is_covered (layout_reads d (opening type)).marks offset ≡ true
       → is_covered (meaning_reads d 0).marks offset ≡ true
-  size_covered type says d begins offset here =
-      subst (λ (r : Reads ImageSize). is_covered r.marks offset ≡ true) (sym (meaning_behind type says d begins))
-      (covered-right says.marks (size_reads type d).marks offset
-      (subst (λ (r : Reads ImageSize). is_covered r.marks offset ≡ true) (sym (opened_as type d))
-      (first_covered (layout_reads d (opening type)).marks (layout_reads d (opening type)).answer
-      (opened_rest d) offset here)))
+  size_covered type says d begins offset here = covered-any (meaning_reads d 0).marks offset
+      ∙ size_any type says d begins (λ s. has_offset s offset)
+      (sym (covered-any (layout_reads d (opening type)).marks offset) ∙ here)
 
   pub size_missing : (type : ImageType) → Says front told (λ d. kind_reads d 0) (Ok type)
       → ((d : List ℕ) → Begins front told d → length d ≡ told
@@ -152,9 +161,12 @@ module _ (front : List ℕ) (told : ℕ) where
 
   pub size_asked : (type : ImageType) → Says front told (λ d. kind_reads d 0) (Ok type) → (low high : ℕ)
       → ((d : List ℕ) → Begins front told d → length d ≡ told
-      → SomeBetween low high (layout_reads d (opening type)).marks) → RestsBetween low high front told
+      → Needs (has_texts type) low high (layout_reads d (opening type)).marks) → RestsBetween low high front told
   size_asked type says low high some d begins as_long =
-      let here = some d begins as_long in (here.0, here.1, here.2, size_covered type says d begins here.0 here.3)
+      subst (λ texts. Needs texts low high (meaning_reads d 0).marks)
+      (ap (λ (r : Reads ImageType). texts_as (stated r.answer)) (sym (says.is d begins)))
+      (needs_any (has_texts type) low high (layout_reads d (opening type)).marks (meaning_reads d 0).marks
+      (size_any type says d begins) (some d begins as_long))
 
   -- no fewer than twelve bytes say a type
   pub first_typed : length front ≤ told → (x : First) → Says front told (λ d. layout_reads d first_layout) (Ok x)

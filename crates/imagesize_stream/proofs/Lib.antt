@@ -2,6 +2,7 @@ pub mod Behind
 pub mod Steps
 pub mod Running
 pub mod Firsts
+pub mod Plain
 pub mod Reaches
 pub mod Far
 pub mod Opened

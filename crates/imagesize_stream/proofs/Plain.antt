@@ -1,5 +1,5 @@
 -- Which of the readings of a stream read no text.
-use Rattle.std.proofs.Common.{◌≡◌, ℕ, ◌+◌, ◌-◌, ◌++◌, min, Bool, true, false, ◌&&◌, cond, eqb, drop, List, length, slice_index, take, Option, None, Some, Result, Ok, Err, sym, ◌∙◌}
+use Rattle.std.proofs.Common.{◌≡◌, ℕ, ◌+◌, ◌-◌, ◌++◌, min, Bool, true, false, ◌&&◌, cond, eqb, drop, List, length, slice_index, take, Option, None, Some, Result, Ok, Err, refl, ap, ◌∙◌}
 use Rattle.std.specs.Prelude.{codes}
 use Rattle.imagesize.proofs.Detection.{with_costs}
 use Rattle.imagesize.proofs.Ways.{laws_of}
@@ -30,7 +30,7 @@ use Rattle.imagesize_source.specs.Layout.{Layout, accept, bind, bytes_there, if_
 use Rattle.imagesize_source.specs.Layout.Layout.{begin_record, field, reading, refuse, «done»}
 use Rattle.imagesize_source.specs.Numbers.{number}
 use Rattle.imagesize_source.specs.Way.{Way, Fixed, Recorded, Texts}
-use Rattle.imagesize_stream.specs.Steps.{after, decides, ipco_leads, iprp_leads, jxl_verdict, kept_front, kept_of, listed_with, meta_leads, property_step, step}
+use Rattle.imagesize_stream.specs.Steps.{Awaits, after, awaited_said, decides, ipco_leads, iprp_leads, is_text, jxl_verdict, kept_front, kept_of, last_awaited, listed_with, meta_leads, property_step, step}
 use Rattle.imagesize_stream.specs.Streamed.{first_by, first_layout, jxl_opened, opening, opening_by, opening_records, opens, sized}
 use Rattle.imagesize_stream.specs.declared.awaited.Awaited.{Awaited}
 use Rattle.imagesize_stream.specs.declared.awaited.Awaited.TheVariants.{Attribute, Box, Chunk, Comment, Directory, Entry, Height, Icon, Ipco, Iprp, Line, Meta, Property, Segment, Word}
@@ -170,7 +170,7 @@ after_piece on (Decided front) = accepted_plain (jxl_size front)
 after_piece on (Next piece q) = tt
 
 -- a record that is no text
-pub step_plain : (next : Awaited) (offset : ℕ) → is_text next ≡ false → AllRead false (step next offset)
+step_plain : (next : Awaited) (offset : ℕ) → is_text next ≡ false → AllRead false (step next offset)
 step_plain (Segment depth) offset other = plain_bind (jpeg_segment depth offset) _ (segment_plain depth offset)
     (after_size (λ marker. Segment (depth_behind depth marker)))
 step_plain Chunk offset other = plain_bind (ilbm_chunk offset) _ (chunk_plain offset) (after_size (λ _. Chunk))
@@ -197,9 +197,13 @@ step_plain Word offset other = absurd cc
 step_plain Comment offset other = absurd cc
 step_plain (Height width) offset other = absurd cc
 
-pub step_read : (texts : Bool) (next : Awaited) (offset : ℕ) → is_text next ≡ texts → AllRead texts (step next offset)
+step_read : (texts : Bool) (next : Awaited) (offset : ℕ) → is_text next ≡ texts → AllRead texts (step next offset)
 step_read true next offset is = with_texts (step next offset)
 step_read false next offset is = step_plain next offset is
+
+pub awaits_read : {texts : Bool} {next : Awaited} (held : List Awaited) (offset : ℕ) → Awaits texts next held offset
+    → AllRead texts (awaited_said held offset)
+awaits_read {texts} held offset awaits = step_read texts (last_awaited held) offset (ap is_text awaits.0 ∙ awaits.2)
 
 -- ---- the first bytes
 

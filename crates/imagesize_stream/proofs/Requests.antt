@@ -3,7 +3,8 @@ use Rattle.std.proofs.Common.{◌≡◌, ℕ, ◌+◌, ◌-◌, ◌<◌, ◌≤�
 use Rattle.imagesize.specs.declared.types.ImageType.{ImageType}
 use Rattle.imagesize_pieces.specs.declared.stand.Stand.{Stand}
 use Rattle.imagesize_source.specs.declared.error.ImageError.{ImageError}
-use Rattle.imagesize_stream.specs.Parts.{IfWanted, found_or_next}
+use Rattle.imagesize.specs.Parted.{IfWanted}
+use Rattle.imagesize_stream.specs.Parts.{found_or_next}
 use Rattle.imagesize_types.specs.declared.size.ImageSize.{ImageSize}
 
 abbrev pub Both : Type 0

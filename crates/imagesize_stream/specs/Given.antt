@@ -2,6 +2,7 @@
 use Rattle.std.specs.Prelude.{◌≡◌, ℕ, ◌-◌, List, length, drop, take, Option}
 use Rattle.std.specs.Result.{result_ok}
 use Rattle.imagesize.specs.Meaning.{kind_reads, meaning_reads}
+use Rattle.imagesize.specs.Parted.{texts_of}
 use Rattle.imagesize.specs.declared.types.ImageType.{ImageType}
 use Rattle.imagesize_pieces.specs.Stream.{AllBelow}
 use Rattle.imagesize_pieces.specs.declared.stand.Stand.{Stand}
@@ -38,4 +39,4 @@ pub record IsGiven (stage : Stage) (kind : Option ImageType) (stand : Stand) (bu
 pub record MayBeAt (stage : Stage) (kind : Option ImageType) (stand : Stand) (buffer d : List ℕ) : Type 0 where
   pub given : IsGiven stage kind stand buffer d
   pub depends : IfAwaiting stage (DependsFrom stand.passed d)
-  pub marked : MarkedBy stage stand.start stand.passed stand.end (meaning_reads d 0).marks
+  pub marked : MarkedBy (texts_of d) stage stand.start stand.passed stand.end (meaning_reads d 0).marks

@@ -1,13 +1,13 @@
 -- What the first bytes say about every image that begins with them.
-use Rattle.std.specs.Prelude.{◌≡◌, ◌⊎◌, ℕ, ◌-◌, ◌<◌, ◌≤◌, min, true, List, length, if◌then◌else◌, Option, Result, Ok, Err, IfSome}
+use Rattle.std.specs.Prelude.{◌≡◌, ◌⊎◌, ℕ, ◌-◌, ◌<◌, ◌≤◌, min, false, List, length, if◌then◌else◌, Option, Result, Ok, Err, IfSome}
 use Rattle.std.specs.Result.{result_ok}
 use Rattle.imagesize.specs.Meaning.{kind_reads, meaning_reads}
+use Rattle.imagesize.specs.Parted.{texts_of}
 use Rattle.imagesize.specs.Parted.{has_texts}
 use Rattle.imagesize.specs.declared.types.ImageType.{ImageType}
-use Rattle.imagesize_pieces.specs.Stream.{AllBelow, Begins, Says, SomeBetween}
+use Rattle.imagesize_pieces.specs.Stream.{AllBelow, Begins, Needs, Says}
 use Rattle.imagesize.specs.declared.types.ImageType.TheVariants.{Tga}
 use Rattle.imagesize_fixed.specs.Tga.{is_tga_footer}
-use Rattle.imagesize_source.specs.Agreement.{is_covered}
 use Rattle.imagesize_source.specs.Input.{part}
 use Rattle.imagesize_source.specs.Layout.{layout_reads}
 use Rattle.imagesize_source.specs.declared.halt.Halt.{Halt}
@@ -31,19 +31,20 @@ SizeIs front told size = (d : List ℕ) → Begins front told d → (meaning_rea
 abbrev pub RestsOnMore : List ℕ → ℕ → Type 0
 RestsOnMore front told = (d : List ℕ) → Begins front told d → length d ≡ told → AllBelow (length front) (meaning_reads d 0).marks → ⊥
 
--- each of them depends on a byte from `low` on, below `high`
+-- each of them depends on a byte from `low` on, below `high`; if it has no texts, a read ends there
 abbrev pub RestsBetween : ℕ → ℕ → List ℕ → ℕ → Type 0
-RestsBetween low high front told = (d : List ℕ) → Begins front told d → length d ≡ told → SomeBetween low high (meaning_reads d 0).marks
+RestsBetween low high front told = (d : List ℕ) → Begins front told d → length d ≡ told
+    → Needs (texts_of d) low high (meaning_reads d 0).marks
 
 -- The bytes from this offset on are not the rest of a header of 18 bytes after its first 12.
 abbrev pub OutOfHeader : ℕ → Type 0
 OutOfHeader offset = (offset < 12) ⊎ (18 ≤ offset)
 
--- the input is a TGA of this size if its footer says so, and the result depends on its last byte
+-- the input is a TGA of this size if its footer says so, and the result depends on its last byte, where a read ends
 pub record IsByFooter (size : ImageSize) (d : List ℕ) : Type 0 where
   pub type : (kind_reads d 0).answer ≡ (if is_tga_footer (part d (length d - 18) 18) then Ok Tga else Err NotSupported)
   pub size_is : (meaning_reads d 0).answer ≡ (if is_tga_footer (part d (length d - 18) 18) then Ok size else Err NotSupported)
-  pub rests : is_covered (meaning_reads d 0).marks (length d - 1) ≡ true
+  pub rests : Needs false (length d - 1) (length d) (meaning_reads d 0).marks
 
 -- What the first bytes say is true of every input that begins so. If bytes are missing, it depends on one of those that the
 -- read requests. Of the header of what may be a TGA, it may depend on none.

@@ -29,11 +29,6 @@ found_or_next None stand = Wanted (record { start = stand.passed; len = stand.en
 abbrev pub next_of : PartsProbe → PartsAnswer (Option ImageType × Result ImageSize ImageError)
 next_of parts = found_or_next (answer_of parts.probe) parts.probe.stand
 
--- what holds for a requested span
-abbrev pub IfWanted : {T : Type 0} → PartsAnswer T → (Span → Type 0) → Type 0
-IfWanted (Found found) Holds = Unit {0}
-IfWanted (Wanted w) Holds = Holds w
-
 -- the result of this input depends on a byte of the span
 abbrev pub HasMarked : Span → List ℕ → Type 0
 HasMarked w d = (offset : ℕ) × (w.start ≤ offset) × (offset < w.start + w.len) × (is_covered (meaning d 0).marks offset ≡ true)

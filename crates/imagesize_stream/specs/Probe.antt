@@ -3,9 +3,9 @@ use Rattle.std.specs.Prelude.{◌≡◌, ℕ, ◌+◌, ◌-◌, ◌<◌, ◌≤�
 use Rattle.std.specs.Coded.{Unit-prop, coded_bool, le_prop, ×_prop}
 use denote.Struct.Props.{≡_prop}
 use Rattle.imagesize.specs.Meaning.{meaning_reads}
-use Rattle.imagesize.specs.Parted.{has_texts}
+use Rattle.imagesize.specs.Parted.{has_texts, texts_of}
 use Rattle.imagesize.specs.declared.types.ImageType.{ImageType}
-use Rattle.imagesize_pieces.specs.Stream.{Begins, SomeBetween, Streams}
+use Rattle.imagesize_pieces.specs.Stream.{Begins, Needs, Streams}
 use Rattle.imagesize_pieces.specs.declared.stand.Stand.{Stand}
 use Rattle.imagesize_source.specs.Reading.{is_stopped}
 use Rattle.imagesize_source.specs.declared.span.Span.{Span}
@@ -89,15 +89,15 @@ next_prop (Done size) passed end told = Unit-prop
 abbrev pub IsNext : Stage → Stand → Type 0
 IsNext stage stand = NextBy stage stand.passed stand.end stand.told
 
--- The result depends on a byte before this end, after those that came, and in the next record or footer. Of the bytes 12 to
--- 17 this is not known, if they may be the header of a TGA.
-abbrev pub MarkedBy : Stage → ℕ → ℕ → ℕ → List Span → Type 0
-MarkedBy First start passed end marks = OutOfHeader passed → SomeBetween passed end marks
-MarkedBy (Records next) start passed end marks = SomeBetween (max passed start) end marks
-MarkedBy (Footer size) start passed end marks = SomeBetween (max passed start) end marks
-MarkedBy (Done size) start passed end marks = Unit {0}
+-- The result depends on a byte before this end, after those that came, and in the next record or footer. If no text is
+-- read, a read that it depends on ends there. Of the bytes 12 to 17 this is not known, if they may be the header of a TGA.
+abbrev pub MarkedBy : Bool → Stage → ℕ → ℕ → ℕ → List Span → Type 0
+MarkedBy texts First start passed end marks = OutOfHeader passed → Needs texts passed end marks
+MarkedBy texts (Records next) start passed end marks = Needs texts (max passed start) end marks
+MarkedBy texts (Footer size) start passed end marks = Needs texts (max passed start) end marks
+MarkedBy texts (Done size) start passed end marks = Unit {0}
 
 -- each input of the reported length that begins so depends on such a byte
 abbrev pub RestsOnNext : Stage → Stand → List ℕ → ℕ → Type 0
 RestsOnNext stage stand front told = (d : List ℕ) → Begins front told d → length d ≡ told
-    → MarkedBy stage stand.start stand.passed stand.end (meaning_reads d 0).marks
+    → MarkedBy (texts_of d) stage stand.start stand.passed stand.end (meaning_reads d 0).marks

@@ -42,12 +42,13 @@ pub struct PartsProbe {
 impl PartsProbe {
     ghost use Rattle.std.specs.Prelude.{◌≡◌, ◌⊎◌, ℕ, ◌+◌, ◌-◌, ◌<◌, ◌≤◌, ◌^◌, false, List, length, min};
     ghost use Rattle.imagesize.specs.Meaning.{meaning};
-    ghost use Rattle.imagesize.specs.Parted.{Fits, IfFound, IsProbed, texts_of};
+    ghost use Rattle.imagesize.specs.Parted.{Fits, IfFound, IfWanted, IsProbed, texts_of};
     ghost use Rattle.imagesize.specs.declared.parts.PartsAnswer.TheVariants as answer;
     ghost use Rattle.imagesize_pieces.specs.Stream.{AllBelow};
+    ghost use Rattle.imagesize_source.specs.Agreement.{EndsBetween};
     ghost use Rattle.imagesize_source.specs.Errors.{is_stopped};
     ghost use Rattle.imagesize_stream.specs.Given.{HasPart};
-    ghost use Rattle.imagesize_stream.specs.Parts.{HasMarked, IfWanted, MayBe, next_of, total_of};
+    ghost use Rattle.imagesize_stream.specs.Parts.{HasMarked, MayBe, next_of, total_of};
 
     /// A probe of an input of `total` bytes. Of a length of 2^63 bytes or more, nothing is promised.
     pub fn new(total: u64) -> PartsProbe
@@ -79,6 +80,10 @@ impl PartsProbe {
         // The result depends on a byte of the span. Which bytes of a TGA's header it depends on is known after its last bytes. So
         // a caller that supplied 12 to 17 bytes is asked for the rest of the 18, whether or not the result depends on them.
         ensures within { (d : List ℕ) → MayBe self.now d → IfWanted result (λ w. (w.start < 12) ⊎ (18 ≤ w.start) → HasMarked w d) }
+
+        // For a type without texts, a read that the result depends on ends in the span: one span is enough for a read.
+        ensures reaches { (d : List ℕ) → MayBe self.now d → texts_of d ≡ false → IfWanted result (λ w. (w.start < 12) ⊎ (18 ≤ w.start)
+            → EndsBetween w.start (w.start + w.len) (meaning d 0).marks) }
 
         // No result is a fault, a spent budget or a lack of memory.
         ensures unstopped { IfFound result (λ found. is_stopped found.1 ≡ false) }

@@ -7,7 +7,7 @@ use Rattle.std.proofs.lemmas.Bool.Decides.{nat_tests}
 use Rattle.std.proofs.lemmas.List.{take_all}
 use Rattle.std.proofs.lemmas.Nat.{mul-le}
 use Rattle.imagesize.specs.Meaning.{meaning}
-use Rattle.imagesize.specs.Parted.{IsWithin, texts_of}
+use Rattle.imagesize.specs.Parted.{IfWanted, IsWithin, texts_of}
 use Rattle.imagesize.specs.declared.parts.PartsAnswer.{PartsAnswer}
 use Rattle.imagesize.specs.declared.parts.PartsAnswer.TheVariants.{Found, Wanted}
 use Rattle.imagesize_source.specs.Agreement.{is_covered}
@@ -17,7 +17,7 @@ use Rattle.imagesize_source.specs.declared.span.Span.{Span}
 use Rattle.imagesize_source.proofs.Counts.{count-cons, count_fewer, tests_fewer}
 use Rattle.imagesize_source.proofs.Parts.{part_length}
 use Rattle.imagesize_stream.specs.Given.{HasPart}
-use Rattle.imagesize_stream.specs.Parts.{HasMarked, IfWanted, MayBe, next_of, total_of}
+use Rattle.imagesize_stream.specs.Parts.{HasMarked, MayBe, next_of, total_of}
 use Rattle.imagesize_stream.specs.declared.parts.PartsProbe.{PartsProbe}
 use Rattle.imagesize_uses.specs.Remote.{most_at_once}
 

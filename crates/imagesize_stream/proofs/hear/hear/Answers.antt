@@ -2,6 +2,7 @@ use Rattle.std.proofs.Common.{Ok, sym, ◌∙◌, subst}
 use Rattle.imagesize_pieces.specs.Stream.{Says}
 use Rattle.imagesize_source.specs.Layout.{layout_reads}
 use Rattle.imagesize_stream.proofs.Hearing.{first_asked, first_missing, meaning_refused, size_of_said, type_is, type_refused, type_said}
+use Rattle.imagesize_stream.proofs.Plain.{first_plain}
 use Rattle.imagesize_stream.proofs.Reaches.{first_reaches}
 use Rattle.imagesize_stream.specs.Streamed.{first_layout}
 use Rattle.imagesize_stream.specs.declared.front.First.{First}
@@ -13,7 +14,7 @@ returns-then-is_faulted-clause-hears c =
       first_missing c.args.bytes.now c.args.told (c.read_front-found.ensures.complete faults),
       tt,
       λ _. first_asked c.args.bytes.now c.args.told _ _
-          (λ d begins as_long. c.read_front-found.ensures.marked faults d begins as_long 132 first_reaches),
+          (λ d begins as_long. c.read_front-found.ensures.marked faults d begins as_long false 132 first_plain first_reaches),
     )
 
 pub returns-then-is_faulted-clause-few : goal.returns-then-is_faulted-clause-few

@@ -2,6 +2,8 @@ use Rattle.std.proofs.Common.{Ok, sym, ◌∙◌, subst}
 use Rattle.imagesize_pieces.specs.Stream.{Says}
 use Rattle.imagesize_source.specs.Layout.{layout_reads}
 use Rattle.imagesize_stream.proofs.Hearing.{kind_typed, size_asked, size_missing, size_of_said, size_refused, size_said, steady_said, type_is}
+use Rattle.imagesize.specs.Parted.{has_texts}
+use Rattle.imagesize_stream.proofs.Plain.{opening_read}
 use Rattle.imagesize_stream.proofs.Reaches.{opening_reaches}
 use Rattle.imagesize_stream.specs.Streamed.{opening}
 use Rattle.imagesize_stream.specs.declared.front.Opening.{Opening}
@@ -15,7 +17,8 @@ returns-then-is_faulted-clause-hears c =
       c.requires.image,
       λ _. size_asked c.args.bytes.now c.args.told c.args.image c.requires.image _ _
           (λ d begins as_long.
-          c.read_front-found.ensures.marked faults d begins as_long 132 (opening_reaches c.args.image)),
+          c.read_front-found.ensures.marked faults d begins as_long (has_texts c.args.image) 132
+              (opening_read c.args.image) (opening_reaches c.args.image)),
     )
 
 pub returns-then-is_faulted-clause-few : goal.returns-then-is_faulted-clause-few

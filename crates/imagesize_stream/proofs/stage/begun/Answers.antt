@@ -1,6 +1,9 @@
 use Rattle.std.proofs.Common.{◌≡◌, ◌-◌, Some, length, take, refl, sym, ◌∙◌, subst, arith}
 use Rattle.std.proofs.lemmas.List.{length-take}
+use Rattle.imagesize.specs.Meaning.{meaning_reads}
+use Rattle.imagesize.specs.Parted.{texts_of}
 use Rattle.imagesize_pieces.proofs.Beginning.{begins_left}
+use Rattle.imagesize_pieces.proofs.Needing.{needs_wider}
 use Rattle.imagesize_stream.proofs.Footers.{last_kept}
 use Rattle.imagesize_stream.proofs.Coming.{awaiting_map, opened_came}
 use Rattle.imagesize_stream.proofs.Hearing.{type_is}
@@ -42,12 +45,9 @@ returns-in-Missing-clause-marked c = λ d begins as_long out.
     let many : length front ≡ c.args.stand.now.passed =
     length-take c.args.stand.now.passed c.args.buffer.now ∙ omega (arith, c.requires.few) in
     let marked = c.in-Missing.ensures.hears.2 (subst OutOfHeader (sym many) out) d
-    (begins_left front c.args.chunk.now c.args.stand.now.told d begins) as_long in (
-      marked.0,
-      omega (arith, many, marked.1),
-      omega (arith, marked.2, c.in-Missing.ensures.ends.1),
-      marked.3,
-    )
+    (begins_left front c.args.chunk.now c.args.stand.now.told d begins) as_long in
+    needs_wider (texts_of d) (length front) _ _ _ (meaning_reads d 0).marks (omega (arith, many))
+    (omega (arith, c.in-Missing.ensures.ends.1)) marked
 
 pub returns-in-Records-clause-marked : goal.returns-in-Records-clause-marked
 returns-in-Records-clause-marked c =

@@ -1,7 +1,10 @@
 use Rattle.std.proofs.Common.{◌+◌, ◌-◌, ◌≤◌, true, false, length, take, refl, sym, ◌∙◌, ap, arith}
 use Rattle.std.proofs.lemmas.List.{length-append}
 use Rattle.imagesize_fixed.specs.Tga.{is_tga_footer}
+use Rattle.imagesize.specs.Meaning.{meaning_reads}
+use Rattle.imagesize.specs.Parted.{texts_of}
 use Rattle.imagesize_pieces.proofs.Beginning.{begins_left}
+use Rattle.imagesize_pieces.proofs.Needing.{needs_texts, needs_wider}
 use Rattle.imagesize_stream.proofs.Coming.{says_on}
 use Rattle.imagesize_stream.proofs.Footers.{footer_tells, last_on}
 use Rattle.imagesize_stream.proofs.Given.{footer_came, footer_known, footer_on}
@@ -51,22 +54,19 @@ returns-then-stand-clause-parts c = λ d given part.
         known = (given.known.0, footer);
       };
       depends = λ below.
-          let here = below (length d - 1) given.known.0.rests in omega (arith, here, given.as_long, c.if-stand.true);
-      marked = (
-        length d - 1,
-        omega (arith, given.as_long, c.if-stand.true),
-        omega (arith, given.as_long, c.if-stand.true),
-        given.known.0.rests,
-      );
+          let rests = given.known.0.rests in
+          let here = below rests.0.0 rests.0.3 in omega (arith, here, rests.0.1, given.as_long, c.if-stand.true);
+      marked = needs_wider (texts_of d) (length d - 1) (length d) _ _ (meaning_reads d 0).marks
+          (omega (arith, given.as_long, c.if-stand.true)) (omega (arith, given.as_long))
+          (needs_texts (texts_of d) (length d - 1) (length d) (meaning_reads d 0).marks given.known.0.rests);
     }
 
 pub returns-then-stand-clause-marked : goal.returns-then-stand-clause-marked
-returns-then-stand-clause-marked c = λ front came d begins as_long. (
-  length d - 1,
-  omega (arith, as_long, c.if-stand.true),
-  omega (arith, as_long, c.if-stand.true),
-  (came.3 d (begins_left front c.args.chunk.now c.args.stand.now.told d begins)).rests,
-)
+returns-then-stand-clause-marked c = λ front came d begins as_long.
+    needs_wider (texts_of d) (length d - 1) (length d) _ _ (meaning_reads d 0).marks
+    (omega (arith, as_long, c.if-stand.true)) (omega (arith, as_long))
+    (needs_texts (texts_of d) (length d - 1) (length d) (meaning_reads d 0).marks
+    (came.3 d (begins_left front c.args.chunk.now c.args.stand.now.told d begins)).rests)
 
 pub returns-then-is_footer-clause-parts : goal.returns-then-is_footer-clause-parts
 returns-then-is_footer-clause-parts c = λ d given part.

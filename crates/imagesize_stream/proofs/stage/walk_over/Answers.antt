@@ -1,9 +1,13 @@
-use Rattle.std.proofs.Common.{◌+◌, ◌++◌, [], ◌∷◌, length, refl, ap, arith}
+use Rattle.std.proofs.Common.{◌+◌, ◌++◌, [], ◌∷◌, length, refl, sym, ap, ◌∙◌, arith}
 use Rattle.std.proofs.lemmas.List.{length-append}
-use Rattle.imagesize.specs.Meaning.{meaning_reads}
+use Rattle.imagesize.specs.Meaning.{kind_reads, meaning_reads}
+use Rattle.imagesize_pieces.proofs.Beginning.{begins_left}
+use Rattle.imagesize_pieces.proofs.Needing.{needs_as}
 use Rattle.imagesize_pieces.proofs.Reaching.{reach_more}
-use Rattle.imagesize_stream.proofs.Coming.{size_by, texts_back, texts_over, type_on}
+use Rattle.imagesize_stream.proofs.Coming.{size_by, texts_back, texts_over, texts_stated, type_on}
 use Rattle.imagesize_stream.proofs.Far.{awaits_far, reach_some, step_near}
+use Rattle.imagesize_stream.proofs.Plain.{awaits_read}
+use Rattle.imagesize_stream.specs.Probe.{texts_by}
 use Rattle.imagesize_stream.proofs.Steps.{awaited_advances}
 use Rattle.imagesize_stream.specs.Steps.{is_text, last_awaited, reach_of, step}
 use Rattle.imagesize_stream.proofs.stage.walk_over.Goals as goal
@@ -63,6 +67,10 @@ pub returns-in-None-clause-marked : goal.returns-in-None-clause-marked
 returns-in-None-clause-marked g c = λ kind front came d begins as_long.
     let over = texts_over kind _ _ _ _ _ _ _ _ _ c.requires.texts came.1 in
     let starts = c.in-None.ensures.starts refl in
-    let marked = c.in-None.ensures.marked refl _ (λ held awaits. awaits_far held c.read_on.new.stand.offset awaits)
-    0 (λ d. meaning_reads d 0) front over.1 d begins as_long in
-    (marked.0, marked.1, omega (arith, marked.2, starts, c.min-stand.ensures), marked.3)
+    let type = came.0 d (begins_left front c.args.chunk.now c.args.stand.now.told d begins) in
+    let texts = sym over.0 ∙ ap texts_by (sym type) ∙ sym (texts_stated (kind_reads d 0).answer) in
+    needs_as _ _ _ _ (meaning_reads d 0).marks texts (omega arith)
+    (omega (arith, starts, c.min-stand.ensures, c.reach.ensures))
+    (c.in-None.ensures.marked refl _ _ (λ held awaits.
+    (awaits_read held c.read_on.new.stand.offset awaits, awaits_far held c.read_on.new.stand.offset awaits))
+    0 (λ d. meaning_reads d 0) front over.1 d begins as_long)

@@ -1,5 +1,7 @@
 use Rattle.std.proofs.Common.{sym, ◌∙◌, arith}
 use Rattle.imagesize.specs.Meaning.{meaning_reads}
+use Rattle.imagesize.specs.Parted.{texts_of}
+use Rattle.imagesize_pieces.proofs.Needing.{ends_wider}
 use Rattle.imagesize_stream.proofs.Given.{few_none, marked_none, next_none}
 use Rattle.imagesize_stream.proofs.parts.PartsProbe.answer.Goals as goal
 
@@ -8,9 +10,19 @@ returns-in-None-clause-within c = λ d may out.
     let s = c.args.self.now.probe in
     let none = sym c.answer.ensures.is ∙ c.in-None.is in
     let next = next_none s.kind s.stage s.stand.passed s.stand.end s.stand.told none c.args.self.now.next in
-    let marked = marked_none s.kind s.stage s.stand.start s.stand.passed s.stand.end (meaning_reads d 0).marks none
+    let marked = marked_none s.kind (texts_of d) s.stage s.stand.start s.stand.passed s.stand.end (meaning_reads d 0).marks none
     may.marked out in
-    (marked.0, marked.1, omega (arith, marked.2, next.0), marked.3)
+    (marked.0.0, marked.0.1, omega (arith, marked.0.2, next.0), marked.0.3)
+
+pub returns-in-None-clause-reaches : goal.returns-in-None-clause-reaches
+returns-in-None-clause-reaches c = λ d may without out.
+    let s = c.args.self.now.probe in
+    let none = sym c.answer.ensures.is ∙ c.in-None.is in
+    let next = next_none s.kind s.stage s.stand.passed s.stand.end s.stand.told none c.args.self.now.next in
+    let marked = marked_none s.kind (texts_of d) s.stage s.stand.start s.stand.passed s.stand.end (meaning_reads d 0).marks
+    none may.marked out in
+    ends_wider s.stand.passed s.stand.end _ _ (meaning_reads d 0).marks (omega arith) (omega (arith, next.0))
+    (marked.1 without)
 
 pub returns-in-None-clause-short : goal.returns-in-None-clause-short
 returns-in-None-clause-short c =

@@ -1,5 +1,6 @@
 use Rattle.std.proofs.Common.{refl, arith}
 use Rattle.imagesize.specs.Meaning.{meaning_reads}
+use Rattle.imagesize.specs.Parted.{texts_of}
 use Rattle.imagesize_stream.proofs.Coming.{awaiting_all}
 use Rattle.imagesize_stream.proofs.Given.{depends_behind, known_behind, marked_behind, next_behind}
 use Rattle.imagesize_stream.proofs.probe.StreamProbe.skip.Goals as goal
@@ -22,7 +23,7 @@ returns c =
         };
         depends = depends_behind s.stage stand.start stand.offset stand.passed c.max-self.result stand.end d
             c.max-self.ensures s.holds may.depends may.marked;
-        marked = marked_behind s.stage stand.start stand.offset stand.passed c.max-self.result stand.end
+        marked = marked_behind (texts_of d) s.stage stand.start stand.offset stand.passed c.max-self.result stand.end
             (meaning_reads d 0).marks c.max-self.ensures s.holds may.marked;
       };
     }
