@@ -361,9 +361,9 @@ void imagesize_parts_supply(imagesize_parts *parts, uint64_t offset, const uint8
 /*
  * Reads type and size from the spans that were passed, or asks for another one. The memory of the probe does not change.
  *
- * If another span is needed, the status is IMAGESIZE_BYTES_WANTED, and only `wanted` is written. It has 1 to 1,024 bytes and lies
- * within the input. The result depends on a byte at its start or after it. The caller may fetch all of `wanted`, a block from its start on
- * or around it, or its first byte alone.
+ * If another span is needed, the status is IMAGESIZE_BYTES_WANTED, and only `wanted` is written. It lies within the input. It has 1 to
+ * 132 bytes, or up to 1,024 for the text formats (OpenEXR, Radiance and the portable bitmaps). The result depends on a byte at its start
+ * or after it. The caller may fetch all of `wanted`, a block from its start on or around it, or its first byte alone.
  *
  * Otherwise status, type, compression, width and height are those of imagesize_probe over the whole input, and `wanted` does not
  * change. Every later call returns and writes the same.

@@ -258,58 +258,58 @@ after_piece : (offset : ℕ) (on : List ℕ → Awaited) (said : Said (List ℕ)
 after_piece offset on (Decided front) = accepted_far offset (offset + 132) (jxl_size front)
 after_piece offset on (Next piece q) = tt
 
-pub step_far : (next : Awaited) (offset : ℕ) → Reach offset (offset + reach_of (is_text next)) (step next offset)
-step_far (Segment depth) offset = reach_bind offset (offset + 132) (jpeg_segment depth offset) _ (segment_far depth offset)
+pub step_reach : (next : Awaited) (offset : ℕ) → Reach offset (offset + reach_of (is_text next)) (step next offset)
+step_reach (Segment depth) offset = reach_bind offset (offset + 132) (jpeg_segment depth offset) _ (segment_far depth offset)
     (after_size offset (offset + 132) (λ marker. Segment (depth_behind depth marker)))
-step_far Chunk offset =
+step_reach Chunk offset =
     reach_bind offset (offset + 132) (ilbm_chunk offset) _ (chunk_far offset)
     (after_size offset (offset + 132) (λ _. Chunk))
-step_far (Attribute long) offset =
+step_reach (Attribute long) offset =
     reach_bind offset (offset + 1024) (exr_attribute (names_of long) offset) _
     (attribute_far (names_of long) offset (names_few long))
     (after_size offset (offset + 1024) (λ _. Attribute long))
-step_far Line offset = reach_bind offset (offset + 1024) (line_at 0x0A offset 256 (hdr_line offset)) _ (hdr_far offset)
+step_reach Line offset = reach_bind offset (offset + 1024) (line_at 0x0A offset 256 (hdr_line offset)) _ (hdr_far offset)
     (after_size offset (offset + 1024) (λ _. Line))
-step_far (Icon count seen largest) offset =
+step_reach (Icon count seen largest) offset =
     reach_bind offset (offset + 132) (icon_in count seen largest offset) _ (icon_far count seen largest offset)
     (after_size offset (offset + 132) (λ size. Icon count (seen + 1) (later_largest largest size)))
-step_far (Directory header) offset = (omega arith, omega (arith, (head_few header.version).2), λ count. tt)
-step_far (Entry l) offset =
+step_reach (Directory header) offset = (omega arith, omega (arith, (head_few header.version).2), λ count. tt)
+step_reach (Entry l) offset =
     reach_bind offset (offset + 132) (entry_behind l.header l.count l.seen l.width l.height offset) _
     (listed_far l.header l.count l.seen l.width l.height offset)
     (after_size offset (offset + 132) (λ entry. Entry (listed_with l entry)))
-step_far Meta offset =
+step_reach Meta offset =
     reach_bind offset (offset + 132) (searched_box (codes "meta") offset) _ (box_far (codes "meta") offset)
     (after_box offset Meta (meta_leads offset) (λ found. (omega arith, omega arith, λ version few. tt)))
-step_far Iprp offset =
+step_reach Iprp offset =
     reach_bind offset (offset + 132) (searched_box (codes "iprp") offset) _ (box_far (codes "iprp") offset)
     (after_box offset Iprp (iprp_leads offset) (λ found. tt))
-step_far Ipco offset =
+step_reach Ipco offset =
     reach_bind offset (offset + 132) (searched_box (codes "ipco") offset) _ (box_far (codes "ipco") offset)
     (after_box offset Ipco (ipco_leads offset) (λ found. tt))
-step_far (Property g) offset = property_far g offset
-step_far (Box kept) offset =
+step_reach (Property g) offset = property_far g offset
+step_reach (Box kept) offset =
     reach_bind offset (offset + 132) (jxl_box (kept_front kept) offset) _ (jxl_far (kept_front kept) offset)
     (after_piece offset (λ piece. Box (kept_of (kept_front kept ++ piece))))
-step_far Word offset = (
+step_reach Word offset = (
   omega arith,
   omega arith,
   λ bs most. reach_accept offset (offset + 1024) (word_text bs) (word_step offset)
       (λ w _. tt),
 )
-step_far Comment offset = (
+step_reach Comment offset = (
   omega arith,
   omega arith,
   λ bs most. reach_accept offset (offset + 1024) (line_length 0x0A 1024 bs) (λ taken. done (Next Word (offset + taken)))
       (λ taken _. tt),
 )
-step_far (Height width) offset = height_far offset width
+step_reach (Height width) offset = height_far offset width
 
 -- no record is read further than a text
-pub step_near : (next : Awaited) (offset : ℕ) → Reach offset (offset + 1024) (step next offset)
-step_near next offset =
+pub step_far : (next : Awaited) (offset : ℕ) → Reach offset (offset + 1024) (step next offset)
+step_far next offset =
     reach_more offset (offset + reach_of (is_text next)) (offset + 1024) (step next offset)
-    (omega (arith, reach_few (is_text next))) (step_far next offset) where
+    (omega (arith, reach_few (is_text next))) (step_reach next offset) where
       reach_few : (text : Bool) → reach_of text ≤ 1024
       reach_few true = omega arith
       reach_few false = omega arith
@@ -319,7 +319,7 @@ pub awaits_far : {texts : Bool} {next : Awaited} (held : List Awaited) (offset :
     → Reach offset (offset + reach_of texts) (awaited_said held offset)
 awaits_far {texts} {next} held offset awaits =
     subst (λ text. Reach offset (offset + reach_of text) (awaited_said held offset)) (ap is_text awaits.0 ∙ awaits.2)
-    (step_far (last_awaited held) offset)
+    (step_reach (last_awaited held) offset)
 
 pub reach_some : (text : Bool) → 0 < reach_of text
 reach_some true = omega arith

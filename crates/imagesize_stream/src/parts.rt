@@ -66,9 +66,9 @@ impl PartsProbe {
 
     /// Returns the type, if one was found, and the size or the error. If bytes are missing, requests a span.
     ///
-    /// The span has all bytes that the next read requests. It lies within the input and has at least one byte. It has at most
-    /// 132 bytes, or 1,024 if the type stores its size in texts (EXR, Radiance and Netpbm). If the caller always passes whole
-    /// spans, the result depends on a byte of each span.
+    /// The span has all bytes that the next read requests. It lies within the input. It has 1 to 132 bytes, or up to 1,024 for
+    /// the text formats (OpenEXR, Radiance and the portable bitmaps). If the caller always passes whole spans, the result
+    /// depends on a byte of each span.
     pub fn answer(&self) -> PartsAnswer<(Option<ImageType>, ImageResult<ImageSize>)>
         ensures is { result ≡ next_of self.now }
 
@@ -88,7 +88,7 @@ impl PartsProbe {
         // No result is a fault, a spent budget or a lack of memory.
         ensures unstopped { IfFound result (λ found. is_stopped found.1 ≡ false) }
 
-        // The span has 1,024 bytes at most. For a type without texts it has 132 at most.
+        // The span has 1,024 bytes at most. Unless the type is a text format, it has 132 at most.
         ensures short { IfWanted result (λ w. w.len ≤ 1024) }
         ensures shorter { (d : List ℕ) → MayBe self.now d → texts_of d ≡ false → IfWanted result (λ w. w.len ≤ 132) }
     {

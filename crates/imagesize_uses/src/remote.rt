@@ -64,7 +64,7 @@ const MOST: usize = 1024;
 
 /// Reads type and size of the image in an input, and fetches only what is needed for them.
 ///
-/// A fetch requests at most 132 bytes, or 1,024 if the type stores its size in texts (EXR, Radiance and Netpbm). All fetches
+/// A fetch requests at most 132 bytes, or 1,024 for the text formats (OpenEXR, Radiance and the portable bitmaps). All fetches
 /// together request at most as many bytes as the input has. The call allocates nothing.
 ///
 /// Errors: the first fetch that fails or gives too few bytes.

@@ -10,7 +10,7 @@ use Rattle.imagesize_source.specs.contracts.span.Span.{the_row as S}
 use Rattle.imagesize_source.specs.declared.span.Span.{Span}
 use Rattle.std.specs.Result.{result_ok}
 use Rattle.imagesize.specs.Meaning.{kind_of, meaning}
-use Rattle.imagesize.specs.Parted.{IsWithin}
+use Rattle.imagesize.specs.Parted.{IsWithin, texts_of}
 use Rattle.imagesize_pieces.specs.Stream.{AllBelow}
 use Rattle.imagesize_c.specs.Rounds.{TellsNext}
 use Rattle.imagesize_c.specs.Status.{is_answered, is_stop_status, is_wanted, status_of}
@@ -86,6 +86,7 @@ imagesize_parts_answer_spec 𝓤 𝓛 𝓜 𝓡 wired =
     → HasMarked span d)) ⊛
     raw (fact 𝓤 (is_wanted r ≡ true → IsWithin (total_of held) span)) ⊛
     raw (fact 𝓤 (is_wanted r ≡ true → span.len ≤ 1024)) ⊛
+    raw (fact 𝓤 ((d : List ℕ) → MayBe held d → is_wanted r ≡ true → texts_of d ≡ false → span.len ≤ 132)) ⊛
     raw (fact 𝓤 (is_wanted r ≡ true → (n ≡ number.now) × (m ≡ compression.now))) ⊛
     raw (fact 𝓤 (is_answered r ≡ false → (w ≡ width.now) × (h ≡ height.now))) ⊛
     raw (fact 𝓤 (is_wanted r ≡ false → span ≡ wanted.now)) ⊛
@@ -141,4 +142,4 @@ imagesize_parts_answer_spec 𝓤 𝓛 𝓜 𝓡 wired =
     -- [what lies there; the facts]
     move ! (1 ∷ []) $ split ! $ frame ! $ split ! $ frame ! $ split ! $ frame ! $ split ! $ frame ! $
     split ! $ frame ! $ split ! $ frame ! $ split ! $ frame ! $ split ! $ frame ! $ split ! $ frame ! $
-    split ! $ frame ! $ split ! $ frame ! $ frame ! $ done !))))))))
+    split ! $ frame ! $ split ! $ frame ! $ split ! $ frame ! $ frame ! $ done !))))))))

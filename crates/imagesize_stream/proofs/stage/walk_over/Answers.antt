@@ -5,7 +5,7 @@ use Rattle.imagesize_pieces.proofs.Beginning.{begins_left}
 use Rattle.imagesize_pieces.proofs.Needing.{needs_as}
 use Rattle.imagesize_pieces.proofs.Reaching.{reach_more}
 use Rattle.imagesize_stream.proofs.Coming.{size_by, texts_back, texts_over, texts_stated, type_on}
-use Rattle.imagesize_stream.proofs.Far.{awaits_far, reach_some, step_near}
+use Rattle.imagesize_stream.proofs.Far.{awaits_far, reach_some, step_far}
 use Rattle.imagesize_stream.proofs.Plain.{awaits_read}
 use Rattle.imagesize_stream.specs.Probe.{texts_by}
 use Rattle.imagesize_stream.proofs.Steps.{awaited_advances}
@@ -21,7 +21,7 @@ read_on-requires-clause-keeps g c = (c.args.next ∷ [], (refl, c.requires.stead
 pub read_on-requires-clause-reaches : goal.read_on-requires-clause-reaches
 read_on-requires-clause-reaches g c = λ held offset.
     reach_more offset (offset + 1024) (offset + (length c.args.buffer.now + 1)) (step (last_awaited held) offset)
-    (omega arith) (step_near (last_awaited held) offset)
+    (omega arith) (step_far (last_awaited held) offset)
 
 pub returns-in-Some-clause-goes_on : goal.returns-in-Some-clause-goes_on
 returns-in-Some-clause-goes_on g c = λ kind front came.
