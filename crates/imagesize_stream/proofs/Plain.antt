@@ -147,8 +147,9 @@ content_plain held offset head =
     (λ _. (tt, λ front. tt)))
     tt
     (λ _. (
+      tt,
       λ index. by_piece (AllRead false) (offset + (head.length + 4)) (min (box_room head - 4) (16 - length held))
-          (λ piece. done (partial_said held offset head index piece)) (λ _. tt) (λ _. (tt, λ piece. tt))
+          (λ piece. done (partial_said held offset head index piece)) (λ _. tt) (λ _. (tt, λ piece. tt)),
     ))
     tt
 

@@ -1,4 +1,4 @@
-use Rattle.std.proofs.Common.{Ok, sym, ◌∙◌, subst}
+use Rattle.std.proofs.Common.{Ok, sym, ◌∙◌, subst, false}
 use Rattle.imagesize_pieces.specs.Stream.{Says}
 use Rattle.imagesize_source.specs.Layout.{layout_reads}
 use Rattle.imagesize_stream.proofs.Hearing.{first_asked, first_missing, meaning_refused, size_of_said, type_is, type_refused, type_said}
