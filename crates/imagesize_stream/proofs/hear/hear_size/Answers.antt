@@ -18,7 +18,7 @@ returns-then-is_faulted-clause-hears c =
       λ _. size_asked c.args.bytes.now c.args.told c.args.image c.requires.image _ _
           (λ d begins as_long.
           c.read_front-found.ensures.marked faults d begins as_long (has_texts c.args.image) 132
-              (opening_read c.args.image) (opening_reaches c.args.image)),
+          (opening_read c.args.image) (opening_reaches c.args.image)),
     )
 
 pub returns-then-is_faulted-clause-few : goal.returns-then-is_faulted-clause-few
