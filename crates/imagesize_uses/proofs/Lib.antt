@@ -1,3 +1,4 @@
+pub mod Ends
 pub mod Joins
 pub mod Limits
 pub mod Rounds

@@ -10,7 +10,7 @@ use Rattle.imagesize.specs.Meaning.{meaning}
 use Rattle.imagesize.specs.Parted.{IfWanted, IsWithin, texts_of}
 use Rattle.imagesize.specs.declared.parts.PartsAnswer.{PartsAnswer}
 use Rattle.imagesize.specs.declared.parts.PartsAnswer.TheVariants.{Found, Wanted}
-use Rattle.imagesize_source.specs.Agreement.{is_covered}
+use Rattle.imagesize_source.specs.Agreement.{EndsBetween, is_covered}
 use Rattle.imagesize_source.specs.Counts.{offsets}
 use Rattle.imagesize_source.specs.Input.{part}
 use Rattle.imagesize_source.specs.declared.span.Span.{Span}
@@ -20,6 +20,7 @@ use Rattle.imagesize_stream.specs.Given.{HasPart}
 use Rattle.imagesize_stream.specs.Parts.{HasMarked, MayBe, next_of, total_of}
 use Rattle.imagesize_stream.specs.declared.parts.PartsProbe.{PartsProbe}
 use Rattle.imagesize_uses.specs.Remote.{most_at_once}
+use Rattle.imagesize_uses.proofs.Ends.{ends_after, ends_few, ends_less}
 
 -- and less often, where an offset is among them that has it no more
 count_less : (p q : ℕ → Bool) (a n at : ℕ) → a ≤ at → at < a + n → ((x : ℕ) → p x ≡ true → q x ≡ true) → p at ≡ false
@@ -136,6 +137,8 @@ pub record Fetching (d : List ℕ) (probe : PartsProbe) (before now first asked 
   pub most : asked + ahead d (next_start (length d) (next_of probe)) * most_at_once d
       ≤ first + offsets (length d) (meaning d 0).marks * most_at_once d
   pub once : asked ≤ first + next_start (length d) (next_of probe)
+  pub rounds : texts_of d ≡ false
+      → now + ends_after (meaning d 0).marks (next_start (length d) (next_of probe)) ≤ before + length (meaning d 0).marks
 
 opened_first : {T : Type 0} (n total : ℕ) (next : PartsAnswer T) → n ≡ total
     → IfWanted next (λ w. (w.start ≡ 0) × (min 18 total ≤ w.len)) → IfWanted next (IsOpened n)
@@ -157,6 +160,7 @@ begun d probe now asked long begins first =
       few = omega (arith, few);
       most = omega (arith, times);
       once = omega arith;
+      rounds = λ _. let some = ends_few (meaning d 0).marks start in omega (arith, some);
     }
 
 -- the next request begins behind this end
@@ -185,6 +189,8 @@ GoesBeyond old new offset bytes =
 module _ {d : List ℕ} {probe : PartsProbe} {before now first asked : ℕ} (w : Span)
     (f : Fetching d probe before now first asked) (is : Wanted w ≡ next_of probe)
     (within : MayBe probe d → (w.start < 12) ⊎ (18 ≤ w.start) → HasMarked w d) (fits : IsWithin (total_of probe) w)
+    (reaches : MayBe probe d → texts_of d ≡ false → (w.start < 12) ⊎ (18 ≤ w.start)
+    → EndsBetween w.start (w.start + w.len) (meaning d 0).marks)
     (short : w.len ≤ 1024) (shorter : MayBe probe d → texts_of d ≡ false → w.len ≤ 132) where
   inside : IsWithin (length d) w
   inside = subst (λ n. IsWithin n w) (sym f.may.given.as_long) fits
@@ -210,6 +216,7 @@ module _ {d : List ℕ} {probe : PartsProbe} {before now first asked : ℕ} (w :
       → (later + ahead d next ≤ before + offsets (length d) (meaning d 0).marks)
       × (further + ahead d next * most_at_once d ≤ first + offsets (length d) (meaning d 0).marks * most_at_once d)
       × (further ≤ first + next)
+      × (texts_of d ≡ false → later + ends_after (meaning d 0).marks next ≤ before + length (meaning d 0).marks)
   counted {next} {later} {further} behind counts asks =
       let less = less_ahead d w next marked inside.1 behind in
       let were = ap (ahead d) from in
@@ -219,6 +226,11 @@ module _ {d : List ℕ} {probe : PartsProbe} {before now first asked : ℕ} (w :
         omega (arith, f.few, counts, less, were),
         omega (arith, f.most, asks, few, times, had, suc_times (ahead d next) (most_at_once d)),
         omega (arith, f.once, asks, behind, from),
+        λ without.
+            let fewer = ends_less (meaning d 0).marks w.start (w.start + w.len) next (omega (arith, behind)) behind
+            (reaches f.may without (apart (length d) w inside opened)) in
+            let had = f.rounds without in
+            omega (arith, had, counts, fewer, ap (ends_after (meaning d 0).marks) from),
       )
 
   behind : (new : PartsProbe) (bytes : List ℕ) → GoesBeyond probe new w.start bytes → bytes ≡ part d w.start w.len
@@ -240,6 +252,7 @@ module _ {d : List ℕ} {probe : PartsProbe} {before now first asked : ℕ} (w :
         few = all.0;
         most = all.1;
         once = all.2;
+        rounds = all.3;
       }
 
   -- fewer offsets are left
@@ -261,6 +274,12 @@ module _ {d : List ℕ} {probe : PartsProbe} {before now first asked : ℕ} (w :
   most_by {further} asks =
       let all = counted {next = length d} {later = now} {further = further} inside.1 (omega arith) asks in
       omega (arith, all.1)
+
+  pub rounds_by : {later : ℕ} → later ≤ now + 1 → texts_of d ≡ false → later ≤ before + length (meaning d 0).marks
+  rounds_by {later} counts without =
+      let all = counted {next = length d} {later = later} {further = asked} inside.1 counts (omega arith) in
+      let few = all.3 without in
+      omega (arith, few)
 
   -- the marks have an offset
   pub some_place : 0 < offsets (length d) (meaning d 0).marks

@@ -1,6 +1,7 @@
 //! An input that is fetched, for example by range requests, until its type and size are known.
-ghost use Rattle.std.specs.Prelude.{◌≡◌, ℕ, ◌+◌, ◌*◌, ◌^◌, ◌<◌, ◌≤◌, List, Option, Some, length, take, IfErr, IfOk};
+ghost use Rattle.std.specs.Prelude.{◌≡◌, ℕ, ◌+◌, ◌*◌, ◌^◌, ◌<◌, ◌≤◌, false, List, Option, Some, length, take, IfErr, IfOk};
 ghost use Rattle.imagesize.specs.Meaning.{meaning};
+ghost use Rattle.imagesize.specs.Parted.{texts_of};
 ghost use Rattle.imagesize_source.specs.Counts.{offsets};
 ghost use Rattle.imagesize_source.specs.Input.{part};
 ghost use Rattle.imagesize_uses.specs.Remote.{Fetch, IsOf, Stops, most_at_once};
@@ -74,6 +75,10 @@ pub fn probe_remote<R: Remote>(remote: &mut R) -> Result<Probed, Interrupted>
 
     // There are at most as many fetches as the spans of the trace cover bytes, each byte counted once.
     ensures few { R.fetches remote.new ≤ R.fetches remote.old + offsets (length (R.input remote.old)) (meaning (R.input remote.old) 0).marks }
+
+    // Unless the format stores its size in texts, there are at most as many fetches as the trace has spans.
+    ensures rounds { texts_of (R.input remote.old) ≡ false
+        → R.fetches remote.new ≤ R.fetches remote.old + length (meaning (R.input remote.old) 0).marks }
 
     // All fetches together request at most as many bytes as the input has.
     ensures once { R.asked remote.new ≤ R.asked remote.old + length (R.input remote.old) }

@@ -1,7 +1,7 @@
 use Rattle.std.proofs.Common.{◌≡◌, length, take, drop, refl, ◌∙◌, ap, arith, rules}
 use Rattle.std.proofs.lemmas.List.{length-append, length-drop, length-take}
 use Rattle.imagesize_source.specs.Input.{part}
-use Rattle.imagesize_uses.proofs.Rounds.{begun, few_by, fetched, if_err, most_by, smaller, some_place}
+use Rattle.imagesize_uses.proofs.Rounds.{begun, few_by, fetched, if_err, most_by, rounds_by, smaller, some_place}
 use Rattle.imagesize_uses.proofs.remote.probe_remote.Goals as goal
 
 pub rounds-init : goal.rounds-init
@@ -24,7 +24,7 @@ rounds-preserved g c =
     let long : length (take w.len buffer) ≡ w.len =
     omega (arith, length-take w.len buffer, c.rounds.invariant.2, says.short) in (
       c.fetch_part.ensures.same ∙ c.rounds.invariant.0,
-      fetched w c.rounds.invariant.1 says.is (says.within d) says.fits says.short (says.shorter d) c.supply.new.self got
+      fetched w c.rounds.invariant.1 says.is (says.within d) says.fits (says.reaches d) says.short (says.shorter d) c.supply.new.self got
           c.supply.ensures.beyond
           (c.in_ok-fetch_part-in-Wanted.ensures.bytes ∙ ap (part (g.R.Remote.input c.rounds.remote) w.start) long
           ∙ ap (λ e. part e w.start w.len) c.rounds.invariant.0)
@@ -47,7 +47,7 @@ rounds-smaller g c =
     let w = c.in-Wanted.span in
     let long : length (take w.len c.rounds.buffer) ≡ w.len =
     omega (arith, length-take w.len c.rounds.buffer, c.rounds.invariant.2, says.short) in
-    smaller w c.rounds.invariant.1 says.is (says.within d) says.fits says.short (says.shorter d) c.supply.new.self c.fetch_part.new.buffer
+    smaller w c.rounds.invariant.1 says.is (says.within d) says.fits (says.reaches d) says.short (says.shorter d) c.supply.new.self c.fetch_part.new.buffer
     c.supply.ensures.beyond
     (c.in_ok-fetch_part-in-Wanted.ensures.bytes ∙ ap (part (g.R.Remote.input c.rounds.remote) w.start) long
     ∙ ap (λ e. part e w.start w.len) c.rounds.invariant.0)
@@ -61,17 +61,24 @@ pub returns-in_err-fetch_part-in-Wanted-clause-few : goal.returns-in_err-fetch_p
 returns-in_err-fetch_part-in-Wanted-clause-few g c =
     let says = c.in-Wanted.ensures in
     few_by c.in-Wanted.span c.rounds.invariant.1 says.is (says.within (g.R.Remote.input c.args.remote.now)) says.fits
-    says.short (says.shorter (g.R.Remote.input c.args.remote.now)) c.fetch_part.ensures.counts
+    (says.reaches (g.R.Remote.input c.args.remote.now)) says.short (says.shorter (g.R.Remote.input c.args.remote.now)) c.fetch_part.ensures.counts
 
 pub returns-in_err-fetch_part-in-Wanted-clause-most : goal.returns-in_err-fetch_part-in-Wanted-clause-most
 returns-in_err-fetch_part-in-Wanted-clause-most g c =
     let says = c.in-Wanted.ensures in
     most_by c.in-Wanted.span c.rounds.invariant.1 says.is (says.within (g.R.Remote.input c.args.remote.now)) says.fits
-    says.short (says.shorter (g.R.Remote.input c.args.remote.now)) (omega (arith, c.fetch_part.ensures.asks, length-take c.in-Wanted.span.len c.rounds.buffer))
+    (says.reaches (g.R.Remote.input c.args.remote.now)) says.short (says.shorter (g.R.Remote.input c.args.remote.now)) (omega (arith, c.fetch_part.ensures.asks, length-take c.in-Wanted.span.len c.rounds.buffer))
 
 pub returns-in_err-fetch_part-in-Wanted-clause-some : goal.returns-in_err-fetch_part-in-Wanted-clause-some
 returns-in_err-fetch_part-in-Wanted-clause-some g c =
     let d = g.R.Remote.input c.args.remote.now in
     let says = c.in-Wanted.ensures in
     if_err c.from_residual.result
-    (some_place c.in-Wanted.span c.rounds.invariant.1 says.is (says.within d) says.fits says.short (says.shorter d))
+    (some_place c.in-Wanted.span c.rounds.invariant.1 says.is (says.within d) says.fits (says.reaches d) says.short (says.shorter d))
+
+pub returns-in_err-fetch_part-in-Wanted-clause-rounds : goal.returns-in_err-fetch_part-in-Wanted-clause-rounds
+returns-in_err-fetch_part-in-Wanted-clause-rounds g c = λ without.
+    let d = g.R.Remote.input c.args.remote.now in
+    let says = c.in-Wanted.ensures in
+    rounds_by c.in-Wanted.span c.rounds.invariant.1 says.is (says.within d) says.fits (says.reaches d) says.short
+    (says.shorter d) c.fetch_part.ensures.counts without
