@@ -1,0 +1,13 @@
+pub mod OldChains
+pub mod Begun
+pub mod Walked
+pub mod Boxes
+pub mod Texts
+pub mod AlikeOld
+pub mod AlikeNew
+pub mod Alike
+pub mod AlikeChains
+pub mod AlikeWalked
+pub mod AlikeTexts
+pub mod AlikeBoxes
+pub mod Before

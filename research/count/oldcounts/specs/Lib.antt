@@ -1,0 +1,13 @@
+pub mod Old
+pub mod OldReading
+pub mod OldLayout
+pub mod OldChain
+pub mod OldTexts
+pub mod OldJpeg
+pub mod OldIlbm
+pub mod OldIco
+pub mod OldTiff
+pub mod OldHeif
+pub mod OldJxl
+pub mod OldExr
+pub mod Before
