@@ -16,40 +16,36 @@ import re
 import sys
 from enum import IntEnum
 
-# The text of each status. The texts were written by hand, not taken from the library's output.
-TEXTS = {
+# The test of the texts of the errors without values. They were written by hand, not taken from the library's output.
+REFUSALS = pathlib.Path(__file__).resolve().parent.parent / "crates" / "imagesize_readers" / "src" / "refusals.rt"
+
+# The texts of the other statuses, written by hand too.
+OTHERS = {
     "ANSWERED": "No refusal",
     "NOT_SUPPORTED": "Could not decode image",
     "CORRUPTED_IMAGE": "Hit end of file before finding size",
     "FAULT": "A call of the reader failed",
-    "END_OF_INPUT": "failed to fill whole buffer",
-    "NOT_ENOUGH_DATA": "Not enough data",
     "BUDGET_SPENT": "Read budget is spent",
     "OUT_OF_MEMORY": "Out of memory",
     "NO_DELIMITER": "Delimiter not found within the bytes that a text may have",
-    "NOT_UTF8": "invalid utf-8",
     "INVALID_HEIF_BOX_SIZE": "Invalid heif box size",
     "INVALID_JXL_BOX_SIZE": "Invalid size for a JXL box",
-    "INVALID_JXL_SIGNATURE": "Invalid JXL signature",
-    "INVALID_TIFF_HEADER": "Invalid TIFF header",
-    "BIG_TIFF_OFFSET_SIZE": "Unrecognised BigTiff offset size",
-    "INVALID_BIG_TIFF_HEADER": "Invalid BigTiff header",
-    "INVALID_IFD_OFFSET": "Invalid IFD offset",
-    "IFD_TYPE_FOR_STANDARD_TIFF": "Invalid IFD type for standard TIFF",
-    "INVALID_IFD_TYPE": "Invalid IFD type",
-    "INVALID_IFD_VALUE_LENGTH": "Invalid IFD value length",
-    "NO_DIMENSIONS_IN_IFD": "No dimensions in IFD tags",
-    "INVALID_VP8_TAG": "Invalid VP8 Tag",
-    "DATA_WINDOW_NOT_FOUND": "Data window not found",
-    "INVALID_HDR_IDENTIFIER": "Invalid HDR format identifier",
-    "INVALID_HDR_DIMENSIONS_LINE": "Invalid HDR dimensions line",
-    "HDR_DIMENSIONS_NOT_FOUND": "HDR dimensions not found",
-    "PNM_DIMENSIONS_NOT_FOUND": "PNM dimensions not found",
     "BUFFER_TOO_SMALL": "The buffer is too small",
     "UNKNOWN_TYPE": "No type has these numbers",
     "UNKNOWN_STATUS": "No status has this number",
     "BYTES_WANTED": "More bytes are wanted",
 }
+
+
+def texts_of_errors():
+    """The text of each error without values, by the header's name of it."""
+    found = re.findall(r'Reason::(\w+),\s*"([^"]*)"', REFUSALS.read_text())
+    assert found, f"{REFUSALS}: no texts"
+    return {re.sub(r"(?<!^)(?=[A-Z])", "_", name).upper(): text for name, text in found if name != "Memory"}
+
+
+# The text of each status.
+TEXTS = OTHERS | texts_of_errors()
 
 # An image type and a compression of each family.
 FAMILIES = {
