@@ -15,7 +15,7 @@ use imagesize_boxes::formats::jxl;
 use imagesize_boxes::formats::jxl::front::Front;
 use imagesize_source::readings::read_bytes;
 use imagesize_source::source::Source;
-use imagesize_source::walk::{Found, Records};
+use imagesize_source::walk::{Found, Records, Step};
 use imagesize_source::{Endian, Halt};
 use imagesize_texts::formats::exr::Attributes;
 use imagesize_texts::formats::hdr::{LINE_ROOM, Lines};
@@ -112,7 +112,7 @@ impl Awaited {
         &mut self,
         source: &mut S,
         offset: u64,
-    ) -> Result<Found<(), ImageSize>, Halt>
+    ) -> Step<(), ImageSize>
         requires steady { IsSteady self.old offset }
         requires texts { is_text self.old ≡ TEXTS }
         ensures nears { IfOk (leading_to self.new result) (λ found. Nears (S.state source.old) (S.state source.new) offset (said_at offset found)) }
@@ -128,11 +128,7 @@ impl Awaited {
     }
 
     // Reads a record that is a text.
-    fn advance_text<S: Source>(
-        &mut self,
-        source: &mut S,
-        offset: u64,
-    ) -> Result<Found<(), ImageSize>, Halt>
+    fn advance_text<S: Source>(&mut self, source: &mut S, offset: u64) -> Step<(), ImageSize>
         requires { is_text self.old ≡ true }
         ensures nears { IfOk (leading_to self.new result) (λ found. Nears (S.state source.old) (S.state source.new) offset (said_at offset found)) }
         ensures steady { IfOk (leading_to self.new result) (λ found. StaysSteady true (said_at offset found)) }
@@ -150,11 +146,7 @@ impl Awaited {
     }
 
     // Reads a record that is no text.
-    fn advance_other<S: Source>(
-        &mut self,
-        source: &mut S,
-        offset: u64,
-    ) -> Result<Found<(), ImageSize>, Halt>
+    fn advance_other<S: Source>(&mut self, source: &mut S, offset: u64) -> Step<(), ImageSize>
         requires steady { IsSteady self.old offset }
         requires other { is_text self.old ≡ false }
         ensures nears { IfOk (leading_to self.new result) (λ found. Nears (S.state source.old) (S.state source.new) offset (said_at offset found)) }
@@ -201,7 +193,7 @@ fn read_same<R: Records<Held = (), Answer = ImageSize>, S: Source>(
     records: &mut R,
     source: &mut S,
     offset: u64,
-) -> Result<Found<(), ImageSize>, Halt>
+) -> Step<(), ImageSize>
     requires keeps { R.keeps records.old [] offset }
     ensures nears { (next : Awaited) → IfOk (leading_to next result) (λ found. Nears (S.state source.old) (S.state source.new) offset (said_at offset found)) }
     ensures runs { (next : Awaited) → Follows (S.state source.old) (S.state source.new) (map_answer (said_at offset) (leading_to next result))
@@ -215,7 +207,7 @@ fn read_segment<S: Source>(
     source: &mut S,
     offset: u64,
     depth: u64,
-) -> Result<Found<(), ImageSize>, Halt>
+) -> Step<(), ImageSize>
     requires { depth < offset }
     ensures nears { IfOk (leading_to next.new result) (λ found. Nears (S.state source.old) (S.state source.new) offset (said_at offset found)) }
     ensures steady { IfOk (leading_to next.new result) (λ found. StaysSteady false (said_at offset found)) }
@@ -234,11 +226,7 @@ fn read_segment<S: Source>(
     }
 }
 
-fn read_attribute<S: Source>(
-    source: &mut S,
-    offset: u64,
-    long: bool,
-) -> Result<Found<(), ImageSize>, Halt>
+fn read_attribute<S: Source>(source: &mut S, offset: u64, long: bool) -> Step<(), ImageSize>
     ensures nears { IfOk (leading_to (awaited.Attribute long) result) (λ found. Nears (S.state source.old) (S.state source.new) offset (said_at offset found)) }
     ensures steady { IfOk (leading_to (awaited.Attribute long) result) (λ found. StaysSteady true (said_at offset found)) }
     ensures runs { Follows (S.state source.old) (S.state source.new) (map_answer (said_at offset) (leading_to (awaited.Attribute long) result)) (step (awaited.Attribute long) offset) }
@@ -256,7 +244,7 @@ fn names_of(long: bool) -> usize
     if long { 256 } else { 32 }
 }
 
-fn read_line<S: Source>(source: &mut S, offset: u64) -> Result<Found<(), ImageSize>, Halt>
+fn read_line<S: Source>(source: &mut S, offset: u64) -> Step<(), ImageSize>
     ensures nears { IfOk (leading_to awaited.Line result) (λ found. Nears (S.state source.old) (S.state source.new) offset (said_at offset found)) }
     ensures steady { IfOk (leading_to awaited.Line result) (λ found. StaysSteady true (said_at offset found)) }
     ensures runs { Follows (S.state source.old) (S.state source.new) (map_answer (said_at offset) (leading_to awaited.Line result)) (step awaited.Line offset) }
@@ -268,11 +256,7 @@ fn read_line<S: Source>(source: &mut S, offset: u64) -> Result<Found<(), ImageSi
 }
 
 #[tactic(auto, using(imagesize_source::proofs::Runs::steps))]
-fn read_word<S: Source>(
-    next: &mut Awaited,
-    source: &mut S,
-    offset: u64,
-) -> Result<Found<(), ImageSize>, Halt>
+fn read_word<S: Source>(next: &mut Awaited, source: &mut S, offset: u64) -> Step<(), ImageSize>
     ensures nears { IfOk (leading_to next.new result) (λ found. Nears (S.state source.old) (S.state source.new) offset (said_at offset found)) }
     ensures steady { IfOk (leading_to next.new result) (λ found. StaysSteady true (said_at offset found)) }
     ensures stays { IfErr result (λ _. next.new ≡ next.old) }
@@ -309,11 +293,7 @@ fn behind_word(word: &Word<'_>) -> Awaited
 }
 
 #[tactic(auto, using(imagesize_source::proofs::Runs::steps))]
-fn read_comment<S: Source>(
-    next: &mut Awaited,
-    source: &mut S,
-    offset: u64,
-) -> Result<Found<(), ImageSize>, Halt>
+fn read_comment<S: Source>(next: &mut Awaited, source: &mut S, offset: u64) -> Step<(), ImageSize>
     ensures nears { IfOk (leading_to next.new result) (λ found. Nears (S.state source.old) (S.state source.new) offset (said_at offset found)) }
     ensures steady { IfOk (leading_to next.new result) (λ found. StaysSteady true (said_at offset found)) }
     ensures stays { IfErr result (λ _. next.new ≡ next.old) }
@@ -329,11 +309,7 @@ fn read_comment<S: Source>(
 }
 
 #[tactic(auto, using(imagesize_source::proofs::Runs::steps))]
-fn read_height<S: Source>(
-    source: &mut S,
-    offset: u64,
-    width: Option<usize>,
-) -> Result<Found<(), ImageSize>, Halt>
+fn read_height<S: Source>(source: &mut S, offset: u64, width: Option<usize>) -> Step<(), ImageSize>
     ensures nears { IfOk (leading_to (awaited.Height width) result) (λ found. Nears (S.state source.old) (S.state source.new) offset (said_at offset found)) }
     ensures steady { IfOk (leading_to (awaited.Height width) result) (λ found. StaysSteady true (said_at offset found)) }
     ensures runs { Follows (S.state source.old) (S.state source.new) (map_answer (said_at offset) (leading_to (awaited.Height width) result)) (step (awaited.Height width) offset) }
@@ -352,7 +328,7 @@ fn read_icon<S: Source>(
     count: u16,
     seen: u16,
     largest: Option<ImageSize>,
-) -> Result<Found<(), ImageSize>, Halt>
+) -> Step<(), ImageSize>
     requires seen { seen ≤ count }
     requires small { IsSmall largest }
     ensures nears { IfOk (leading_to next.new result) (λ found. Nears (S.state source.old) (S.state source.new) offset (said_at offset found)) }
@@ -384,7 +360,7 @@ fn read_directory<S: Source>(
     source: &mut S,
     offset: u64,
     header: Header,
-) -> Result<Found<(), ImageSize>, Halt>
+) -> Step<(), ImageSize>
     ensures nears { IfOk (leading_to next.new result) (λ found. Nears (S.state source.old) (S.state source.new) offset (said_at offset found)) }
     ensures steady { IfOk (leading_to next.new result) (λ found. StaysSteady false (said_at offset found)) }
     ensures stays { IfErr result (λ _. next.new ≡ next.old) }
@@ -432,7 +408,7 @@ fn read_entry<S: Source>(
     source: &mut S,
     offset: u64,
     listed: Listed,
-) -> Result<Found<(), ImageSize>, Halt>
+) -> Step<(), ImageSize>
     requires { listed.seen ≤ listed.count }
     ensures nears { IfOk (leading_to next.new result) (λ found. Nears (S.state source.old) (S.state source.new) offset (said_at offset found)) }
     ensures steady { IfOk (leading_to next.new result) (λ found. StaysSteady false (said_at offset found)) }
@@ -451,7 +427,7 @@ fn read_entry_of<S: Source, const HEAD: usize, const VALUE: usize>(
     source: &mut S,
     offset: u64,
     listed: Listed,
-) -> Result<Found<(), ImageSize>, Halt>
+) -> Step<(), ImageSize>
     requires few { listed.seen ≤ listed.count }
     requires head { HEAD ≡ head_bytes listed.header.version }
     requires value { VALUE ≡ value_bytes listed.header.version }
@@ -490,11 +466,7 @@ fn read_entry_of<S: Source, const HEAD: usize, const VALUE: usize>(
 }
 
 #[tactic(auto, using(imagesize_source::proofs::Runs::steps, imagesize_source::proofs::Runs::missed_before, imagesize_source::proofs::Layouts::binding))]
-fn read_meta<S: Source>(
-    next: &mut Awaited,
-    source: &mut S,
-    offset: u64,
-) -> Result<Found<(), ImageSize>, Halt>
+fn read_meta<S: Source>(next: &mut Awaited, source: &mut S, offset: u64) -> Step<(), ImageSize>
     ensures nears { IfOk (leading_to next.new result) (λ found. Nears (S.state source.old) (S.state source.new) offset (said_at offset found)) }
     ensures steady { IfOk (leading_to next.new result) (λ found. StaysSteady false (said_at offset found)) }
     ensures stays { IfErr result (λ _. next.new ≡ next.old) }
@@ -517,11 +489,7 @@ fn read_meta<S: Source>(
 }
 
 #[tactic(auto, using(imagesize_source::proofs::Runs::steps, imagesize_source::proofs::Runs::missed_before, imagesize_source::proofs::Layouts::binding))]
-fn read_iprp<S: Source>(
-    next: &mut Awaited,
-    source: &mut S,
-    offset: u64,
-) -> Result<Found<(), ImageSize>, Halt>
+fn read_iprp<S: Source>(next: &mut Awaited, source: &mut S, offset: u64) -> Step<(), ImageSize>
     ensures nears { IfOk (leading_to next.new result) (λ found. Nears (S.state source.old) (S.state source.new) offset (said_at offset found)) }
     ensures steady { IfOk (leading_to next.new result) (λ found. StaysSteady false (said_at offset found)) }
     ensures stays { IfErr result (λ _. next.new ≡ next.old) }
@@ -543,11 +511,7 @@ fn read_iprp<S: Source>(
 }
 
 #[tactic(auto, using(imagesize_source::proofs::Runs::steps, imagesize_source::proofs::Runs::missed_before, imagesize_source::proofs::Layouts::binding))]
-fn read_ipco<S: Source>(
-    next: &mut Awaited,
-    source: &mut S,
-    offset: u64,
-) -> Result<Found<(), ImageSize>, Halt>
+fn read_ipco<S: Source>(next: &mut Awaited, source: &mut S, offset: u64) -> Step<(), ImageSize>
     ensures nears { IfOk (leading_to next.new result) (λ found. Nears (S.state source.old) (S.state source.new) offset (said_at offset found)) }
     ensures steady { IfOk (leading_to next.new result) (λ found. StaysSteady false (said_at offset found)) }
     ensures stays { IfErr result (λ _. next.new ≡ next.old) }
@@ -579,7 +543,7 @@ fn read_listed<S: Source>(
     source: &mut S,
     offset: u64,
     gathered: Gathered,
-) -> Result<Found<(), ImageSize>, Halt>
+) -> Step<(), ImageSize>
     ensures nears { IfOk (leading_to next.new result) (λ found. Nears (S.state source.old) (S.state source.new) offset (said_at offset found)) }
     ensures steady { IfOk (leading_to next.new result) (λ found. StaysSteady false (said_at offset found)) }
     ensures stays { IfErr result (λ _. next.new ≡ next.old) }
@@ -611,7 +575,7 @@ fn read_jxl_box<S: Source>(
     source: &mut S,
     offset: u64,
     kept: Kept,
-) -> Result<Found<(), ImageSize>, Halt>
+) -> Step<(), ImageSize>
     requires { kept.len ≤ 16 }
     ensures nears { IfOk (leading_to next.new result) (λ found. Nears (S.state source.old) (S.state source.new) offset (said_at offset found)) }
     ensures steady { IfOk (leading_to next.new result) (λ found. StaysSteady false (said_at offset found)) }
