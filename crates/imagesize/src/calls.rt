@@ -3,6 +3,7 @@ ghost use Rattle.std.specs.Prelude.{◌≡◌, ℕ, ◌+◌, ◌<◌, ◌≤◌,
 ghost use Rattle.imagesize_io.specs.Answers.{Answers, CountsWithin, IsLast, Leaves};
 ghost use Rattle.imagesize_source.specs.Limits.{allowance};
 ghost use Rattle.imagesize_source.specs.Errors.{end_of_input, is_fault, is_memory, budget_spent, is_stopped};
+ghost use Rattle.imagesize_source.specs.Reading.{is_stopped as has_stopped};
 ghost use Rattle.imagesize_source.specs.State.{Runs};
 ghost use Rattle.imagesize_io.specs.ReaderState.{Opens};
 ghost use Rattle.imagesize_io.specs.Telling.{Telling};
@@ -98,9 +99,16 @@ pub fn blob_size(data: &[u8]) -> ImageResult<ImageSize>
     // Over a slice no read fails, there is no budget, and nothing is allocated.
     ensures unstopped { is_stopped result ≡ false }
 {
-    let mut source = SliceSource { bytes: data };
-    let (_, found) = probe(&mut source, 0);
-    with_error(found, &source)
+    let source = SliceSource { bytes: data };
+    with_error(probe_slice(data), &source)
+}
+
+// The size of the image in a slice.
+fn probe_slice(data: &[u8]) -> Result<ImageSize, Halt>
+    ensures value { result ≡ (meaning_reads «data».now 0).answer }
+    ensures unstopped { has_stopped result ≡ false }
+{
+    probe(&mut SliceSource { bytes: data }, 0).1
 }
 
 // The type at an offset of a source, and the size by that type.
@@ -132,8 +140,8 @@ pub(crate) fn probe<S: Source>(
 /// assert_eq!(reader_type(Cursor::new(bytes)).ok(), Some(ImageType::Gif));
 /// ```
 pub fn reader_type<R: Told>(mut reader: R) -> ImageResult<ImageType>
-    ensures answers { Answers (R.account reader).telling kind_of result }
-    ensures short { Ends (R.account reader).telling result }
+    ensures answers { Answers (R.telling reader) kind_of result }
+    ensures short { Ends (R.telling reader) result }
     ensures memory { IfErr result (λ e. is_memory e ≡ false) }
 
     // A spent budget is the reported length plus 64.
@@ -157,8 +165,8 @@ pub fn reader_type<R: Told>(mut reader: R) -> ImageResult<ImageType>
 /// assert_eq!(reader_size(Cursor::new(bytes))?.width, 640);
 /// ```
 pub fn reader_size<R: Told>(mut reader: R) -> ImageResult<ImageSize>
-    ensures answers { Answers (R.account reader).telling meaning result }
-    ensures short { Ends (R.account reader).telling result }
+    ensures answers { Answers (R.telling reader) meaning result }
+    ensures short { Ends (R.telling reader) result }
     ensures memory { IfErr result (λ e. is_memory e ≡ false) }
 
     // A spent budget is the reported length plus 64.
@@ -180,17 +188,17 @@ pub fn reader_size<R: Told>(mut reader: R) -> ImageResult<ImageSize>
 /// assert_eq!(probed.taken, 12);
 /// ```
 pub fn reader_probe<R: Told>(reader: &mut R) -> Probed
-    ensures probes { Probes (R.account reader.old).telling result }
+    ensures probes { Probes (R.telling reader.old) result }
 
     // For every reader, even one without a model that reports a wrong length:
     ensures typed { IfOk result.answer (λ _. IsSome result.kind) }
-    ensures counts { (R.account reader.new).count ≡ option_map (λ c. c + result.taken) (R.account reader.old).count }
+    ensures counts { R.count reader.new ≡ option_map (λ c. c + result.taken) (R.count reader.old) }
     ensures spent { IfErr result.answer (λ e. IfSome (budget_spent e) (λ budget. (budget ≡ result.taken) × (allowance ≤ budget))) }
     ensures memory { IfErr result.answer (λ e. is_memory e ≡ false) }
 
     // A `Fault` carries the error of the last call that failed, and the reader may be used again.
-    ensures fault { IfErr result.answer (λ e. is_fault e ≡ true → IsLast (R.account reader.new).failure e) }
-    ensures leaves { Leaves (R.account reader.old).telling (R.account reader.new).telling }
+    ensures fault { IfErr result.answer (λ e. is_fault e ≡ true → IsLast (R.failure reader.new) e) }
+    ensures leaves { Leaves (R.telling reader.old) (R.telling reader.new) }
 {
     match open(reader, Origin::Offset) {
         Ok(opened) => probe_opened(reader, opened),
@@ -217,16 +225,16 @@ impl ImageType {
     /// assert_eq!(ImageType::Gif.reader_size(&mut Cursor::new(bytes))?.height, 480);
     /// ```
     pub fn reader_size<R: Told>(&self, reader: &mut R) -> ImageResult<ImageSize>
-        ensures answers { Answers (R.account reader.old).telling (λ d offset. size_of self.now d) result }
-        ensures counts { CountsWithin (R.account reader.old).telling (R.account reader.old).count (R.account reader.new).count (λ d offset. size_of self.now d) }
+        ensures answers { Answers (R.telling reader.old) (λ d offset. size_of self.now d) result }
+        ensures counts { CountsWithin (R.telling reader.old) (R.count reader.old) (R.count reader.new) (λ d offset. size_of self.now d) }
 
         // For every reader, even one without a model that reports a wrong length:
-        ensures spent { IfErr result (λ e. IfSome (budget_spent e) (λ budget. SpentAll (R.account reader.old).count (R.account reader.new).count budget)) }
+        ensures spent { IfErr result (λ e. IfSome (budget_spent e) (λ budget. SpentAll (R.count reader.old) (R.count reader.new) budget)) }
         ensures memory { IfErr result (λ e. is_memory e ≡ false) }
 
         // A `Fault` carries the error of the last call that failed, and the reader may be used again.
-        ensures fault { IfErr result (λ e. is_fault e ≡ true → IsLast (R.account reader.new).failure e) }
-        ensures leaves { Leaves (R.account reader.old).telling (R.account reader.new).telling }
+        ensures fault { IfErr result (λ e. is_fault e ≡ true → IsLast (R.failure reader.new) e) }
+        ensures leaves { Leaves (R.telling reader.old) (R.telling reader.new) }
     {
         let opened = open(reader, Origin::Start)?;
         size_opened(*self, reader, opened)
@@ -236,9 +244,9 @@ impl ImageType {
 // The type of the image in the bytes of a reader that was opened.
 #[inline(always)]
 fn type_opened<R: Told>(reader: &mut R, opened: Opened) -> ImageResult<ImageType>
-    ensures answers { (telling : Option Telling) → Opens telling (R.account reader.old).telling (Ok opened)
+    ensures answers { (telling : Option Telling) → Opens telling (R.telling reader.old) (Ok opened)
         → Answers telling kind_of result }
-    ensures short { (telling : Option Telling) → Opens telling (R.account reader.old).telling (Ok opened) → Ends telling result }
+    ensures short { (telling : Option Telling) → Opens telling (R.telling reader.old) (Ok opened) → Ends telling result }
     ensures memory { IfErr result (λ e. is_memory e ≡ false) }
     ensures spent { IfErr result (λ e. IfSome (budget_spent e) (λ budget. allowance ≤ budget)) }
 {
@@ -249,15 +257,15 @@ fn type_opened<R: Told>(reader: &mut R, opened: Opened) -> ImageResult<ImageType
 
 // The size of the image in the bytes of a reader that was opened, read as this type.
 fn size_opened<R: Told>(kind: ImageType, reader: &mut R, opened: Opened) -> ImageResult<ImageSize>
-    ensures answers { (telling : Option Telling) → Opens telling (R.account reader.old).telling (Ok opened)
+    ensures answers { (telling : Option Telling) → Opens telling (R.telling reader.old) (Ok opened)
         → Answers telling (λ d offset. size_of kind d) result }
-    ensures counts { (telling : Option Telling) → Opens telling (R.account reader.old).telling (Ok opened)
-        → CountsWithin telling (R.account reader.old).count (R.account reader.new).count (λ d offset. size_of kind d) }
-    ensures spent { IfErr result (λ e. IfSome (budget_spent e) (λ budget. SpentAll (R.account reader.old).count (R.account reader.new).count budget)) }
+    ensures counts { (telling : Option Telling) → Opens telling (R.telling reader.old) (Ok opened)
+        → CountsWithin telling (R.count reader.old) (R.count reader.new) (λ d offset. size_of kind d) }
+    ensures spent { IfErr result (λ e. IfSome (budget_spent e) (λ budget. SpentAll (R.count reader.old) (R.count reader.new) budget)) }
     ensures memory { IfErr result (λ e. is_memory e ≡ false) }
-    ensures fault { IfErr result (λ e. is_fault e ≡ true → IsLast (R.account reader.new).failure e) }
-    ensures leaves { (telling : Option Telling) → Opens telling (R.account reader.old).telling (Ok opened)
-        → Leaves telling (R.account reader.new).telling }
+    ensures fault { IfErr result (λ e. is_fault e ≡ true → IsLast (R.failure reader.new) e) }
+    ensures leaves { (telling : Option Telling) → Opens telling (R.telling reader.old) (Ok opened)
+        → Leaves telling (R.telling reader.new) }
 {
     let mut source = ReaderSource::new(reader, opened.told);
     let found = size(&mut source, kind);
@@ -267,14 +275,14 @@ fn size_opened<R: Told>(kind: ImageType, reader: &mut R, opened: Opened) -> Imag
 // Type and size of the image in the bytes of a reader that was opened.
 #[inline(always)]
 fn probe_opened<R: Told>(reader: &mut R, opened: Opened) -> Probed
-    ensures probes { (telling : Option Telling) → Opens telling (R.account reader.old).telling (Ok opened) → Probes telling result }
+    ensures probes { (telling : Option Telling) → Opens telling (R.telling reader.old) (Ok opened) → Probes telling result }
     ensures typed { IfOk result.answer (λ _. IsSome result.kind) }
-    ensures counts { (R.account reader.new).count ≡ option_map (λ c. c + result.taken) (R.account reader.old).count }
+    ensures counts { R.count reader.new ≡ option_map (λ c. c + result.taken) (R.count reader.old) }
     ensures spent { IfErr result.answer (λ e. IfSome (budget_spent e) (λ budget. (budget ≡ result.taken) × (allowance ≤ budget))) }
     ensures memory { IfErr result.answer (λ e. is_memory e ≡ false) }
-    ensures fault { IfErr result.answer (λ e. is_fault e ≡ true → IsLast (R.account reader.new).failure e) }
-    ensures leaves { (telling : Option Telling) → Opens telling (R.account reader.old).telling (Ok opened)
-        → Leaves telling (R.account reader.new).telling }
+    ensures fault { IfErr result.answer (λ e. is_fault e ≡ true → IsLast (R.failure reader.new) e) }
+    ensures leaves { (telling : Option Telling) → Opens telling (R.telling reader.old) (Ok opened)
+        → Leaves telling (R.telling reader.new) }
 {
     let mut source = ReaderSource::new(reader, opened.told);
     let (kind, found) = probe(&mut source, opened.offset);

@@ -9,7 +9,8 @@ pub sides_laws : {first most : ℕ} {order : Endian} {k at_width at_height : ℕ
 sides_laws few = record {
   fits = omega (arith, few);
   few = (omega (arith, few), λ width. (omega (arith, few), λ height. tt));
-  plain = λ width height. tt;
+  plain =
+      λ width height. tt;
 }
 
 pub height_first_laws : {first most : ℕ} {order : Endian} {k at_height at_width : ℕ} → first + (k + k) ≤ most
@@ -17,5 +18,6 @@ pub height_first_laws : {first most : ℕ} {order : Endian} {k at_height at_widt
 height_first_laws few = record {
   fits = omega (arith, few);
   few = (omega (arith, few), λ height. (omega (arith, few), λ width. tt));
-  plain = λ height width. tt;
+  plain =
+      λ height width. tt;
 }

@@ -5,9 +5,11 @@ use Rattle.std.proofs.Math.Seq.{take-append-add, take-add, drop-append-add, drop
 use Rattle.std.specs.List.{slice_range}
 use borrow.Rule.Slice.PartMut.{put_mid}
 use Rattle.imagesize_source.specs.declared.halt.Halt.{Halt}
+use Rattle.imagesize_io.specs.declared.progress.Progress.{Progress}
 use Rattle.imagesize_source.specs.Input.{part}
-use Rattle.imagesize_io.proofs.Standings.{meters_both}
-use Rattle.imagesize_io.specs.Standing.{Metered, Meters, Standing, advance_standing, stand, GivesSome, GivesAll, ReadsOnce, Fills}
+use Rattle.imagesize_io.proofs.Standings.{keeps_both}
+use Rattle.imagesize_io.specs.Standing.{Standing, advance_standing, behind, stand, GivesSome, GivesAll, ReadsOnce, Fills, KeepsCounts, drift}
+use Rattle.imagesize_io.specs.Telling.{Account}
 
 -- so many bytes of the buffer are the next of the bytes that the reader stood at first
 abbrev pub Filled : Option Standing → Option Standing → ℕ → List ℕ → Type 0
@@ -17,12 +19,16 @@ Filled (Some s) now filled buffer =
     (filled ≤ length s.bytes - s.offset)
 
 -- the reads so far
-pub record Filling (old new : Metered) (filled : ℕ) (buffer : List ℕ) : Type 0 where
+pub record Filling (first now : Option Standing) (a b : Account) (old new : Progress) (filled : ℕ)
+    (buffer : List ℕ) : Type 0 where
   pub fits : filled ≤ length buffer
-  pub reached : Filled (stand old) (stand new) filled buffer
-  pub taken : new.progress.taken ≡ old.progress.taken + filled
-  pub offset : new.progress.offset ≡ min (old.progress.offset + filled) (2 ^ 64 - 1)
-  pub meters : Meters old new None
+  pub reached : Filled first now filled buffer
+  pub taken : new.taken ≡ old.taken + filled
+  pub offset : new.offset ≡ min (old.offset + filled) (2 ^ 64 - 1)
+  pub counts : drift b.count new.taken ≡ drift a.count old.taken
+  pub behind : behind b.telling new ≡ behind a.telling old
+  pub calm : new.fault ≡ old.fault
+  pub keeps : KeepsCounts old new
 
 none_reached : (first : Option Standing) (buffer : List ℕ) → Filled first first 0 buffer
 unfolding part
@@ -30,19 +36,17 @@ none_reached None buffer = tt
 none_reached (Some s) buffer = (ap (λ p. Some (record s { offset = p })) (omega arith), refl, omega arith)
 
 -- before the first read
-pub filled_none : (m : Metered) (buffer : List ℕ) → m.progress.offset < 2 ^ 64 → Filling m m 0 buffer
-filled_none m buffer small = record {
+pub filled_none : (first : Option Standing) (a : Account) (p : Progress) (buffer : List ℕ) → p.offset < 2 ^ 64
+    → Filling first first a a p p 0 buffer
+filled_none first a p buffer small = record {
   fits = omega arith;
-  reached = none_reached (stand m) buffer;
+  reached = none_reached first buffer;
   taken = omega arith;
   offset = omega (arith, small);
-  meters = record {
-    since = refl;
-    behind = refl;
-    calm = refl;
-    keeps = record { told = refl; budget = refl; taken = omega arith; retries = omega arith; limit = λ few. few };
-    stops = tt;
-  };
+  counts = refl;
+  behind = refl;
+  calm = refl;
+  keeps = record { told = refl; budget = refl; taken = omega arith; retries = omega arith; limit = λ few. few };
 }
 
 -- the bytes of one more read stand behind those before
@@ -92,15 +96,20 @@ reached_more (Some s) now next buffer more filled n fits enough reached gave =
     )
 
 -- one more read
-pub filling_more : {old new newer : Metered} {filled : ℕ} {buffer more : List ℕ} {n : ℕ}
-    → Filling old new filled buffer → ReadsOnce new newer more (Ok n) → length more ≡ length buffer - filled
-    → Filling old newer (filled + n) (put_mid filled (length buffer - filled) buffer more)
-filling_more {filled = filled} {buffer = buffer} {more = more} {n = n} h read long = record {
+pub filling_more : {first : Option Standing} {a b c : Account} {old new newer : Progress} {filled : ℕ}
+    {buffer more : List ℕ} {n : ℕ}
+    → Filling first (stand b.telling new) a b old new filled buffer → ReadsOnce new newer b c more (Ok n)
+    → length more ≡ length buffer - filled
+    → Filling first (stand c.telling newer) a c old newer (filled + n) (put_mid filled (length buffer - filled) buffer more)
+filling_more {first} {filled = filled} {buffer = buffer} {more = more} {n = n} h read long = record {
   fits = rw (length-put buffer more filled h.fits long) (omega (arith, h.fits, long, read.bound));
-  reached = reached_more _ _ _ buffer more filled n h.fits read.bound h.reached read.gives;
+  reached = reached_more first _ _ buffer more filled n h.fits read.bound h.reached read.stand;
   taken = omega (arith, h.taken, read.taken);
   offset = omega (arith, h.offset, read.offset);
-  meters = meters_both h.meters read.meters;
+  counts = read.since ∙ h.counts;
+  behind = read.behind ∙ h.behind;
+  calm = read.calm ∙ h.calm;
+  keeps = keeps_both h.keeps read.keeps;
 }
 
 ends : (first now next : Option Standing) (buffer more : List ℕ) (filled : ℕ) → filled ≤ length buffer
@@ -120,14 +129,13 @@ ends (Some s) now next buffer more filled fits reached left long gave =
     )
 
 -- a read that gave nothing into a buffer of some bytes: the bytes end there
-filling_ends : {old new : Metered} (next : Option Standing) {filled : ℕ} {buffer : List ℕ} (more : List ℕ) (n : ℕ)
-    → Filling old new filled buffer → filled < length buffer → length more ≡ length buffer - filled
-    → GivesSome (stand new) next more (Ok n) → n ≡ 0
-    → GivesAll (stand old) next (put_mid filled (length buffer - filled) buffer more) (Ok filled)
-filling_ends {old} {new} next {filled} {buffer} more n h left long gave none =
-    let nothing : GivesSome (stand new) next more (Ok 0) =
-    subst (λ k. GivesSome (stand new) next more (Ok k)) none gave in
-    ends (stand old) (stand new) next buffer more filled h.fits h.reached left long nothing
+filling_ends : {first now : Option Standing} (next : Option Standing) {a b : Account} {old new : Progress} {filled : ℕ}
+    {buffer : List ℕ} (more : List ℕ) (n : ℕ) → Filling first now a b old new filled buffer → filled < length buffer
+    → length more ≡ length buffer - filled → GivesSome now next more (Ok n) → n ≡ 0
+    → GivesAll first next (put_mid filled (length buffer - filled) buffer more) (Ok filled)
+filling_ends {first} {now} next {filled = filled} {buffer = buffer} more n h left long gave none =
+    let nothing : GivesSome now next more (Ok 0) = subst (λ k. GivesSome now next more (Ok k)) none gave in
+    ends first now next buffer more filled h.fits h.reached left long nothing
 
 within_none : (first now : Option Standing) (buffer more : List ℕ) (filled before taken : ℕ) → filled ≤ length buffer
     → length more ≡ length buffer - filled → Filled first now filled buffer → taken ≡ before + filled
@@ -138,26 +146,32 @@ within_none (Some s) now buffer more filled before taken fits long reached took 
     rw (length-put buffer more filled fits long) (omega (arith, took, fits, reached.2))
 
 -- and it took no more than there was
-ends_within : {old new : Metered} {filled : ℕ} {buffer : List ℕ} (more : List ℕ) (n taken : ℕ)
-    → Filling old new filled buffer → length more ≡ length buffer - filled → taken ≡ new.progress.taken + n → n ≡ 0
-    → IfSome (stand old) (λ s. taken ≤ old.progress.taken
-    + min (length (put_mid filled (length buffer - filled) buffer more)) (length s.bytes - s.offset))
-ends_within {old} {new} {filled} {buffer} more n taken h long took none =
-    within_none (stand old) (stand new) buffer more filled old.progress.taken taken h.fits long h.reached
-    (omega (arith, took, none, h.taken))
+ends_within : {first now : Option Standing} {a b : Account} {old new : Progress} {filled : ℕ} {buffer : List ℕ}
+    (more : List ℕ) (n taken : ℕ) → Filling first now a b old new filled buffer → length more ≡ length buffer - filled
+    → taken ≡ new.taken + n → n ≡ 0
+    → IfSome first (λ s. taken ≤ old.taken + min (length (put_mid filled (length buffer - filled) buffer more))
+    (length s.bytes - s.offset))
+ends_within {first} {now} {old = old} {filled = filled} {buffer = buffer} more n taken h long took none =
+    within_none first now buffer more filled old.taken taken h.fits long h.reached (omega (arith, took, none, h.taken))
 
 -- a read that gave nothing into a buffer of some bytes ends the filling
-pub filling_done : {old new newer : Metered} {filled : ℕ} {buffer more : List ℕ} {n : ℕ}
-    → Filling old new filled buffer → ReadsOnce new newer more (Ok n) → n ≡ 0 → filled < length buffer
+pub filling_done : {first : Option Standing} {a b c : Account} {old new newer : Progress} {filled : ℕ}
+    {buffer more : List ℕ} {n : ℕ}
+    → Filling first (stand b.telling new) a b old new filled buffer → ReadsOnce new newer b c more (Ok n) → n ≡ 0
+    → filled < length buffer
     → length more ≡ length buffer - filled
-    → Fills old newer (put_mid filled (length buffer - filled) buffer more) (Ok filled)
+    → Fills old newer first (stand c.telling newer) a c (put_mid filled (length buffer - filled) buffer more) (Ok filled)
 filling_done {filled = filled} {buffer = buffer} {more = more} {n = n} h read none left long = record {
   bound = rw (length-put buffer more filled h.fits long) h.fits;
-  gives = filling_ends _ more n h left long read.gives none;
+  stand = filling_ends _ more n h left long read.stand none;
   taken = omega (arith, read.taken, none, h.taken);
   offset = omega (arith, h.offset, read.offset, none);
   within = ends_within more n _ h long read.taken none;
-  meters = meters_both h.meters read.meters;
+  since = read.since ∙ h.counts;
+  behind = read.behind ∙ h.behind;
+  calm = read.calm ∙ h.calm;
+  keeps = keeps_both h.keeps read.keeps;
+  stops = tt;
 }
 
 -- Of a failure only that the reader can fail is known.
@@ -168,18 +182,25 @@ stopped_stand (Some s) now next last buffer more all filled e reached gave =
     subst (λ w. GivesSome w next more (Err e)) reached.0 gave
 
 -- a read that was stopped ends the filling too
-pub filling_stopped : {old new newer : Metered} {filled : ℕ} {buffer more : List ℕ} {e : Halt}
-    → Filling old new filled buffer → ReadsOnce new newer more (Err e) → length more ≡ length buffer - filled
-    → Fills old newer (put_mid filled (length buffer - filled) buffer more) (Err e)
-filling_stopped {old} {newer = newer} {filled = filled} {buffer = buffer} {more = more} {e = e} h read long = record {
-  bound = tt;
-  gives = stopped_stand (stand old) _ _ _ buffer more _ filled e h.reached read.gives;
-  taken = tt;
-  offset = tt;
-  within = within_none (stand old) _ buffer more filled old.progress.taken newer.progress.taken h.fits long h.reached
-      (omega (arith, read.taken, h.taken));
-  meters = meters_both h.meters read.meters;
-}
+pub filling_stopped : {first : Option Standing} {a b c : Account} {old new newer : Progress} {filled : ℕ}
+    {buffer more : List ℕ} {e : Halt}
+    → Filling first (stand b.telling new) a b old new filled buffer → ReadsOnce new newer b c more (Err e)
+    → length more ≡ length buffer - filled
+    → Fills old newer first (stand c.telling newer) a c (put_mid filled (length buffer - filled) buffer more) (Err e)
+filling_stopped {first} {old = old} {newer = newer} {filled = filled} {buffer = buffer} {more = more} {e = e} h read long =
+    record {
+      bound = tt;
+      stand = stopped_stand first _ _ _ buffer more _ filled e h.reached read.stand;
+      taken = tt;
+      offset = tt;
+      within = within_none first _ buffer more filled old.taken newer.taken h.fits long h.reached
+          (omega (arith, read.taken, h.taken));
+      since = read.since ∙ h.counts;
+      behind = read.behind ∙ h.behind;
+      calm = tt;
+      keeps = keeps_both h.keeps read.keeps;
+      stops = read.stops;
+    }
 
 -- a read, and all that follows it
 pub gave_rest : (first now last : Option Standing) (buffer more : List ℕ) (n k : ℕ) → GivesSome first now buffer (Ok n)

@@ -13,11 +13,12 @@ use Rattle.imagesize_source.proofs.Agreement.{whole_span}
 use Rattle.imagesize_source.proofs.Counts.{total-span_of}
 use Rattle.imagesize_source.proofs.Runs.{part_is}
 use Rattle.imagesize_io.specs.declared.progress.Progress.{Progress}
+use Rattle.imagesize_io.specs.declared.reader.Ledger.{Ledger}
 use Rattle.imagesize_io.specs.declared.told.Stop.{Stop}
 use Rattle.imagesize_io.specs.Held.{IsWhole}
-use Rattle.imagesize_io.specs.ReaderState.{kept_window, metered_of, ReadsAt, Windowed}
-use Rattle.imagesize_io.specs.Standing.{Metered, Standing, advance_standing, steady, in_step, stand_of, stand, drift, GivesSome, GivesFrom, ReadsFrom}
-use Rattle.imagesize_io.specs.Telling.{Telling, ReadTells, count_after}
+use Rattle.imagesize_io.specs.ReaderState.{ReadsAt, kept_window}
+use Rattle.imagesize_io.specs.Standing.{Standing, advance_standing, steady, in_step, stand_of, stand, drift, GivesSome, GivesFrom, KeepsCounts, ReadsFrom}
+use Rattle.imagesize_io.specs.Telling.{Account, Telling, ReadTells, count_after}
 use Rattle.imagesize_io.proofs.Standings.{behind_given}
 use Rattle.std.specs.declared.io.Error.{Error}
 use Rattle.std.specs.Prelude.{is_none}
@@ -147,59 +148,55 @@ not_kept w bytes offset far =
     rw off refl
 
 -- A text that the reader held is a reading of as many bytes from where it stands.
-pub held_reads : {old new : Windowed} {offset n : ℕ} (buffer : List ℕ) (t : Text)
-    → ReadTells old.account.telling new.account.telling buffer (Ok n)
-    → new.account.count ≡ count_after {E = Stop} old.account.count (Ok n) → n ≤ length buffer → IsWhole t (take n buffer)
-    → old.ledger.progress.offset ≡ offset → offset ≤ old.ledger.progress.told
-    → length old.ledger.window.items < offset → length old.ledger.window.items ≤ 32
-    → new.ledger.window ≡ old.ledger.window → new.ledger.progress.told ≡ old.ledger.progress.told
-    → new.ledger.progress.budget ≡ old.ledger.progress.budget
-    → new.ledger.progress.retries ≡ old.ledger.progress.retries
-    → new.ledger.progress.fault ≡ old.ledger.progress.fault
-    → new.ledger.progress.taken ≡ old.ledger.progress.taken + n
-    → new.ledger.progress.offset ≡ min (offset + n) (2 ^ 64 - 1)
-    → new.ledger.progress.taken ≤ old.ledger.progress.budget → ReadsAt old new offset (take n buffer) (Ok n)
-held_reads {old} {new} {offset} {n} buffer t gave counts fits whole at near far small same told budget retries calm
+pub held_reads : {old new : Ledger} {a b : Account} {offset n : ℕ} (buffer : List ℕ) (t : Text)
+    → ReadTells a.telling b.telling buffer (Ok n) → b.count ≡ count_after {E = Stop} a.count (Ok n) → n ≤ length buffer
+    → IsWhole t (take n buffer)
+    → old.progress.offset ≡ offset → offset ≤ old.progress.told → length old.window.items < offset
+    → length old.window.items ≤ 32
+    → new.window ≡ old.window → new.progress.told ≡ old.progress.told → new.progress.budget ≡ old.progress.budget
+    → new.progress.retries ≡ old.progress.retries → new.progress.fault ≡ old.progress.fault
+    → new.progress.taken ≡ old.progress.taken + n
+    → new.progress.offset ≡ min (offset + n) (2 ^ 64 - 1) → new.progress.taken ≤ old.progress.budget
+    → ReadsAt old new a b offset (take n buffer) (Ok n)
+held_reads {old} {new} {a} {b} {offset} {n} buffer t gave counts fits whole at near far small same told budget retries calm
     taken now limit =
-    let m : Metered = metered_of old in
-    let k : Metered = metered_of new in
-    let p : Progress = m.progress in
-    let q : Progress = k.progress in
+    let p : Progress = old.progress in
+    let q : Progress = new.progress in
     let long : length (take n buffer) ≡ n = omega (arith, length-take n buffer, fits) in
     let some = whole_some t (take n buffer) whole in
     let many : 0 < n = omega (arith, some, long) in
-    let first = stands_gives p.told p.offset q.offset n p.fault (steady m.account.telling p.retries)
-    (steady k.account.telling p.retries) buffer
-    (steady_gives m.account.telling k.account.telling p.retries buffer n gave) many fits
+    let since = since_given a.count b.count p.taken q.taken n counts taken in
+    let keeps : KeepsCounts p q = record {
+      told = told;
+      budget = budget;
+      taken = omega (arith, taken);
+      retries = omega (arith, retries);
+      limit = λ few. omega (arith, few, retries);
+    } in
+    let first = stands_gives p.told p.offset q.offset n p.fault (steady a.telling p.retries)
+    (steady b.telling p.retries) buffer
+    (steady_gives a.telling b.telling p.retries buffer n gave) many fits
     (now ∙ ap (λ k. min (k + n) (2 ^ 64 - 1)) (sym at)) in
-    let gives : GivesFrom (stand m) (stand k) offset q.offset (take n buffer) (Ok n) =
+    let gives : GivesFrom (stand a.telling p) (stand b.telling q) offset q.offset (take n buffer) (Ok n) =
     rw (retries, told, calm)
-    (subst (λ o. GivesFrom (stand m) (stand_of p.told q.offset p.fault (steady k.account.telling p.retries)) o
+    (subst (λ k. GivesFrom (stand a.telling p) (stand_of p.told q.offset p.fault (steady b.telling p.retries)) k
     q.offset (take n buffer) (Ok n)) at first) in
-    let read : ReadsFrom m k offset (take n buffer) (Ok n) = record {
+    let read : ReadsFrom p q (stand a.telling p) (stand b.telling q) a b offset (take n buffer) (Ok n) = record {
       bound = omega (arith, long);
-      gives = gives;
+      stand = gives;
       stands = λ told. now;
       taken = taken;
-      within = within_given (stand m) (stand k) offset q.offset n p.taken q.taken (take n buffer) gives taken;
+      within = within_given (stand a.telling p) (stand b.telling q) offset q.offset n p.taken q.taken
+          (take n buffer) gives taken;
       pays = λ beyond some. absurd (omega (arith, near, beyond));
-      meters = record {
-        since = since_given m.account.count k.account.count p.taken q.taken n counts taken;
-        behind = rw (retries, told, calm)
-            (behind_given p.told p.retries p.fault m.account.telling k.account.telling buffer n gave);
-        calm = calm;
-        keeps = record {
-          told = told;
-          budget = budget;
-          taken = omega (arith, taken);
-          retries = omega (arith, retries);
-          limit = λ few. omega (arith, few, retries);
-        };
-        stops = tt;
-      };
+      since = since;
+      behind = rw (retries, told, calm) (behind_given p.told p.retries p.fault a.telling b.telling buffer n gave);
+      calm = calm;
+      keeps = keeps;
+      stops = tt;
     } in
     reads_past small (omega (arith, far)) (omega (arith, long, many)) read
-    (ap (λ w. w.items) same ∙ not_kept old.ledger.window.items (take n (take n buffer)) offset far) limit
+    (ap (λ w. w.items) same ∙ not_kept old.window.items (take n (take n buffer)) offset far) limit
 
 -- and what byte by byte would be read
 pub held_text : {a c : State} (t : Text) (offset n : ℕ) (buffer : List ℕ) → IsWhole t (take n buffer) → n ≤ length buffer

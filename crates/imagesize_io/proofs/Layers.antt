@@ -2,8 +2,10 @@
 use Rattle.std.proofs.Common.{◌≡◌, ◌≢◌, ℕ, ◌+◌, ◌-◌, ◌<◌, ◌≤◌, min, List, ◌++◌, length, take, drop, Result, Ok, Err, refl, sym, subst, arith}
 use Rattle.imagesize_source.specs.declared.halt.Halt.{Halt}
 use Rattle.imagesize_source.specs.Input.{part}
-use Rattle.imagesize_io.specs.ReaderState.{kept_window, metered_of, ReadsAt, Windowed}
-use Rattle.imagesize_io.specs.Standing.{ReadsFrom}
+use Rattle.imagesize_io.specs.declared.reader.Ledger.{Ledger}
+use Rattle.imagesize_io.specs.ReaderState.{ReadsAt, kept_window}
+use Rattle.imagesize_io.specs.Standing.{ReadsFrom, stand}
+use Rattle.imagesize_io.specs.Telling.{Account}
 use Rattle.imagesize_io.proofs.Standings.{calm_at}
 use Rattle.imagesize_io.proofs.Filling.{length-put}
 use Rattle.imagesize_io.proofs.Windows.{behind_window, behind_stopped, ended_by, none_in, put_whole, same_frame, told_by}
@@ -44,14 +46,15 @@ none_copied {window} {more} {offset} small behind some = record {
   long = omega arith;
 }
 
-module _ {old new : Windowed} where
+module _ {old new : Ledger} {a b : Account} where
   -- What follows the window came from the reader.
   pub reads_behind : {offset copied n : ℕ} {buffer before more : List ℕ}
-      → Copies old.ledger.window.items buffer before more offset copied
-      → ReadsFrom (metered_of old) (metered_of new) (offset + copied) more (Ok n)
-      → new.ledger.window.items ≡ kept_window old.ledger.window.items (offset + copied) (take n more)
-      → new.ledger.progress.taken ≤ old.ledger.progress.budget
-      → ReadsAt old new offset (put_mid copied (length buffer - copied) buffer more) (Ok (copied + n))
+      → Copies old.window.items buffer before more offset copied
+      → ReadsFrom old.progress new.progress (stand a.telling old.progress) (stand b.telling new.progress) a b
+      (offset + copied) more
+      (Ok n) → new.window.items ≡ kept_window old.window.items (offset + copied) (take n more)
+      → new.progress.taken ≤ old.progress.budget
+      → ReadsAt old new a b offset (put_mid copied (length buffer - copied) buffer more) (Ok (copied + n))
   reads_behind {offset} {copied} {n} {buffer} {before} {more} copy read window limit = record {
     bound = omega (
       arith,
@@ -65,19 +68,19 @@ module _ {old new : Windowed} where
       read.pays (omega (arith, far)) (omega (arith, some, far, copy.count, copy.small)),
       limit,
     );
-    keeps = read.meters.keeps;
+    keeps = read.keeps;
     runs = λ home. behind_window (record {
-      told = told_by home (metered_of old);
-      told_after = told_by home (metered_of new);
+      told = told_by a home old.progress;
+      told_after = told_by b home new.progress;
       counts = refl;
-      frame = same_frame home (metered_of old) (metered_of new) read.meters;
-      failed = calm_at (metered_of old) (metered_of new) read.meters.calm;
+      frame = same_frame a b home old.progress new.progress read.keeps read.since read.behind;
+      failed = calm_at a b old.progress new.progress read.calm;
       small = copy.small;
       count = copy.count;
       front = copy.front;
       kept = copy.kept;
       short = copy.short;
-      gives = read.gives;
+      gives = read.stand;
       enough = read.bound;
       long = copy.long;
       took = read.taken;
@@ -88,51 +91,56 @@ module _ {old new : Windowed} where
 
   -- The reader was stopped.
   pub stops_behind : {offset copied : ℕ} {buffer before more : List ℕ} {halt : Halt} {r : Result ℕ Halt}
-      → Copies old.ledger.window.items buffer before more offset copied
-      → ReadsFrom (metered_of old) (metered_of new) (offset + copied) more (Err halt)
-      → new.ledger.window.items ≡ old.ledger.window.items → r ≡ Err halt
-      → ReadsAt old new offset (put_mid copied (length buffer - copied) buffer more) r
+      → Copies old.window.items buffer before more offset copied
+      → ReadsFrom old.progress new.progress (stand a.telling old.progress) (stand b.telling new.progress) a b
+      (offset + copied) more
+      (Err halt) → new.window.items ≡ old.window.items → r ≡ Err halt
+      → ReadsAt old new a b offset (put_mid copied (length buffer - copied) buffer more)
+      r
   stops_behind {offset} {copied} {buffer} {before} {more} {halt} {r} copy read same is =
-      subst (λ q. ReadsAt old new offset (put_mid copied (length buffer - copied) buffer more) q) (sym is) (record {
+      subst (λ q. ReadsAt old new a b offset (put_mid copied (length buffer - copied) buffer more)
+      q) (sym is) (record {
         bound = tt;
         pays = tt;
-        keeps = read.meters.keeps;
+        keeps = read.keeps;
         runs = λ home. behind_stopped (λ n. take n (put_mid copied (length buffer - copied) buffer more)) (Err halt)
             (record {
-              told = told_by home (metered_of old);
-              told_after = told_by home (metered_of new);
-              frame = same_frame home (metered_of old) (metered_of new) read.meters;
+              told = told_by a home old.progress;
+              told_after = told_by b home new.progress;
+              frame = same_frame a b home old.progress new.progress read.keeps read.since read.behind;
               window = same;
               count = copy.count;
               kept = copy.kept;
               long = copy.long;
-              gives = read.gives;
-              paid = read.meters.keeps.taken;
+              gives = read.stand;
+              paid = read.keeps.taken;
               within = read.within;
-              stops = read.meters.stops.stops;
-              ended = ended_by home (metered_of new) _ _ _ read.meters.stops;
+              stops = read.stops.stops;
+              ended = ended_by b home new.progress _ _ _ read.stops;
             }) refl;
       })
 
   -- a reading behind the window
-  pub reads_past : {offset n : ℕ} {more : List ℕ} → length old.ledger.window.items ≤ 32
-      → length old.ledger.window.items ≤ offset → 0 < length more
-      → ReadsFrom (metered_of old) (metered_of new) offset more (Ok n)
-      → new.ledger.window.items ≡ kept_window old.ledger.window.items offset (take n more)
-      → new.ledger.progress.taken ≤ old.ledger.progress.budget → ReadsAt old new offset more (Ok n)
+  pub reads_past : {offset n : ℕ} {more : List ℕ} → length old.window.items ≤ 32 → length old.window.items ≤ offset
+      → 0 < length more
+      → ReadsFrom old.progress new.progress (stand a.telling old.progress) (stand b.telling new.progress) a b offset more
+      (Ok n)
+      → new.window.items ≡ kept_window old.window.items offset (take n more) → new.progress.taken ≤ old.progress.budget
+      → ReadsAt old new a b offset more (Ok n)
   reads_past {offset} {n} {more} small behind some read window limit =
       let here : offset + 0 ≡ offset = omega arith in
       let sum : 0 + n ≡ n = omega arith in
-      subst (λ m. ReadsAt old new offset more (Ok m)) sum
-      (subst (λ l. ReadsAt old new offset l (Ok (0 + n))) (put_whole more)
+      subst (λ m. ReadsAt old new a b offset more (Ok m)) sum
+      (subst (λ l. ReadsAt old new a b offset l (Ok (0 + n))) (put_whole more)
       (reads_behind (none_copied small behind some) (rw here read) (rw here window) limit))
 
   -- and one that was stopped
-  pub stops_past : {offset : ℕ} {more : List ℕ} {halt : Halt} {r : Result ℕ Halt} → length old.ledger.window.items ≤ 32
-      → length old.ledger.window.items ≤ offset → 0 < length more
-      → ReadsFrom (metered_of old) (metered_of new) offset more (Err halt)
-      → new.ledger.window.items ≡ old.ledger.window.items → r ≡ Err halt → ReadsAt old new offset more r
+  pub stops_past : {offset : ℕ} {more : List ℕ} {halt : Halt} {r : Result ℕ Halt} → length old.window.items ≤ 32
+      → length old.window.items ≤ offset → 0 < length more
+      → ReadsFrom old.progress new.progress (stand a.telling old.progress) (stand b.telling new.progress) a b offset more
+      (Err halt) → new.window.items ≡ old.window.items → r ≡ Err halt
+      → ReadsAt old new a b offset more r
   stops_past {offset} {more} {halt} {r} small behind some read same is =
       let here : offset + 0 ≡ offset = omega arith in
-      subst (λ l. ReadsAt old new offset l r) (put_whole more)
+      subst (λ l. ReadsAt old new a b offset l r) (put_whole more)
       (stops_behind (none_copied small behind some) (rw here read) same is)

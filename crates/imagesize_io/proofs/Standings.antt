@@ -1,5 +1,5 @@
 -- How a reader stands after its calls.
-use Rattle.std.proofs.Common.{◌≡◌, ℕ, ◌+◌, ◌-◌, ◌^◌, ◌<◌, ◌≤◌, min, Bool, true, false, cond, List, length, Option, Some, None, Ok, Err, IfNone, IfSome, refl, sym, ap, ◌∙◌, subst, arith}
+use Rattle.std.proofs.Common.{◌≡◌, ℕ, ◌+◌, ◌-◌, ◌^◌, ◌<◌, ◌≤◌, min, Bool, true, false, cond, List, length, Option, Some, None, Ok, Err, IfSome, refl, sym, ap, ◌∙◌, subst, arith}
 use Rattle.std.proofs.lemmas.Bool.Decides.{nat_tests}
 use Rattle.imagesize_source.specs.declared.halt.Halt.{Halt}
 use Rattle.imagesize_io.specs.declared.progress.Progress.{Progress}
@@ -7,7 +7,7 @@ use Rattle.imagesize_source.specs.Input.{part}
 use Rattle.std.specs.declared.io.Error.{Error}
 use Rattle.imagesize_io.specs.StopOf.{failures_of}
 use Rattle.imagesize_io.specs.Telling.{Account, ReadTells, Telling}
-use Rattle.imagesize_io.specs.Standing.{Metered, Meters, Standing, behind_of, steady, in_step, stand_of, stand, GivesAll, GoesTo, GivesFrom, KeepsCounts, Tries}
+use Rattle.imagesize_io.specs.Standing.{Standing, behind_of, steady, in_step, stand_of, stand, GivesAll, GoesTo, GivesFrom, KeepsCounts, Tries}
 
 kept_if : (b : Bool) (s t : Standing) → cond b (Some s) None ≡ Some t → (b ≡ true) × (s ≡ t)
 kept_if true s t e = (refl, cc)
@@ -21,17 +21,18 @@ in_step_of told offset fault (Some t) s e =
     let k = kept_if (in_step told offset fault t) t s e in ap (in_step told offset fault) (sym k.1) ∙ k.0
 
 -- the numbers agree with a reader that stands somewhere
-pub in_step_at : (m : Metered) (s : Standing) → stand m ≡ Some s
-    → in_step m.progress.told m.progress.offset m.progress.fault s ≡ true
-in_step_at m s e =
-    let p = m.progress in in_step_of p.told p.offset p.fault (steady m.account.telling p.retries) s e
+pub in_step_at : (telling : Option Telling) (p : Progress) (s : Standing) → stand telling p ≡ Some s
+    → in_step p.told p.offset p.fault s
+    ≡ true
+in_step_at telling p s e = in_step_of p.told p.offset p.fault (steady telling p.retries) s e
 
-pub offset_at : (m : Metered) (s : Standing) → stand m ≡ Some s → m.progress.offset ≡ s.offset
-offset_at m s e = let k = in_step_at m s e in grind (arith, nat_tests)
+pub offset_at : (telling : Option Telling) (p : Progress) (s : Standing) → stand telling p ≡ Some s → p.offset ≡ s.offset
+offset_at telling p s e = let k = in_step_at telling p s e in grind (arith, nat_tests)
 
-pub told_at : (m : Metered) (s : Standing) → stand m ≡ Some s
-    → (m.progress.told ≡ length s.bytes) × (length s.bytes < 2 ^ 63)
-told_at m s e = let k = in_step_at m s e in (grind (arith, nat_tests), grind (arith, nat_tests))
+pub told_at : (telling : Option Telling) (p : Progress) (s : Standing) → stand telling p ≡ Some s
+    → (p.told ≡ length s.bytes)
+    × (length s.bytes < 2 ^ 63)
+told_at telling p s e = let k = in_step_at telling p s e in (grind (arith, nat_tests), grind (arith, nat_tests))
 
 -- an offset that was not reached has no bytes
 pub not_reached : (first new : Option Standing) (offset now : ℕ) (b : Bool) (buffer : List ℕ)
@@ -50,14 +51,16 @@ goes_there s mid offset at true h on = h.0
 goes_there s mid offset at false h on = absurd cc
 
 -- the bytes from an offset that was reached
-pub from_there : (first mid : Option Standing) (m : Metered) (offset at n : ℕ) (b : Bool) (buffer : List ℕ)
-    → GoesTo first mid offset at (Ok b) → b ≡ true → GivesAll mid (stand m) buffer (Ok n)
-    → GivesFrom first (stand m) offset m.progress.offset buffer (Ok n)
-from_there None mid m offset at n b buffer goes on gives = tt
-from_there (Some s) mid m offset at n b buffer goes on gives =
-    let all : GivesAll (Some (record s { offset = offset })) (stand m) buffer (Ok n) =
-    subst (λ w. GivesAll w (stand m) buffer (Ok n)) (goes_there s mid offset at b goes on) gives in
-    (all.0 ∙ ap (λ k. Some (record s { offset = k })) (sym (offset_at m _ all.0)), all.1, all.2)
+pub from_there : (first mid : Option Standing) (telling : Option Telling) (p : Progress) (offset at n : ℕ) (b : Bool)
+    (buffer : List ℕ)
+    → GoesTo first mid offset at (Ok b) → b ≡ true → GivesAll mid (stand telling p) buffer (Ok n)
+    → GivesFrom first (stand telling p) offset
+    p.offset buffer (Ok n)
+from_there None mid telling p offset at n b buffer goes on gives = tt
+from_there (Some s) mid telling p offset at n b buffer goes on gives =
+    let all : GivesAll (Some (record s { offset = offset })) (stand telling p) buffer (Ok n) =
+    subst (λ w. GivesAll w (stand telling p) buffer (Ok n)) (goes_there s mid offset at b goes on) gives in
+    (all.0 ∙ ap (λ k. Some (record s { offset = k })) (sym (offset_at telling p _ all.0)), all.1, all.2)
 
 -- a failure behind an offset that was reached
 pub fails_there : (first mid new last : Option Standing) (offset at now : ℕ) (b : Bool) (buffer : List ℕ) (e : Halt)
@@ -104,30 +107,14 @@ none_kept : (fault fault' : Option Error) (failure failure' : Option (Option Err
 none_kept fault fault' failure failure' none same = rw (same, none) refl
 
 -- so a call that does not fail changes nothing of the last failure
-pub calm_at : (m k : Metered) → k.progress.fault ≡ m.progress.fault
-    → IfSome (stand m)
-    (λ _. failures_of k.progress.fault k.account.failure ≡ failures_of m.progress.fault m.account.failure)
-calm_at m k same = by_stand (stand m) refl where
-  by_stand : (st : Option Standing) → stand m ≡ st
-      → IfSome st
-      (λ _. failures_of k.progress.fault k.account.failure ≡ failures_of m.progress.fault m.account.failure)
+pub calm_at : (a b : Account) (p q : Progress) → q.fault ≡ p.fault
+    → IfSome (stand a.telling p) (λ _. failures_of q.fault b.failure ≡ failures_of p.fault a.failure)
+calm_at a b p q same = by_stand (stand a.telling p) refl where
+  by_stand : (st : Option Standing) → stand a.telling p ≡ st
+      → IfSome st (λ _. failures_of q.fault b.failure ≡ failures_of p.fault a.failure)
   by_stand None is = tt
-  by_stand (Some s) is = none_kept m.progress.fault k.progress.fault m.account.failure k.account.failure
-      (calm_in m.progress.told m.progress.offset m.progress.fault s (in_step_at m s is)) same
-
-calm_both : (halt : Option Halt) (f g h : Option Error) → g ≡ f → IfNone halt (h ≡ g) → IfNone halt (h ≡ f)
-calm_both None f g h first next = next ∙ first
-calm_both (Some halt) f g h first next = tt
-
--- what calls leave as it was after others that did not stop
-pub meters_both : {a b c : Metered} {halt : Option Halt} → Meters a b None → Meters b c halt → Meters a c halt
-meters_both {halt = halt} h k = record {
-  since = k.since ∙ h.since;
-  behind = k.behind ∙ h.behind;
-  calm = calm_both halt _ _ _ h.calm k.calm;
-  keeps = keeps_both h.keeps k.keeps;
-  stops = k.stops;
-}
+  by_stand (Some s) is = none_kept p.fault q.fault a.failure b.failure
+      (calm_in p.told p.offset p.fault s (in_step_at a.telling p s is)) same
 
 -- what never changes, over a read that gave bytes
 pub behind_given : (told retries : ℕ) (fault : Option Error) (telling telling' : Option Telling) (buffer : List ℕ) (n : ℕ)
@@ -137,11 +124,12 @@ behind_given told retries fault None telling' buffer n gave = rw gave refl
 behind_given told retries fault (Some t) telling' buffer n gave = rw gave.0 refl
 
 -- the tries of a read so far
-pub record Retried (first now : Account) (old new : ℕ) (fault fault' : Option Error) : Type 0 where
-  pub behind : (told : ℕ) → behind_of told new fault' now.telling ≡ behind_of told old fault first.telling
+pub record Retried (first now : Option Telling) (count count' : Option ℕ) (old new : ℕ)
+    (fault fault' : Option Error) : Type 0 where
+  pub behind : (told : ℕ) → behind_of told new fault' now ≡ behind_of told old fault first
   pub calm : fault' ≡ fault
-  pub steady : steady now.telling new ≡ steady first.telling old
-  pub counts : now.count ≡ first.count
+  pub steady : steady now new ≡ steady first old
+  pub counts : count' ≡ count
   pub tried : old ≤ new
   pub limit : old ≤ 64 → new ≤ 64
-  pub tries : Tries first.telling old now.telling new
+  pub tries : Tries first old now new

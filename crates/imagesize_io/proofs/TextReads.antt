@@ -15,9 +15,11 @@ use Rattle.imagesize_source.specs.Input.{part, span_at, span_of}
 use Rattle.imagesize_source.specs.Paying.{Paid}
 use Rattle.imagesize_source.specs.Reading.{part_read, text_part, text_read}
 use Rattle.imagesize_source.specs.State.{State, Runs, IsSound, total, state_after, step, new_bytes, front_after}
-use Rattle.imagesize_io.specs.ReaderState.{metered_of, reader_frame, reader_state, Windowed}
+use Rattle.imagesize_io.specs.declared.progress.Progress.{Progress}
+use Rattle.imagesize_io.specs.ReaderState.{reader_frame, reader_state}
 use Rattle.imagesize_io.specs.Standing.{stand}
 use Rattle.imagesize_io.specs.StopOf.{failures_of}
+use Rattle.imagesize_io.specs.Telling.{Account}
 use Rattle.imagesize_source.specs.Text.{delimits, front_through, text_front, ends}
 use Rattle.imagesize_source.proofs.Counts.{total-span_at, total-span_of, total_there}
 use Rattle.imagesize_source.proofs.Layouts.{no_part, no_span}
@@ -402,10 +404,10 @@ one_read {b} {c} d more got next n one is run = subst (λ k. Runs b c (Ok got) (
     (subst (λ bs. Runs b c (Ok bs) (part_read d next (length more))) is run)
 
 -- a reader tells the true length where it is honest
-pub reader_sound : (home : ℕ) (w : Windowed) → IsSound (reader_state home w)
-reader_sound home w = sound_at (reader_frame home (metered_of w)) (stand (metered_of w))
-    (failures_of w.ledger.progress.fault w.account.failure) w.ledger.window.items w.ledger.progress.taken
-    (told_by home (metered_of w))
+pub reader_sound : (a : Account) (home : ℕ) (p : Progress) (window : List ℕ) → IsSound (reader_state a home p window)
+reader_sound a home p window =
+    sound_at (reader_frame a home p) (stand a.telling p) (failures_of p.fault a.failure) window p.taken
+    (told_by a home p)
 
 -- a buffer of one byte
 pub one_long : (count : ℕ) (buffer more : List ℕ) → count < length buffer

@@ -5,15 +5,17 @@ use Rattle.std.proofs.lemmas.List.{length-append, length-take, length-drop, take
 use Rattle.std.proofs.Math.Seq.{drop-append-add, take-nil, drop-drop, take-take}
 use Rattle.imagesize_source.specs.declared.halt.Halt.{Halt}
 use Rattle.imagesize_source.specs.declared.span.Span.{Span}
+use Rattle.imagesize_io.specs.declared.progress.Progress.{Progress}
 use Rattle.std.specs.declared.io.Error.{Error}
 use Rattle.imagesize_io.specs.StopOf.{Failures, failures_of, kept_error, last_failed}
 use Rattle.imagesize_source.specs.Errors.{is_fault}
+use Rattle.imagesize_io.specs.Telling.{Account, Telling}
 use Rattle.imagesize_source.proofs.Layouts.{no_part}
 use Rattle.imagesize_io.proofs.Standings.{told_at}
 use Rattle.imagesize_source.specs.Input.{part, span_at, span_of}
 use Rattle.imagesize_source.specs.Reading.{part_read, map_answer, is_failure, is_stop}
 use Rattle.imagesize_io.specs.ReaderState.{held_at, no_claim, with_window, kept_window, state_at, reader_frame}
-use Rattle.imagesize_io.specs.Standing.{Metered, Meters, Standing, stand, GivesFrom, StopsBy}
+use Rattle.imagesize_io.specs.Standing.{Standing, GivesFrom, behind, stand, drift, KeepsCounts, StopsBy}
 use borrow.Rule.Slice.PartMut.{put_mid}
 use Rattle.imagesize_io.proofs.Filling.{part-add, take_more, length-put}
 use Rattle.imagesize_source.proofs.Slices.{front_is}
@@ -473,13 +475,15 @@ none_in w more offset k far = ap (λ l. l ++ more) (sym (ap (take k) (drop_all o
 pub put_whole : (more : List ℕ) → put_mid 0 (length more - 0) more more ≡ more
 put_whole more = ap (λ l. more ++ l) (drop_all (length more - 0) more (omega arith)) ∙ append-nil more
 
-told_if : (f : Frame) (m : Metered) (st : Option Standing) → f.told ≡ m.progress.told → stand m ≡ st → ToldBy f st
-told_if f m None told is = tt
-told_if f m (Some s) told is = let t = told_at m s is in (told ∙ t.0, t.1)
+told_if : (f : Frame) (telling : Option Telling) (p : Progress) (st : Option Standing) → f.told ≡ p.told
+    → stand telling p ≡ st
+    → ToldBy f st
+told_if f telling p None told is = tt
+told_if f telling p (Some s) told is = let t = told_at telling p s is in (told ∙ t.0, t.1)
 
 -- the length that stands beside a reader is that of the bytes that it claims
-pub told_by : (home : ℕ) (m : Metered) → ToldBy (reader_frame home m) (stand m)
-told_by home m = told_if (reader_frame home m) m (stand m) refl refl
+pub told_by : (a : Account) (home : ℕ) (p : Progress) → ToldBy (reader_frame a home p) (stand a.telling p)
+told_by a home p = told_if (reader_frame a home p) a.telling p (stand a.telling p) refl refl
 
 abbrev frame_of : ℕ → ℕ → ℕ → Option (ℕ × ℕ) → Option Unchanged → Frame
 frame_of told budget home since behind = record {
@@ -495,10 +499,11 @@ same_frames : (told told' budget budget' home : ℕ) (s s' : Option (ℕ × ℕ)
 same_frames told told' budget budget' home s s' b b' p q r e = cc
 
 -- what never changes
-pub same_frame : {halt : Option Halt} (home : ℕ) (m k : Metered) → Meters m k halt
-    → reader_frame home k ≡ reader_frame home m
-same_frame home m k h = same_frames k.progress.told m.progress.told k.progress.budget m.progress.budget home _ _ _ _
-    h.keeps.told h.keeps.budget h.since h.behind
+pub same_frame : (a b : Account) (home : ℕ) (p p' : Progress) → KeepsCounts p p'
+    → drift b.count p'.taken ≡ drift a.count p.taken
+    → behind b.telling p' ≡ behind a.telling p → reader_frame b home p' ≡ reader_frame a home p
+same_frame a b home p p' keeps since same =
+    same_frames p'.told p.told p'.budget p.budget home _ _ _ _ keeps.told keeps.budget since same
 
 -- the error that is kept of a failure is a fault
 kept_fault : (fault : Option Error) (failure : Option (Option Error))
@@ -508,11 +513,12 @@ kept_fault None failure is = absurd cc
 kept_fault (Some e) failure is = refl
 
 -- a stop of the reader is one of the source
-pub ended_by : (home : ℕ) (m : Metered) (st : Option Standing) (w : List ℕ) (e : Halt) → StopsBy m e
-    → EndedBy (state_at (reader_frame home m) st (failures_of m.progress.fault m.account.failure) w m.progress.taken) e
-ended_by home m st w e stops = record {
+pub ended_by : (a : Account) (home : ℕ) (p : Progress) (st : Option Standing) (w : List ℕ) (e : Halt)
+    → StopsBy p a.failure e
+    → EndedBy (state_at (reader_frame a home p) st (failures_of p.fault a.failure) w p.taken) e
+ended_by a home p st w e stops = record {
   budget = λ spent. (refl, stops.budget spent);
-  fault = λ failed. (stops.fault failed, kept_fault m.progress.fault m.account.failure (stops.fault failed));
+  fault = λ failed. (stops.fault failed, kept_fault p.fault a.failure (stops.fault failed));
 }
 
 end_answer : (f : Frame) (st : Option Standing) (w : List ℕ) (offset k : ℕ) → ToldBy f st → f.told < offset

@@ -10,7 +10,7 @@ use Rattle.imagesize_io.specs.declared.reader.Ledger.{Ledger}
 use Rattle.imagesize_source.specs.Reading.{part_read, text_read, map_answer}
 use Rattle.imagesize_io.specs.StopOf.{Failures, failures_of}
 use Rattle.imagesize_io.specs.Telling.{Account, Fails, Telling, at_offset}
-use Rattle.imagesize_io.specs.Standing.{Metered, Standing, KeepsCounts, behind, behind_of, drift, metered, since, stand, stand_of, steady}
+use Rattle.imagesize_io.specs.Standing.{Standing, KeepsCounts, behind, behind_of, steady, stand_of, stand, drift}
 use Rattle.imagesize_source.specs.State.{State, Frame, Held, Runs, Reader}
 
 -- no claim about the reader
@@ -29,12 +29,12 @@ held_at (Some s) window =
     then record { honest = true; input = with_window window s.bytes; can_fail = s.can_fail } else no_claim
 
 -- what never changes about a reader as a source; `home` names the borrow of the reader
-abbrev pub reader_frame : ℕ → Metered → Frame
-reader_frame home m = record {
-  told = m.progress.told;
-  budget = m.progress.budget;
+abbrev pub reader_frame : Account → ℕ → Progress → Frame
+reader_frame a home p = record {
+  told = p.told;
+  budget = p.budget;
   counts = true;
-  backing = Reader home (since m) (behind m);
+  backing = Reader home (drift a.count p.taken) (behind a.telling p);
 }
 
 -- a reader as a source
@@ -50,25 +50,9 @@ state_at frame standing failures window taken = record {
   failed = Some failures.last;
 }
 
--- a reader with its window, by its account and by what its source keeps beside it
-pub record Windowed : Type 0 where
-  pub account : Account
-  pub ledger : Ledger
-
-abbrev pub windowed : Account → Ledger → Windowed
-windowed a ledger = record { account = a; ledger = ledger }
-
--- without its window
-abbrev pub metered_of : Windowed → Metered
-metered_of w = metered w.account w.ledger.progress
-
--- the input that the source claims
-abbrev pub claimed : Windowed → List ℕ
-claimed w = (held_at (stand (metered_of w)) w.ledger.window.items).input
-
-abbrev pub reader_state : ℕ → Windowed → State
-reader_state home w = state_at (reader_frame home (metered_of w)) (stand (metered_of w))
-    (failures_of w.ledger.progress.fault w.account.failure) w.ledger.window.items w.ledger.progress.taken
+abbrev pub reader_state : Account → ℕ → Progress → List ℕ → State
+reader_state a home p window =
+    state_at (reader_frame a home p) (stand a.telling p) (failures_of p.fault a.failure) window p.taken
 
 -- the window after a read: the next bytes after the window are added to it, up to its length
 abbrev pub kept_window : List ℕ → ℕ → List ℕ → List ℕ
@@ -95,24 +79,30 @@ start_state telling count home told = state_at
 
 -- What a read from an offset on did, over every reader. It saw the bytes that the window has, and those that follow
 -- from the reader.
-pub record ReadsAt (old new : Windowed) (offset : ℕ) (buffer : List ℕ) (r : Result ℕ Halt) : Type 0 where
+pub record ReadsAt (old new : Ledger) (a b : Account) (offset : ℕ) (buffer : List ℕ) (r : Result ℕ Halt) : Type 0 where
   pub bound : IfOk r (λ n. n ≤ length buffer)
-  pub pays : IfOk r (λ n. 0 < n → max old.ledger.progress.told most_held < offset
-      → (old.ledger.progress.taken < new.ledger.progress.taken) × (new.ledger.progress.taken ≤ old.ledger.progress.budget))
-  pub keeps : KeepsCounts old.ledger.progress new.ledger.progress
-  pub runs : (home : ℕ) → Runs (reader_state home old) (reader_state home new) (map_answer (λ n. take n buffer) r)
-      (part_read (claimed old) offset (length buffer))
+  pub pays : IfOk r (λ n. 0 < n → max old.progress.told most_held < offset → (old.progress.taken < new.progress.taken)
+      × (new.progress.taken ≤ old.progress.budget))
+  pub keeps : KeepsCounts old.progress new.progress
+  pub runs : (home : ℕ) → Runs (reader_state a home old.progress old.window.items)
+      (reader_state b home new.progress new.window.items) (map_answer (λ n. take n buffer) r)
+      (part_read (held_at (stand a.telling old.progress) old.window.items).input offset (length buffer))
 
--- what a read of a source did; past the reported length, it goes on from the end of the last read
-pub record ReadsOn (old new : Windowed) (offset : ℕ) (buffer : List ℕ) (r : Result ℕ Halt) : Type 0 where
-  pub reads : ReadsAt old new offset buffer r
-  pub present : offset ≤ old.ledger.progress.told → IfOk r (λ n. new.ledger.present ≡ min (offset + n) (2 ^ 64 - 1))
-  pub goes_on : offset ≡ old.ledger.present → IfOk r (λ n. new.ledger.present ≡ min (offset + n) (2 ^ 64 - 1))
+-- What a read of a source did. Past the reported length, it goes on only from the end of the last read. At any other
+-- offset there it is at the end of the input, and does not call the reader.
+pub record ReadsOn {R : Type 0} (reader reader' : R) (old new : Ledger) (a b : Account) (offset : ℕ) (buffer : List ℕ)
+    (r : Result ℕ Halt) : Type 0 where
+  pub reads : ReadsAt old new a b offset buffer r
+  pub present : offset ≤ old.progress.told → IfOk r (λ n. new.present ≡ min (offset + n) (2 ^ 64 - 1))
+  pub goes_on : offset ≡ old.present → IfOk r (λ n. new.present ≡ min (offset + n) (2 ^ 64 - 1))
+  pub ends : old.progress.told < offset → offset ≢ old.present → (r ≡ Ok 0) × (reader' ≡ reader) × (new.present ≡ old.present)
 
 -- what a read of a text from an offset on did, over every reader
-pub record ReadsText (old new : Windowed) (text : Text) (offset : ℕ) (buffer : List ℕ) (r : Result ℕ Halt) : Type 0 where
+pub record ReadsText (old new : Ledger) (a b : Account) (text : Text) (offset : ℕ) (buffer : List ℕ) (r : Result ℕ Halt)
+    : Type 0 where
   pub bound : IfOk r (λ n. n ≤ length buffer)
-  pub pays : IfOk r (λ n. 0 < n → max old.ledger.progress.told most_held < offset
-      → old.ledger.progress.taken < new.ledger.progress.taken)
-  pub runs : (home : ℕ) → Runs (reader_state home old) (reader_state home new) (map_answer (λ n. take n buffer) r)
-      (text_read (claimed old) text offset (length buffer))
+  pub pays : IfOk r (λ n. 0 < n → max old.progress.told most_held < offset → old.progress.taken < new.progress.taken)
+  pub runs : (home : ℕ) → Runs (reader_state a home old.progress old.window.items)
+      (reader_state b home new.progress new.window.items)
+      (map_answer (λ n. take n buffer) r)
+      (text_read (held_at (stand a.telling old.progress) old.window.items).input text offset (length buffer))

@@ -1,5 +1,5 @@
 -- What a reader's model claims, as far as the numbers kept for the reader agree with it.
-use Rattle.std.specs.Prelude.{◌≡◌, ℕ, ◌+◌, ◌-◌, ◌^◌, ◌<◌, ◌≤◌, min, max, Bool, true, false, ◌||◌, ◌&&◌, not, List, length, take, nat_le, nat_lt, ◌==◌, if◌then◌else◌, Option, None, Some, is_none, Result, Ok, Err, IfNone, IfSome, IfOk, OnOk, IsSomeAnd, option_map, ⊤}
+use Rattle.std.specs.Prelude.{◌≡◌, ℕ, ◌+◌, ◌-◌, ◌^◌, ◌<◌, ◌≤◌, min, Bool, true, false, ◌||◌, ◌&&◌, not, List, length, take, nat_le, nat_lt, ◌==◌, if◌then◌else◌, Option, None, Some, is_none, Result, Ok, Err, IfSome, IfOk, IfErr, OnOk, IsSomeAnd, option_map, ⊤}
 use Rattle.imagesize_source.specs.declared.halt.Halt.{Halt}
 use Rattle.imagesize_source.specs.Limits.{most_retries}
 use Rattle.imagesize_io.specs.declared.progress.Progress.{Progress}
@@ -37,17 +37,8 @@ abbrev pub stand_of : ℕ → ℕ → Option Error → Option Standing → Optio
 stand_of told offset fault None = None
 stand_of told offset fault (Some s) = if in_step told offset fault s then Some s else None
 
--- a reader, by its account and by the numbers that a call keeps for it
-pub record Metered : Type 0 where
-  pub account : Account
-  pub progress : Progress
-
-abbrev pub metered : Account → Progress → Metered
-metered a p = record { account = a; progress = p }
-
-abbrev pub stand : Metered → Option Standing
-stand m =
-    stand_of m.progress.told m.progress.offset m.progress.fault (steady m.account.telling m.progress.retries)
+abbrev pub stand : Option Telling → Progress → Option Standing
+stand telling p = stand_of p.told p.offset p.fault (steady telling p.retries)
 
 -- How many interruptions come in all, with those already retried. The number is known for a reader that cannot fail
 -- and has the reported length. All interruptions must be retried, and no error kept.
@@ -61,8 +52,8 @@ abbrev pub behind_of : ℕ → ℕ → Option Error → Option Telling → Optio
 behind_of told retries fault telling = option_map
     (λ t. record { bytes = t.bytes; can_fail = t.can_fail; interruptions = in_all told retries fault t }) telling
 
-abbrev pub behind : Metered → Option Behind
-behind m = behind_of m.progress.told m.progress.retries m.progress.fault m.account.telling
+abbrev pub behind : Option Telling → Progress → Option Behind
+behind telling p = behind_of p.told p.retries p.fault telling
 
 -- What a read at the reader's offset did. It returned the next bytes, at least one if there is one and the buffer is
 -- not empty. Only a reader that can fail has a failure.
@@ -103,15 +94,11 @@ Tries (Some t) tries new tries' = IsSomeAnd new (λ u. t.interruptions + tries �
 abbrev pub drift : Option ℕ → ℕ → Option (ℕ × ℕ)
 drift count taken = option_map (λ c. (c - taken, taken - c)) count
 
--- by how much a reader's count is above the bytes that the call has read, and by how much it is below
-abbrev pub since : Metered → Option (ℕ × ℕ)
-since m = drift m.account.count m.progress.taken
-
 -- Only a failure or a spent budget stops a read. The budget equals the bytes read, and the failure is the last one.
-pub record StopsBy (m : Metered) (halt : Halt) : Type 0 where
+pub record StopsBy (p : Progress) (failure : Option (Option Error)) (halt : Halt) : Type 0 where
   pub stops : is_stop halt ≡ true
-  pub budget : is_spent halt ≡ true → m.progress.budget ≡ m.progress.taken
-  pub fault : is_failure halt ≡ true → last_failed m.progress.fault m.account.failure ≡ Some (kept_error m.progress.fault)
+  pub budget : is_spent halt ≡ true → p.budget ≡ p.taken
+  pub fault : is_failure halt ≡ true → last_failed p.fault failure ≡ Some (kept_error p.fault)
 
 -- What a call keeps of the numbers. Retries are never forgotten, and never exceed `most_retries`.
 pub record KeepsCounts (old new : Progress) : Type 0 where
@@ -121,54 +108,44 @@ pub record KeepsCounts (old new : Progress) : Type 0 where
   pub retries : old.retries ≤ new.retries
   pub limit : old.retries ≤ most_retries → new.retries ≤ most_retries
 
--- the halt of a call that stopped
-abbrev pub halt_of : {X : Type 0} → Result X Halt → Option Halt
-halt_of (Ok x) = None
-halt_of (Err halt) = Some halt
-
--- what calls of a reader leave as it was, and why they stop
-pub record Meters (old new : Metered) (halt : Option Halt) : Type 0 where
-  pub since : since new ≡ since old
-  pub behind : behind new ≡ behind old
-  pub calm : IfNone halt (new.progress.fault ≡ old.progress.fault)
-  pub keeps : KeepsCounts old.progress new.progress
-  pub stops : IfSome halt (StopsBy new)
-
 -- what one read at the reader's offset did
-pub record ReadsOnce (old new : Metered) (buffer : List ℕ) (r : Result ℕ Halt) : Type 0 where
+pub record ReadsOnce (old new : Progress) (a b : Account) (buffer : List ℕ) (r : Result ℕ Halt) : Type 0 where
   pub bound : IfOk r (λ n. n ≤ length buffer)
-  pub gives : GivesSome (stand old) (stand new) buffer r
-  pub taken : new.progress.taken ≡ old.progress.taken + bytes_given r
-  pub offset : IfOk r (λ n. new.progress.offset ≡ min (old.progress.offset + n) (2 ^ 64 - 1))
-  pub tries : OnOk r (Tries old.account.telling old.progress.retries new.account.telling new.progress.retries)
-  pub meters : Meters old new (halt_of r)
+  pub stand : GivesSome (stand a.telling old) (stand b.telling new) buffer r
+  pub taken : new.taken ≡ old.taken + bytes_given r
+  pub offset : IfOk r (λ n. new.offset ≡ min (old.offset + n) (2 ^ 64 - 1))
+  pub since : drift b.count new.taken ≡ drift a.count old.taken
+  pub behind : behind b.telling new ≡ behind a.telling old
+  pub calm : OnOk r (new.fault ≡ old.fault)
+  pub tries : OnOk r (Tries a.telling old.retries b.telling new.retries)
+  pub keeps : KeepsCounts old new
+  pub stops : IfErr r (StopsBy new b.failure)
 
 -- what reads at the reader's offset did, one after another until the buffer is full or the bytes end
-pub record Fills (old new : Metered) (buffer : List ℕ) (r : Result ℕ Halt) : Type 0 where
+pub record Fills (old new : Progress) (before after : Option Standing) (a b : Account) (buffer : List ℕ) (r : Result ℕ Halt)
+    : Type 0 where
   pub bound : IfOk r (λ n. n ≤ length buffer)
-  pub gives : GivesAll (stand old) (stand new) buffer r
-  pub taken : IfOk r (λ n. new.progress.taken ≡ old.progress.taken + n)
-  pub offset : IfOk r (λ n. new.progress.offset ≡ min (old.progress.offset + n) (2 ^ 64 - 1))
-  pub within : IfSome (stand old)
-      (λ s. new.progress.taken ≤ old.progress.taken + min (length buffer) (length s.bytes - s.offset))
-  pub meters : Meters old new (halt_of r)
-
--- what a seek to an offset did, and whether the reader is there
-pub record Seeks (old new : Metered) (offset : ℕ) (r : Result Bool Halt) : Type 0 where
-  pub goes : GoesTo (stand old) (stand new) offset new.progress.offset r
-  pub asked : IfOk r (λ there. there ≡ true → new.progress.offset ≡ offset)
-  pub short : IfOk r (λ there. there ≡ true → offset ≤ max old.progress.told old.progress.offset)
-  pub far : IfOk r (λ there. there ≡ false → old.progress.told < offset)
-  pub taken : new.progress.taken ≡ old.progress.taken
-  pub meters : Meters old new (halt_of r)
+  pub stand : GivesAll before after buffer r
+  pub taken : IfOk r (λ n. new.taken ≡ old.taken + n)
+  pub offset : IfOk r (λ n. new.offset ≡ min (old.offset + n) (2 ^ 64 - 1))
+  pub within : IfSome before (λ s. new.taken ≤ old.taken + min (length buffer) (length s.bytes - s.offset))
+  pub since : drift b.count new.taken ≡ drift a.count old.taken
+  pub behind : behind b.telling new ≡ behind a.telling old
+  pub calm : OnOk r (new.fault ≡ old.fault)
+  pub keeps : KeepsCounts old new
+  pub stops : IfErr r (StopsBy new b.failure)
 
 -- what a read from an offset on did, over every reader
-pub record ReadsFrom (old new : Metered) (offset : ℕ) (buffer : List ℕ) (r : Result ℕ Halt) : Type 0 where
+pub record ReadsFrom (old new : Progress) (before after : Option Standing) (a b : Account) (offset : ℕ) (buffer : List ℕ)
+    (r : Result ℕ Halt) : Type 0 where
   pub bound : IfOk r (λ n. n ≤ length buffer)
-  pub gives : GivesFrom (stand old) (stand new) offset new.progress.offset buffer r
-  pub stands : IfOk r (λ n. offset ≤ old.progress.told → new.progress.offset ≡ min (offset + n) (2 ^ 64 - 1))
-  pub taken : IfOk r (λ n. new.progress.taken ≡ old.progress.taken + n)
-  pub within : IfSome (stand old)
-      (λ s. new.progress.taken ≤ old.progress.taken + min (length buffer) (length s.bytes - offset))
-  pub pays : IfOk r (λ n. old.progress.told < offset → 0 < n → old.progress.taken < new.progress.taken)
-  pub meters : Meters old new (halt_of r)
+  pub stand : GivesFrom before after offset new.offset buffer r
+  pub stands : IfOk r (λ n. offset ≤ old.told → new.offset ≡ min (offset + n) (2 ^ 64 - 1))
+  pub taken : IfOk r (λ n. new.taken ≡ old.taken + n)
+  pub within : IfSome before (λ s. new.taken ≤ old.taken + min (length buffer) (length s.bytes - offset))
+  pub pays : IfOk r (λ n. old.told < offset → 0 < n → old.taken < new.taken)
+  pub since : drift b.count new.taken ≡ drift a.count old.taken
+  pub behind : behind b.telling new ≡ behind a.telling old
+  pub calm : OnOk r (new.fault ≡ old.fault)
+  pub keeps : KeepsCounts old new
+  pub stops : IfErr r (StopsBy new b.failure)

@@ -104,13 +104,11 @@ pub record IsHonest (t : Telling) : Type 0 where
   pub short : length t.bytes < 2 ^ 63
   pub patient : t.can_fail ≡ false → t.interruptions ≤ most_retries
 
--- What a reader tells of itself: its model; how many bytes it has given; and the error of its last failed call, including
--- interruptions, or that none has failed. Each is `None` where the reader does not tell it.
+-- the model of a reader, its count, and its last failure
 pub record Account : Type 0 where
   pub telling : Option Telling
   pub count : Option ℕ
   pub failure : Option (Option Error)
 
--- a reader that tells nothing
-abbrev pub silent : Account
-silent = record { telling = None; count = None; failure = None }
+abbrev pub account : {R : Type 0} → (R → Option Telling) → (R → Option ℕ) → (R → Option (Option Error)) → R → Account
+account telling count failure reader = record { telling = telling reader; count = count reader; failure = failure reader }

@@ -7,7 +7,6 @@ ghost use Rattle.std.specs.declared.io.Error.{Error};
 ghost use Rattle.imagesize_io.specs.Held.{IsWhole};
 ghost use Rattle.imagesize_io.specs.Kept.{offset_after, read_offset, sought_offset, HeldOf, IsAt, IsBack, LeavesBuffer};
 ghost use Rattle.imagesize_io.specs.StopOf.{stop_of};
-ghost use Rattle.imagesize_io.specs.Telling.{silent};
 
 use crate::held::copy_text;
 use crate::{Stop, Told};
@@ -65,7 +64,11 @@ impl<R: Read + Seek + Drop> KeptReader<R> {
 }
 
 impl<R: Read + Seek + Drop> Told for KeptReader<R> {
-    ghost account = { λ _. silent };
+    ghost telling = { λ _. None };
+
+    ghost count = { λ _. None };
+
+    ghost failure = { λ _. None };
 
     fn read_told(&mut self, buffer: &mut [u8]) -> Result<usize, Stop>
         ensures bound { IfOk result (λ n. n ≤ length buffer.new) }

@@ -1,9 +1,9 @@
 //! A reader as a source.
 ghost use Rattle.std.specs.Prelude.{◌≡◌, IfErr, true, false};
 ghost use Rattle.imagesize_source.specs.Errors.{is_fault, is_memory};
-ghost use Rattle.imagesize_io.specs.ReaderState.{reader_state, start_state, windowed, Opens};
+ghost use Rattle.imagesize_io.specs.ReaderState.{reader_state, start_state, Opens};
 ghost use Rattle.imagesize_io.specs.Answers.{IsLast};
-ghost use Rattle.imagesize_io.specs.Telling.{SeekTells};
+ghost use Rattle.imagesize_io.specs.Telling.{SeekTells, account};
 ghost use Rattle.imagesize_source.specs.Halts.{error_by};
 ghost use Rattle.imagesize_io.specs.StopOf.{kept_error};
 
@@ -40,8 +40,9 @@ impl<'a, R: Told> ReaderSource<'a, R> {
     #[inline(always)]
     pub fn new(reader: &'a mut R, told: u64) -> Self
         ensures same_reference { result.reader.ghost_name ≡ reader.entry.ghost_name }
-        ensures state { reader_state result.reader.ghost_name (windowed (R.account result.reader.now) result.ledger)
-            ≡ start_state (R.account reader.old).telling (R.account reader.old).count reader.entry.ghost_name told }
+        ensures state { reader_state (account R.telling R.count R.failure result.reader.now) result.reader.ghost_name
+            result.ledger.progress result.ledger.window.items
+            ≡ start_state (R.telling reader.old) (R.count reader.old) reader.entry.ghost_name told }
         ensures present { result.ledger.present ≡ told }
     {
         let progress = Progress {
@@ -62,7 +63,8 @@ impl<'a, R: Told> ReaderSource<'a, R> {
 }
 
 impl<R: Told> Source for ReaderSource<'_, R> {
-    ghost state = { λ s. reader_state s.reader.ghost_name (windowed (R.account s.reader.now) s.ledger) };
+    ghost state = { λ s. reader_state (account R.telling R.count R.failure s.reader.now) s.reader.ghost_name s.ledger.progress
+        s.ledger.window.items };
 
     #[inline]
     fn told(&self) -> u64 {
@@ -85,10 +87,7 @@ impl<R: Told> Source for ReaderSource<'_, R> {
     }
 
     fn read_text(&mut self, offset: u64, text: Text, buffer: &mut [u8]) -> Result<usize, Halt> {
-        if let Some(count) = held::read_held(self.reader, &mut self.ledger, offset, text, buffer) {
-            return Ok(count);
-        }
-        text::read_by_bytes(self.reader, &mut self.ledger, offset, text, buffer)
+        text::read_text(self.reader, &mut self.ledger, offset, text, buffer)
     }
 }
 
@@ -118,10 +117,10 @@ pub struct Opened {
 /// that first reads at the reader's offset therefore seeks back here.
 #[inline]
 pub fn open<R: Told>(reader: &mut R, origin: Origin) -> ImageResult<Opened>
-    ensures told { Opens (R.account reader.old).telling (R.account reader.new).telling result }
-    ensures counts { (R.account reader.new).count ≡ (R.account reader.old).count }
+    ensures told { Opens (R.telling reader.old) (R.telling reader.new) result }
+    ensures counts { R.count reader.new ≡ R.count reader.old }
     ensures fault { IfErr result (λ e. is_fault e ≡ true) }
-    ensures last { IfErr result (IsLast (R.account reader.new).failure) }
+    ensures last { IfErr result (IsLast (R.failure reader.new)) }
     ensures memory { IfErr result (λ e. is_memory e ≡ false) }
 {
     let offset = seek(reader, SeekFrom::Current(0))?;
@@ -135,10 +134,10 @@ pub fn open<R: Told>(reader: &mut R, origin: Origin) -> ImageResult<Opened>
 // Seeks. An error becomes a `Reason::Fault`.
 #[inline(always)]
 fn seek<R: Told>(reader: &mut R, to: SeekFrom) -> ImageResult<u64>
-    ensures told { SeekTells (R.account reader.old).telling (R.account reader.new).telling to result }
-    ensures counts { (R.account reader.new).count ≡ (R.account reader.old).count }
+    ensures told { SeekTells (R.telling reader.old) (R.telling reader.new) to result }
+    ensures counts { R.count reader.new ≡ R.count reader.old }
     ensures fault { IfErr result (λ e. is_fault e ≡ true) }
-    ensures last { IfErr result (IsLast (R.account reader.new).failure) }
+    ensures last { IfErr result (IsLast (R.failure reader.new)) }
     ensures memory { IfErr result (λ e. is_memory e ≡ false) }
 {
     let offset = reader.seek_told(to)?;

@@ -7,7 +7,6 @@ ghost use Rattle.std.specs.declared.io.Error.{Error};
 ghost use Rattle.imagesize_io.specs.Held.{IsWhole};
 ghost use Rattle.imagesize_io.specs.Kept.{front_after, GivesAgain, HeldOf, IsAt, LeavesBuffer};
 ghost use Rattle.imagesize_io.specs.StopOf.{stop_of};
-ghost use Rattle.imagesize_io.specs.Telling.{silent};
 
 use crate::kept::KeptReader;
 use crate::window::{Window, copy_kept, keep, keep_front};
@@ -106,7 +105,11 @@ impl<R: Read + Seek + Drop> SizedReader<R> {
 const BLOCK: u64 = 8192;
 
 impl<R: Read + Seek + Drop> Told for SizedReader<R> {
-    ghost account = { λ _. silent };
+    ghost telling = { λ _. None };
+
+    ghost count = { λ _. None };
+
+    ghost failure = { λ _. None };
 
     fn read_told(&mut self, buffer: &mut [u8]) -> Result<usize, Stop>
         ensures bound { IfOk result (λ n. n ≤ length buffer.new) }

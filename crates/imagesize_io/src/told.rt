@@ -7,7 +7,7 @@ ghost use Rattle.std.specs.Io.Seek.{SeekMoves, IsAtOffset};
 ghost use Rattle.std.specs.declared.io.Error.{Error};
 ghost use Rattle.imagesize_io.specs.Held.{IsWhole};
 ghost use Rattle.imagesize_io.specs.Kept.{HeldOf};
-ghost use Rattle.imagesize_io.specs.Telling.{count_after, failure_after, failure_after_read, silent, Account, ReadTells, SeekTells};
+ghost use Rattle.imagesize_io.specs.Telling.{Telling, ReadTells, SeekTells, count_after, failure_after, failure_after_read};
 ghost use Rattle.imagesize_io.specs.StopOf.{stop_of};
 
 use crate::held::copy_text;
@@ -39,17 +39,23 @@ impl From<io::Error> for Stop {
 /// A reader whose calls do what `read` and `seek` do. It may have a model, and then the contracts state its bytes and its
 /// offset.
 pub trait Told: Drop {
-    /// The model: the bytes, the offset, whether a call can fail, and how many reads may still be interrupted. Then how many
-    /// bytes the reader has given, and the error of the last call that failed, including interruptions, or that none has
-    /// failed. Each is `None` if the reader does not tell it.
-    ghost account: { Self → Account };
+    /// The model: the bytes, the offset, whether a call can fail, and how many reads may still be interrupted. `None` without
+    /// one.
+    ghost telling: { Self → Option Telling };
+
+    /// How many bytes the reader has given. `None` if it does not count them.
+    ghost count: { Self → Option ℕ };
+
+    /// The error of the last call that failed, including interruptions, or that none has failed. `None` if the reader keeps
+    /// no error.
+    ghost failure: { Self → Option (Option Error) };
 
     /// Reads into the buffer, and returns how many bytes were read.
     fn read_told(&mut self, buffer: &mut [u8]) -> Result<usize, Stop>
         ensures bound { IfOk result (λ n. n ≤ length buffer.new) }
-        ensures told { ReadTells (account self.old).telling (account self.new).telling buffer.new result }
-        ensures counts { (account self.new).count ≡ count_after (account self.old).count result }
-        ensures fails { (account self.new).failure ≡ failure_after_read (account self.old).failure result };
+        ensures told { ReadTells (telling self.old) (telling self.new) buffer.new result }
+        ensures counts { count self.new ≡ count_after (count self.old) result }
+        ensures fails { failure self.new ≡ failure_after_read (failure self.old) result };
 
     /// Reads the text at the reader's offset, if the reader holds all of it, and returns how many bytes were read. It may
     /// always return `None`, and then it has read nothing.
@@ -57,34 +63,34 @@ pub trait Told: Drop {
     fn read_held(&mut self, _text: Text, _buffer: &mut [u8]) -> Option<usize>
         ensures bound { IfSome result (λ n. n ≤ length _buffer.new) }
         ensures whole { IfSome result (λ n. IsWhole _text (take n _buffer.new)) }
-        ensures told { IfSome result (λ n. ReadTells (account self.old).telling (account self.new).telling _buffer.new (Ok n)) }
-        ensures counts { IfSome result (λ n. (account self.new).count ≡ count_after {E = Stop} (account self.old).count (Ok n)) }
-        ensures none { result ≡ None → account self.new ≡ account self.old }
-        ensures fails { (account self.new).failure ≡ (account self.old).failure }
+        ensures told { IfSome result (λ n. ReadTells (telling self.old) (telling self.new) _buffer.new (Ok n)) }
+        ensures counts { IfSome result (λ n. count self.new ≡ count_after {E = Stop} (count self.old) (Ok n)) }
+        ensures none { result ≡ None → (telling self.new ≡ telling self.old) × (count self.new ≡ count self.old) }
+        ensures fails { failure self.new ≡ failure self.old }
     {
         None
     }
 
     /// Seeks, and returns the new offset in bytes from 0.
     fn seek_told(&mut self, to: SeekFrom) -> io::Result<u64>
-        ensures told { SeekTells (account self.old).telling (account self.new).telling to result }
-        ensures counts { (account self.new).count ≡ (account self.old).count }
-        ensures fails { (account self.new).failure ≡ failure_after (account self.old).failure result };
+        ensures told { SeekTells (telling self.old) (telling self.new) to result }
+        ensures counts { count self.new ≡ count self.old }
+        ensures fails { failure self.new ≡ failure_after (failure self.old) result };
 }
 
 /// A cursor over bytes has a model of its bytes and its offset. It cannot fail and is never interrupted. It counts no bytes,
 /// and keeps no error of a seek to an invalid offset.
 impl Told for Cursor<&[u8]> {
-    ghost account = { λ c. record {
-      telling = Some (record {
-        bytes = (cursor_inner c).now;
-        offset = cursor_position c;
-        can_fail = false;
-        interruptions = 0;
-      });
-      count = None;
-      failure = None;
-    } };
+    ghost telling = { λ c. Some (record {
+      bytes = (cursor_inner c).now;
+      offset = cursor_position c;
+      can_fail = false;
+      interruptions = 0;
+    }) };
+
+    ghost count = { λ _. None };
+
+    ghost failure = { λ _. None };
 
     #[inline(always)]
     fn read_told(&mut self, buffer: &mut [u8]) -> Result<usize, Stop> {
@@ -124,7 +130,11 @@ impl Told for Cursor<&[u8]> {
 /// A buffered reader has no model. Its reads and seeks return what those of `BufReader` return, and a seek within the buffer
 /// keeps the buffer.
 impl<R: Read + Seek + Drop> Told for BufReader<R> {
-    ghost account = { λ _. silent };
+    ghost telling = { λ _. None };
+
+    ghost count = { λ _. None };
+
+    ghost failure = { λ _. None };
 
     fn read_told(&mut self, buffer: &mut [u8]) -> Result<usize, Stop>
         ensures bound { IfOk result (λ n. n ≤ length buffer.new) }

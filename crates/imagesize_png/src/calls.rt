@@ -69,16 +69,16 @@ pub fn blob_size(data: &[u8]) -> ImageResult<ImageSize>
 /// assert_eq!(reader_size(&mut Cursor::new(bytes))?.width, 640);
 /// ```
 pub fn reader_size<R: Told>(reader: &mut R) -> ImageResult<ImageSize>
-    ensures answers { Answers (R.account reader.old).telling png_of result }
-    ensures counts { CountsWithin (R.account reader.old).telling (R.account reader.old).count (R.account reader.new).count png_of }
+    ensures answers { Answers (R.telling reader.old) png_of result }
+    ensures counts { CountsWithin (R.telling reader.old) (R.count reader.old) (R.count reader.new) png_of }
 
     // For every reader, even one without a model that reports a wrong length:
-    ensures spent { IfErr result (λ e. IfSome (budget_spent e) (λ budget. SpentAll (R.account reader.old).count (R.account reader.new).count budget)) }
+    ensures spent { IfErr result (λ e. IfSome (budget_spent e) (λ budget. SpentAll (R.count reader.old) (R.count reader.new) budget)) }
     ensures memory { IfErr result (λ e. is_memory e ≡ false) }
 
     // A `Fault` carries the error of the last call that failed, and the reader may be used again.
-    ensures fault { IfErr result (λ e. is_fault e ≡ true → IsLast (R.account reader.new).failure e) }
-    ensures leaves { Leaves (R.account reader.old).telling (R.account reader.new).telling }
+    ensures fault { IfErr result (λ e. is_fault e ≡ true → IsLast (R.failure reader.new) e) }
+    ensures leaves { Leaves (R.telling reader.old) (R.telling reader.new) }
 {
     let opened = open(reader, Origin::Offset)?;
     size_opened(reader, opened)
@@ -86,15 +86,15 @@ pub fn reader_size<R: Told>(reader: &mut R) -> ImageResult<ImageSize>
 
 // The size of the image in the bytes of a reader that was opened.
 fn size_opened<R: Told>(reader: &mut R, opened: Opened) -> ImageResult<ImageSize>
-    ensures answers { (telling : Option Telling) → Opens telling (R.account reader.old).telling (Ok opened)
+    ensures answers { (telling : Option Telling) → Opens telling (R.telling reader.old) (Ok opened)
         → Answers telling png_of result }
-    ensures counts { (telling : Option Telling) → Opens telling (R.account reader.old).telling (Ok opened)
-        → CountsWithin telling (R.account reader.old).count (R.account reader.new).count png_of }
-    ensures spent { IfErr result (λ e. IfSome (budget_spent e) (λ budget. SpentAll (R.account reader.old).count (R.account reader.new).count budget)) }
+    ensures counts { (telling : Option Telling) → Opens telling (R.telling reader.old) (Ok opened)
+        → CountsWithin telling (R.count reader.old) (R.count reader.new) png_of }
+    ensures spent { IfErr result (λ e. IfSome (budget_spent e) (λ budget. SpentAll (R.count reader.old) (R.count reader.new) budget)) }
     ensures memory { IfErr result (λ e. is_memory e ≡ false) }
-    ensures fault { IfErr result (λ e. is_fault e ≡ true → IsLast (R.account reader.new).failure e) }
-    ensures leaves { (telling : Option Telling) → Opens telling (R.account reader.old).telling (Ok opened)
-        → Leaves telling (R.account reader.new).telling }
+    ensures fault { IfErr result (λ e. is_fault e ≡ true → IsLast (R.failure reader.new) e) }
+    ensures leaves { (telling : Option Telling) → Opens telling (R.telling reader.old) (Ok opened)
+        → Leaves telling (R.telling reader.new) }
 {
     let mut source = ReaderSource::new(reader, opened.told);
     let found = size(&mut source, opened.offset);

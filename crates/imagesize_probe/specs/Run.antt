@@ -8,7 +8,7 @@ use Rattle.imagesize.specs.Meaning.{kind_of, meaning}
 use Rattle.imagesize_probe.specs.Line.{answer_line, refused_line, AppendsLine, AppendsLines, LacksMemory, ReportsSpans}
 use Rattle.imagesize_probe.specs.Status.{exit_status}
 use Rattle.imagesize_source.specs.Reason.{error_text}
-use Rattle.imagesize_io.specs.Telling.{Account, Telling, IsHonest}
+use Rattle.imagesize_io.specs.Telling.{Telling, IsHonest}
 use Rattle.imagesize_source.specs.declared.error.ImageError.{ImageError}
 use Rattle.imagesize_source.specs.declared.error.ImageError.TheVariants.{IoError}
 use Rattle.imagesize_source.specs.declared.error.Reason.TheVariants.{Memory}
@@ -25,15 +25,15 @@ pub record TellsAll (d : List ℕ) (t : Telling) : Type 0 where
   pub faultless : t.can_fail ≡ false
 
 -- what opening a file returns
-abbrev pub OpensAs : {R : Type 0} → (R → Account) → Result (List ℕ) ImageError → Result R ImageError → Type 0
-OpensAs account (Ok bytes) (Ok reader) = IsSomeAnd (account reader).telling (TellsAll bytes)
-OpensAs account (Ok bytes) (Err e) = ⊥
-OpensAs account (Err e) answer = answer ≡ Err e
+abbrev pub OpensAs : {R : Type 0} → (R → Option Telling) → Result (List ℕ) ImageError → Result R ImageError → Type 0
+OpensAs telling (Ok bytes) (Ok reader) = IsSomeAnd (telling reader) (TellsAll bytes)
+OpensAs telling (Ok bytes) (Err e) = ⊥
+OpensAs telling (Err e) answer = answer ≡ Err e
 
 -- what opening a name returns, if its file is known
-abbrev pub OpensTo : {R : Type 0} → (R → Account) → Option Files → List ℕ → Result R ImageError → Type 0
-OpensTo account None name answer = Unit {0}
-OpensTo account (Some files) name answer = OpensAs account (files name) answer
+abbrev pub OpensTo : {R : Type 0} → (R → Option Telling) → Option Files → List ℕ → Result R ImageError → Type 0
+OpensTo telling None name answer = Unit {0}
+OpensTo telling (Some files) name answer = OpensAs telling (files name) answer
 
 -- the line for a name, by its file
 abbrev pub line_behind : List ℕ → Result (List ℕ) ImageError → Option (List ℕ)

@@ -20,7 +20,7 @@ use std::io::{self, Write};
 /// Errors: only those of the writer, which may already have a part of the line.
 pub fn report<R: Told, W: Write>(name: &str, mut reader: R, writer: &mut W) -> io::Result<bool>
     ensures line { IfOk result (AppendsLine name.now (W.contents writer.old) (W.contents writer.new)) }
-    ensures told { IfOk result (Reports (R.account reader).telling name.now (W.contents writer.old) (W.contents writer.new)) }
+    ensures told { IfOk result (Reports (R.telling reader) name.now (W.contents writer.old) (W.contents writer.new)) }
 {
     let probed = reader_probe(&mut reader);
     write_line(name, probed.kind, probed.answer, writer)

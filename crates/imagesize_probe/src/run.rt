@@ -22,7 +22,7 @@ pub trait Open {
 
     /// Opens the reader for a name.
     fn open(&mut self, name: &str) -> ImageResult<Self::Reader>
-        ensures opens { OpensTo Self.Reader.account (known self.old) name.now result }
+        ensures opens { OpensTo Self.Reader.telling (known self.old) name.now result }
         ensures keeps { known self.new ≡ known self.old };
 
     /// The bytes for a name, at most one more than the greatest number whose spans are shown.

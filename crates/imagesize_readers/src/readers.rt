@@ -2,7 +2,7 @@
 ghost use Rattle.std.specs.Prelude.{◌≡◌, ◌≢◌, ℕ, pos, zero, ◌+◌, ◌-◌, ◌%◌, ◌^◌, ◌<◌, ◌≤◌, min, length, slice_get, Option, None, Some, Ok, Err, IfOk, IfErr, true, false, not};
 ghost use Rattle.std.specs.Io.Cursor.{cursor_inner, cursor_position};
 ghost use Rattle.std.specs.declared.io.Error.{Error};
-ghost use Rattle.imagesize_io.specs.Telling.{ReadTells, SeekTells, count_after, failure_after, failure_after_read, may_fail, silent};
+ghost use Rattle.imagesize_io.specs.Telling.{ReadTells, SeekTells, count_after, failure_after, failure_after_read, may_fail};
 ghost use Rattle.imagesize_readers.specs.Readers.{interrupted_more, halting_telling, StandsAt, StandsAtEnd, failure_at, left_after};
 
 use imagesize_io::{Stop, Told};
@@ -34,13 +34,17 @@ impl<R: Told> Cutting<'static, R> {
 }
 
 impl<R: Told> Told for Cutting<'_, R> {
-    ghost account = { λ r. R.account r.reader };
+    ghost telling = { λ r. R.telling r.reader };
+
+    ghost count = { λ r. R.count r.reader };
+
+    ghost failure = { λ r. R.failure r.reader };
 
     fn read_told(&mut self, buffer: &mut [u8]) -> Result<usize, Stop>
         ensures bound { IfOk result (λ n. n ≤ length buffer.new) }
-        ensures told { ReadTells (R.account self.old.reader).telling (R.account self.new.reader).telling buffer.new result }
-        ensures counts { (R.account self.new.reader).count ≡ count_after (R.account self.old.reader).count result }
-        ensures fails { (R.account self.new.reader).failure ≡ failure_after_read (R.account self.old.reader).failure result }
+        ensures told { ReadTells (R.telling self.old.reader) (R.telling self.new.reader) buffer.new result }
+        ensures counts { R.count self.new.reader ≡ count_after (R.count self.old.reader) result }
+        ensures fails { R.failure self.new.reader ≡ failure_after_read (R.failure self.old.reader) result }
         ensures cuts { (most : ℕ) → slice_get self.old.lengths.now self.old.next ≡ Some most → 0 < most
             → IfOk result (λ n. n ≤ most) }
         ensures one { slice_get self.old.lengths.now self.old.next ≡ None → IfOk result (λ n. n ≤ 1) }
@@ -73,18 +77,18 @@ pub struct Counting<'a, R: Told> {
 }
 
 impl<R: Told> Told for Counting<'_, R> {
-    ghost account = { λ r. record {
-      telling = may_fail (R.account r.reader).telling;
-      count = Some r.count.now;
-      failure = None;
-    } };
+    ghost telling = { λ r. may_fail (R.telling r.reader) };
+
+    ghost count = { λ r. Some r.count.now };
+
+    ghost failure = { λ _. None };
 
     fn read_told(&mut self, buffer: &mut [u8]) -> Result<usize, Stop>
         ensures bound { IfOk result (λ n. n ≤ length buffer.new) }
-        ensures told { ReadTells (may_fail (R.account self.old.reader).telling) (may_fail (R.account self.new.reader).telling) buffer.new result }
+        ensures told { ReadTells (may_fail (R.telling self.old.reader)) (may_fail (R.telling self.new.reader)) buffer.new result }
         ensures counts { ◌≡◌ {A = Option ℕ} (Some self.new.count.now) (count_after (Some self.old.count.now) result) }
         ensures gives { self.old.count.now + length buffer.old < 2 ^ 64
-            → ReadTells (R.account self.old.reader).telling (R.account self.new.reader).telling buffer.new result }
+            → ReadTells (R.telling self.old.reader) (R.telling self.new.reader) buffer.new result }
     {
         let given = self.reader.read_told(buffer)?;
         match self.count.checked_add(given as u64) {
@@ -97,9 +101,9 @@ impl<R: Told> Told for Counting<'_, R> {
     }
 
     fn seek_told(&mut self, to: SeekFrom) -> io::Result<u64>
-        ensures told { SeekTells (may_fail (R.account self.old.reader).telling) (may_fail (R.account self.new.reader).telling) to result }
+        ensures told { SeekTells (may_fail (R.telling self.old.reader)) (may_fail (R.telling self.new.reader)) to result }
         ensures counts { ◌≡◌ {A = Option ℕ} (Some self.new.count.now) (Some self.old.count.now) }
-        ensures goes { SeekTells (R.account self.old.reader).telling (R.account self.new.reader).telling to result }
+        ensures goes { SeekTells (R.telling self.old.reader) (R.telling self.new.reader) to result }
     {
         self.reader.seek_told(to)
     }
@@ -115,13 +119,17 @@ pub struct Calls<'a, R: Told> {
 }
 
 impl<R: Told> Told for Calls<'_, R> {
-    ghost account = { λ r. R.account r.reader };
+    ghost telling = { λ r. R.telling r.reader };
+
+    ghost count = { λ r. R.count r.reader };
+
+    ghost failure = { λ r. R.failure r.reader };
 
     fn read_told(&mut self, buffer: &mut [u8]) -> Result<usize, Stop>
         ensures bound { IfOk result (λ n. n ≤ length buffer.new) }
-        ensures told { ReadTells (R.account self.old.reader).telling (R.account self.new.reader).telling buffer.new result }
-        ensures counts { (R.account self.new.reader).count ≡ count_after (R.account self.old.reader).count result }
-        ensures fails { (R.account self.new.reader).failure ≡ failure_after_read (R.account self.old.reader).failure result }
+        ensures told { ReadTells (R.telling self.old.reader) (R.telling self.new.reader) buffer.new result }
+        ensures counts { R.count self.new.reader ≡ count_after (R.count self.old.reader) result }
+        ensures fails { R.failure self.new.reader ≡ failure_after_read (R.failure self.old.reader) result }
         ensures made { self.new.made.now ≡ (min (self.old.made.now.0 + 1) u32.MAX, self.old.made.now.1) }
     {
         self.made.0 = self.made.0.saturating_add(1);
@@ -129,9 +137,9 @@ impl<R: Told> Told for Calls<'_, R> {
     }
 
     fn seek_told(&mut self, to: SeekFrom) -> io::Result<u64>
-        ensures told { SeekTells (R.account self.old.reader).telling (R.account self.new.reader).telling to result }
-        ensures counts { (R.account self.new.reader).count ≡ (R.account self.old.reader).count }
-        ensures fails { (R.account self.new.reader).failure ≡ failure_after (R.account self.old.reader).failure result }
+        ensures told { SeekTells (R.telling self.old.reader) (R.telling self.new.reader) to result }
+        ensures counts { R.count self.new.reader ≡ R.count self.old.reader }
+        ensures fails { R.failure self.new.reader ≡ failure_after (R.failure self.old.reader) result }
         ensures made { self.new.made.now ≡ (self.old.made.now.0, min (self.old.made.now.1 + 1) u32.MAX) }
     {
         self.made.1 = self.made.1.saturating_add(1);
@@ -151,17 +159,17 @@ pub struct Interrupted<R: Told> {
 }
 
 impl<R: Told> Told for Interrupted<R> {
-    ghost account = { λ r. record {
-      telling = interrupted_more r.left (R.account r.reader).telling;
-      count = (R.account r.reader).count;
-      failure = None;
-    } };
+    ghost telling = { λ r. interrupted_more r.left (R.telling r.reader) };
+
+    ghost count = { λ r. R.count r.reader };
+
+    ghost failure = { λ _. None };
 
     fn read_told(&mut self, buffer: &mut [u8]) -> Result<usize, Stop>
         ensures bound { IfOk result (λ n. n ≤ length buffer.new) }
-        ensures told { ReadTells (interrupted_more self.old.left (R.account self.old.reader).telling)
-            (interrupted_more self.new.left (R.account self.new.reader).telling) buffer.new result }
-        ensures counts { (R.account self.new.reader).count ≡ count_after (R.account self.old.reader).count result }
+        ensures told { ReadTells (interrupted_more self.old.left (R.telling self.old.reader))
+            (interrupted_more self.new.left (R.telling self.new.reader)) buffer.new result }
+        ensures counts { R.count self.new.reader ≡ count_after (R.count self.old.reader) result }
         ensures interrupts { 0 < self.old.left → result ≡ Err (Stop.Interrupted self.old.error) }
     {
         if self.left > 0 {
@@ -186,11 +194,11 @@ pub struct Halting<'a> {
 }
 
 impl Told for Halting<'_> {
-    ghost account = { λ r. record {
-      telling = halting_telling (cursor_inner r.reader.reader).now (cursor_position r.reader.reader) r.reader.left;
-      count = None;
-      failure = None;
-    } };
+    ghost telling = { λ r. halting_telling (cursor_inner r.reader.reader).now (cursor_position r.reader.reader) r.reader.left };
+
+    ghost count = { λ _. None };
+
+    ghost failure = { λ _. None };
 
     fn read_told(&mut self, buffer: &mut [u8]) -> Result<usize, Stop>
         ensures bound { IfOk result (λ n. n ≤ length buffer.new) }
@@ -249,20 +257,20 @@ impl<R: Told> Failing<R> {
 }
 
 impl<R: Told> Told for Failing<R> {
-    ghost account = { λ r. record {
-      telling = may_fail (R.account r.reader).telling;
-      count = (R.account r.reader).count;
-      failure = Some r.last;
-    } };
+    ghost telling = { λ r. may_fail (R.telling r.reader) };
+
+    ghost count = { λ r. R.count r.reader };
+
+    ghost failure = { λ r. Some r.last };
 
     fn read_told(&mut self, buffer: &mut [u8]) -> Result<usize, Stop>
         ensures bound { IfOk result (λ n. n ≤ length buffer.new) }
-        ensures told { ReadTells (may_fail (R.account self.old.reader).telling) (may_fail (R.account self.new.reader).telling) buffer.new result }
-        ensures counts { (R.account self.new.reader).count ≡ count_after (R.account self.old.reader).count result }
+        ensures told { ReadTells (may_fail (R.telling self.old.reader)) (may_fail (R.telling self.new.reader)) buffer.new result }
+        ensures counts { R.count self.new.reader ≡ count_after (R.count self.old.reader) result }
         ensures last { ◌≡◌ {A = Option (Option Error)} (Some self.new.last) (failure_after_read (Some self.old.last) result) }
         ensures fails { self.old.left ≡ Some 0 → result ≡ Err (Stop.Fault self.old.error) }
         ensures gives { failure_at self.old.left self.old.error ≡ Ok tt
-            → ReadTells (R.account self.old.reader).telling (R.account self.new.reader).telling buffer.new result }
+            → ReadTells (R.telling self.old.reader) (R.telling self.new.reader) buffer.new result }
         ensures left { self.new.left ≡ left_after self.old.left }
     {
         let answer = match self.step() {
@@ -276,12 +284,12 @@ impl<R: Told> Told for Failing<R> {
     }
 
     fn seek_told(&mut self, to: SeekFrom) -> io::Result<u64>
-        ensures told { SeekTells (may_fail (R.account self.old.reader).telling) (may_fail (R.account self.new.reader).telling) to result }
-        ensures counts { (R.account self.new.reader).count ≡ (R.account self.old.reader).count }
+        ensures told { SeekTells (may_fail (R.telling self.old.reader)) (may_fail (R.telling self.new.reader)) to result }
+        ensures counts { R.count self.new.reader ≡ R.count self.old.reader }
         ensures last { ◌≡◌ {A = Option (Option Error)} (Some self.new.last) (failure_after (Some self.old.last) result) }
         ensures fails { self.old.left ≡ Some 0 → result ≡ Err self.old.error }
         ensures goes { failure_at self.old.left self.old.error ≡ Ok tt
-            → SeekTells (R.account self.old.reader).telling (R.account self.new.reader).telling to result }
+            → SeekTells (R.telling self.old.reader) (R.telling self.new.reader) to result }
         ensures left { self.new.left ≡ left_after self.old.left }
     {
         let answer = match self.step() {
@@ -307,36 +315,36 @@ pub struct Claiming<R: Told> {
 }
 
 impl<R: Told> Told for Claiming<R> {
-    ghost account = { λ r. record {
-      telling = None;
-      count = (R.account r.reader).count;
-      failure = (R.account r.reader).failure;
-    } };
+    ghost telling = { λ _. None };
+
+    ghost count = { λ r. R.count r.reader };
+
+    ghost failure = { λ r. R.failure r.reader };
 
     fn read_told(&mut self, buffer: &mut [u8]) -> Result<usize, Stop>
         ensures bound { IfOk result (λ n. n ≤ length buffer.new) }
         ensures told { ReadTells None None buffer.new result }
-        ensures counts { (R.account self.new.reader).count ≡ count_after (R.account self.old.reader).count result }
-        ensures fails { (R.account self.new.reader).failure ≡ failure_after_read (R.account self.old.reader).failure result }
-        ensures gives { ReadTells (R.account self.old.reader).telling (R.account self.new.reader).telling buffer.new result }
+        ensures counts { R.count self.new.reader ≡ count_after (R.count self.old.reader) result }
+        ensures fails { R.failure self.new.reader ≡ failure_after_read (R.failure self.old.reader) result }
+        ensures gives { ReadTells (R.telling self.old.reader) (R.telling self.new.reader) buffer.new result }
     {
         self.reader.read_told(buffer)
     }
 
     fn seek_told(&mut self, to: SeekFrom) -> io::Result<u64>
         ensures told { SeekTells None None to result }
-        ensures counts { (R.account self.new.reader).count ≡ (R.account self.old.reader).count }
-        ensures fails { (R.account self.new.reader).failure ≡ failure_after (R.account self.old.reader).failure result }
+        ensures counts { R.count self.new.reader ≡ R.count self.old.reader }
+        ensures fails { R.failure self.new.reader ≡ failure_after (R.failure self.old.reader) result }
         ensures claims { to ≡ SeekFrom.End (pos zero) → IfOk result (λ offset. offset ≡ self.old.told) }
         ensures stands { self.old.goes_there ≡ true → to ≡ SeekFrom.End (pos zero) → IfOk result (λ offset.
-            StandsAt (R.account self.old.reader).telling (R.account self.new.reader).telling self.old.told) }
+            StandsAt (R.telling self.old.reader) (R.telling self.new.reader) self.old.told) }
         ensures stands_elsewhere { self.old.goes_there ≡ false → to ≡ SeekFrom.End (pos zero) → IfOk result (λ offset.
-            StandsAtEnd (R.account self.old.reader).telling (R.account self.new.reader).telling) }
+            StandsAtEnd (R.telling self.old.reader) (R.telling self.new.reader)) }
         ensures ends { self.old.goes_there ≡ true → to ≡ SeekFrom.End (pos zero) → IfErr result (λ e.
-            SeekTells (R.account self.old.reader).telling (R.account self.new.reader).telling (SeekFrom.Start self.old.told) (Err e)) }
+            SeekTells (R.telling self.old.reader) (R.telling self.new.reader) (SeekFrom.Start self.old.told) (Err e)) }
         ensures ends_elsewhere { self.old.goes_there ≡ false → to ≡ SeekFrom.End (pos zero) → IfErr result (λ e.
-            SeekTells (R.account self.old.reader).telling (R.account self.new.reader).telling to (Err e)) }
-        ensures goes { to ≢ SeekFrom.End (pos zero) → SeekTells (R.account self.old.reader).telling (R.account self.new.reader).telling to result }
+            SeekTells (R.telling self.old.reader) (R.telling self.new.reader) to (Err e)) }
+        ensures goes { to ≢ SeekFrom.End (pos zero) → SeekTells (R.telling self.old.reader) (R.telling self.new.reader) to result }
     {
         let end = match to {
             SeekFrom::End(0) if self.goes_there => SeekFrom::Start(self.told),
@@ -380,7 +388,11 @@ impl Endless<'_> {
 }
 
 impl Told for Endless<'_> {
-    ghost account = { λ _. silent };
+    ghost telling = { λ _. None };
+
+    ghost count = { λ _. None };
+
+    ghost failure = { λ _. None };
 
     fn read_told(&mut self, buffer: &mut [u8]) -> Result<usize, Stop>
         ensures bound { IfOk result (λ n. n ≤ length buffer.new) }

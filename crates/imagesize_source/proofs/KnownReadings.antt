@@ -248,11 +248,11 @@ module _ (n : ℕ) (spans : List Span) (bytes : List ℕ) (log : List Span) (mis
 
 -- ---- as the code has them
 
-pub state_is : {n m : ℕ} {spans others : List Span} {bytes content : List ℕ} {log more : List Span}
-    {missed also : Option Missing} → m ≡ n
+pub state_is : (n m : ℕ) (spans others : List Span) (bytes content : List ℕ) (log more : List Span)
+    (missed also : Option Missing) → m ≡ n
     → others ≡ spans → content ≡ bytes → more ≡ log → also ≡ missed
     → parts_state m others content more also ≡ parts_state n spans bytes log missed
-state_is {n} {m} {spans} {others} {bytes} {content} {log} {more} {missed} {also} told is_spans is_bytes is_log is_missed =
+state_is n m spans others bytes content log more missed also told is_spans is_bytes is_log is_missed =
     ap (λ x. parts_state x others content more also) told ∙ ap (λ x. parts_state n x content more also) is_spans
     ∙ ap (λ x. parts_state n spans x more also) is_bytes ∙ ap (λ x. parts_state n spans bytes x also) is_log
     ∙ ap (parts_state n spans bytes log) is_missed

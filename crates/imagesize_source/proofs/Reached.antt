@@ -167,38 +167,34 @@ module _ {X Y : Type 0} {a b : State} {whole : Reads X} (reads : Reads Y) (f : Y
           ∙ behind-behind h.made given.marks (uncounted (f y));
     }
 
-    -- the next readings are the first of those that are left
-    module _ (given : Reads Y) (same : a.held.honest ≡ true → given ≡ reads) (honest : a.held.honest ≡ true) where
-      begins : (more : List Span) × ((and_then reads f).marks ≡ given.marks ++ more)
-      begins = subst (λ (w : Reads Y). (more : List Span) × ((and_then reads f).marks ≡ w.marks ++ more))
-          (sym (same honest)) (marks_onward reads.marks reads.answer f)
-
-      fewer : total given.marks ≤ total (and_then reads f).marks
-      fewer =
-          let is = ap (λ w. total w.marks) (same honest) in
-          let more = total_onward reads.marks reads.answer f in omega arith
-
-      onward : (s : Result Y Halt) → given.answer ≡ s → go_on reads.marks reads.answer f ≡ go_on given.marks s f
-      onward s is = ap (λ w. go_on w.marks w.answer f) (sym (same honest)) ∙ ap (λ r. go_on given.marks r f) is
-
     -- the next readings were refused
     pub reached_out : {end : State} (e : Halt) (given : Reads Y) → Runs b end (Err e) given
         → (a.held.honest ≡ true → given ≡ reads)
         → Runs a end (Err e) whole
     reached_out e given run same = ended_by h (Err e) (Err e) given run refl refl run.ended
-        (begins given same) (fewer given same)
+        (λ honest. subst (λ (w : Reads Y). (more : List Span) × ((and_then reads f).marks ≡ w.marks ++ more))
+        (sym (same honest))
+        (marks_onward reads.marks reads.answer f))
+        (λ honest. let is = ap (λ w. total w.marks) (same honest) in
+        let more = total_onward reads.marks reads.answer f in omega arith)
         (λ honest is.
-        let out = onward given same honest (Err e) is in
+        let out : go_on reads.marks reads.answer f ≡ just (Err e) given.marks =
+        ap (λ w. go_on w.marks w.answer f) (sym (same honest)) ∙ onward_at given.marks given.answer (Err e) f is in
         (ap (λ w. w.answer) out, ap (λ w. w.marks) out))
 
     -- the next readings gave the answer, behind which nothing is read
     pub reached_stop : {end : State} (x : X) (y : Y) (given : Reads Y) → f y ≡ gives x → Runs b end (Ok y) given
         → (a.held.honest ≡ true → given ≡ reads) → Runs a end (Ok x) whole
     reached_stop x y given last run same = ended_by h (Ok x) (Ok y) given run refl refl tt
-        (begins given same) (fewer given same)
+        (λ honest. subst (λ (w : Reads Y). (more : List Span) × ((and_then reads f).marks ≡ w.marks ++ more))
+        (sym (same honest))
+        (marks_onward reads.marks reads.answer f))
+        (λ honest. let is = ap (λ w. total w.marks) (same honest) in
+        let more = total_onward reads.marks reads.answer f in omega arith)
         (λ honest is.
         let out : go_on reads.marks reads.answer f ≡ put_behind given.marks (gives x) =
-        onward given same honest (Ok y) is ∙ ap (put_behind given.marks) last in
+        ap (λ w. go_on w.marks w.answer f) (sym (same honest)) ∙ onward_at given.marks given.answer (Ok y) f is
+        ∙ ap (put_behind given.marks) last in
         (ap (λ w. w.answer) out, ap (λ w. w.marks) out ∙ append-nil given.marks))
 
 -- a walk along a chain, from which what is left is the chain from here on

@@ -20,9 +20,6 @@ pub enum Found<C, X> {
     Other { held: C, length: u64 },
 }
 
-/// What a walk finds at a record, or why it stops there.
-pub type Step<C, X> = Result<Found<C, X>, Halt>;
-
 /// A sequence of records.
 pub trait Records {
     /// What a record holds.
@@ -35,14 +32,14 @@ pub trait Records {
     ghost said: { Self → List Self.Held → ℕ → Layout (Said Self.Held Self.Answer) };
 
     /// What the value keeps about the records before an offset, which hold these values.
-    ghost keeps: { Self → List Self.Held → ℕ → Type 0 } = { λ _ _ _. Unit {0} };
+    ghost keeps: { Self → List Self.Held → ℕ → Type 0 };
 
     /// Reads the record at an offset.
     fn read_record<S: Source>(
         &mut self,
         source: &mut S,
         offset: u64,
-    ) -> Step<Self::Held, Self::Answer>
+    ) -> Result<Found<Self::Held, Self::Answer>, Halt>
         requires { (held : List Self.Held) × keeps self.now held offset }
         ensures same { said self.new ≡ said self.old }
         ensures nears { IfOk result (λ found. Nears (S.state source.old) (S.state source.new) offset (said_at offset found)) }

@@ -15,7 +15,7 @@ use imagesize_boxes::formats::jxl;
 use imagesize_boxes::formats::jxl::front::Front;
 use imagesize_source::readings::read_bytes;
 use imagesize_source::source::Source;
-use imagesize_source::walk::{Found, Records, Step};
+use imagesize_source::walk::{Found, Records};
 use imagesize_source::{Endian, Halt};
 use imagesize_texts::formats::exr::Attributes;
 use imagesize_texts::formats::hdr::{LINE_ROOM, Lines};
@@ -112,7 +112,7 @@ impl Awaited {
         &mut self,
         source: &mut S,
         offset: u64,
-    ) -> Step<(), ImageSize>
+    ) -> Result<Found<(), ImageSize>, Halt>
         requires steady { IsSteady self.old offset }
         requires texts { is_text self.old ≡ TEXTS }
         ensures nears { IfOk (leading_to self.new result) (λ found. Nears (S.state source.old) (S.state source.new) offset (said_at offset found)) }
@@ -128,7 +128,11 @@ impl Awaited {
     }
 
     // Reads a record that is a text.
-    fn advance_text<S: Source>(&mut self, source: &mut S, offset: u64) -> Step<(), ImageSize>
+    fn advance_text<S: Source>(
+        &mut self,
+        source: &mut S,
+        offset: u64,
+    ) -> Result<Found<(), ImageSize>, Halt>
         requires { is_text self.old ≡ true }
         ensures nears { IfOk (leading_to self.new result) (λ found. Nears (S.state source.old) (S.state source.new) offset (said_at offset found)) }
         ensures steady { IfOk (leading_to self.new result) (λ found. StaysSteady true (said_at offset found)) }
@@ -146,7 +150,11 @@ impl Awaited {
     }
 
     // Reads a record that is no text.
-    fn advance_other<S: Source>(&mut self, source: &mut S, offset: u64) -> Step<(), ImageSize>
+    fn advance_other<S: Source>(
+        &mut self,
+        source: &mut S,
+        offset: u64,
+    ) -> Result<Found<(), ImageSize>, Halt>
         requires steady { IsSteady self.old offset }
         requires other { is_text self.old ≡ false }
         ensures nears { IfOk (leading_to self.new result) (λ found. Nears (S.state source.old) (S.state source.new) offset (said_at offset found)) }
@@ -193,7 +201,7 @@ fn read_same<R: Records<Held = (), Answer = ImageSize>, S: Source>(
     records: &mut R,
     source: &mut S,
     offset: u64,
-) -> Step<(), ImageSize>
+) -> Result<Found<(), ImageSize>, Halt>
     requires keeps { R.keeps records.old [] offset }
     ensures nears { (next : Awaited) → IfOk (leading_to next result) (λ found. Nears (S.state source.old) (S.state source.new) offset (said_at offset found)) }
     ensures runs { (next : Awaited) → Follows (S.state source.old) (S.state source.new) (map_answer (said_at offset) (leading_to next result))
@@ -207,7 +215,7 @@ fn read_segment<S: Source>(
     source: &mut S,
     offset: u64,
     depth: u64,
-) -> Step<(), ImageSize>
+) -> Result<Found<(), ImageSize>, Halt>
     requires { depth < offset }
     ensures nears { IfOk (leading_to next.new result) (λ found. Nears (S.state source.old) (S.state source.new) offset (said_at offset found)) }
     ensures steady { IfOk (leading_to next.new result) (λ found. StaysSteady false (said_at offset found)) }
@@ -226,7 +234,11 @@ fn read_segment<S: Source>(
     }
 }
 
-fn read_attribute<S: Source>(source: &mut S, offset: u64, long: bool) -> Step<(), ImageSize>
+fn read_attribute<S: Source>(
+    source: &mut S,
+    offset: u64,
+    long: bool,
+) -> Result<Found<(), ImageSize>, Halt>
     ensures nears { IfOk (leading_to (awaited.Attribute long) result) (λ found. Nears (S.state source.old) (S.state source.new) offset (said_at offset found)) }
     ensures steady { IfOk (leading_to (awaited.Attribute long) result) (λ found. StaysSteady true (said_at offset found)) }
     ensures runs { Follows (S.state source.old) (S.state source.new) (map_answer (said_at offset) (leading_to (awaited.Attribute long) result)) (step (awaited.Attribute long) offset) }
@@ -244,7 +256,7 @@ fn names_of(long: bool) -> usize
     if long { 256 } else { 32 }
 }
 
-fn read_line<S: Source>(source: &mut S, offset: u64) -> Step<(), ImageSize>
+fn read_line<S: Source>(source: &mut S, offset: u64) -> Result<Found<(), ImageSize>, Halt>
     ensures nears { IfOk (leading_to awaited.Line result) (λ found. Nears (S.state source.old) (S.state source.new) offset (said_at offset found)) }
     ensures steady { IfOk (leading_to awaited.Line result) (λ found. StaysSteady true (said_at offset found)) }
     ensures runs { Follows (S.state source.old) (S.state source.new) (map_answer (said_at offset) (leading_to awaited.Line result)) (step awaited.Line offset) }
@@ -256,7 +268,11 @@ fn read_line<S: Source>(source: &mut S, offset: u64) -> Step<(), ImageSize>
 }
 
 #[tactic(auto, using(imagesize_source::proofs::Runs::steps))]
-fn read_word<S: Source>(next: &mut Awaited, source: &mut S, offset: u64) -> Step<(), ImageSize>
+fn read_word<S: Source>(
+    next: &mut Awaited,
+    source: &mut S,
+    offset: u64,
+) -> Result<Found<(), ImageSize>, Halt>
     ensures nears { IfOk (leading_to next.new result) (λ found. Nears (S.state source.old) (S.state source.new) offset (said_at offset found)) }
     ensures steady { IfOk (leading_to next.new result) (λ found. StaysSteady true (said_at offset found)) }
     ensures stays { IfErr result (λ _. next.new ≡ next.old) }
@@ -293,7 +309,11 @@ fn behind_word(word: &Word<'_>) -> Awaited
 }
 
 #[tactic(auto, using(imagesize_source::proofs::Runs::steps))]
-fn read_comment<S: Source>(next: &mut Awaited, source: &mut S, offset: u64) -> Step<(), ImageSize>
+fn read_comment<S: Source>(
+    next: &mut Awaited,
+    source: &mut S,
+    offset: u64,
+) -> Result<Found<(), ImageSize>, Halt>
     ensures nears { IfOk (leading_to next.new result) (λ found. Nears (S.state source.old) (S.state source.new) offset (said_at offset found)) }
     ensures steady { IfOk (leading_to next.new result) (λ found. StaysSteady true (said_at offset found)) }
     ensures stays { IfErr result (λ _. next.new ≡ next.old) }
@@ -309,7 +329,11 @@ fn read_comment<S: Source>(next: &mut Awaited, source: &mut S, offset: u64) -> S
 }
 
 #[tactic(auto, using(imagesize_source::proofs::Runs::steps))]
-fn read_height<S: Source>(source: &mut S, offset: u64, width: Option<usize>) -> Step<(), ImageSize>
+fn read_height<S: Source>(
+    source: &mut S,
+    offset: u64,
+    width: Option<usize>,
+) -> Result<Found<(), ImageSize>, Halt>
     ensures nears { IfOk (leading_to (awaited.Height width) result) (λ found. Nears (S.state source.old) (S.state source.new) offset (said_at offset found)) }
     ensures steady { IfOk (leading_to (awaited.Height width) result) (λ found. StaysSteady true (said_at offset found)) }
     ensures runs { Follows (S.state source.old) (S.state source.new) (map_answer (said_at offset) (leading_to (awaited.Height width) result)) (step (awaited.Height width) offset) }
@@ -328,7 +352,7 @@ fn read_icon<S: Source>(
     count: u16,
     seen: u16,
     largest: Option<ImageSize>,
-) -> Step<(), ImageSize>
+) -> Result<Found<(), ImageSize>, Halt>
     requires seen { seen ≤ count }
     requires small { IsSmall largest }
     ensures nears { IfOk (leading_to next.new result) (λ found. Nears (S.state source.old) (S.state source.new) offset (said_at offset found)) }
@@ -360,7 +384,7 @@ fn read_directory<S: Source>(
     source: &mut S,
     offset: u64,
     header: Header,
-) -> Step<(), ImageSize>
+) -> Result<Found<(), ImageSize>, Halt>
     ensures nears { IfOk (leading_to next.new result) (λ found. Nears (S.state source.old) (S.state source.new) offset (said_at offset found)) }
     ensures steady { IfOk (leading_to next.new result) (λ found. StaysSteady false (said_at offset found)) }
     ensures stays { IfErr result (λ _. next.new ≡ next.old) }
@@ -408,7 +432,7 @@ fn read_entry<S: Source>(
     source: &mut S,
     offset: u64,
     listed: Listed,
-) -> Step<(), ImageSize>
+) -> Result<Found<(), ImageSize>, Halt>
     requires { listed.seen ≤ listed.count }
     ensures nears { IfOk (leading_to next.new result) (λ found. Nears (S.state source.old) (S.state source.new) offset (said_at offset found)) }
     ensures steady { IfOk (leading_to next.new result) (λ found. StaysSteady false (said_at offset found)) }
@@ -427,7 +451,7 @@ fn read_entry_of<S: Source, const HEAD: usize, const VALUE: usize>(
     source: &mut S,
     offset: u64,
     listed: Listed,
-) -> Step<(), ImageSize>
+) -> Result<Found<(), ImageSize>, Halt>
     requires few { listed.seen ≤ listed.count }
     requires head { HEAD ≡ head_bytes listed.header.version }
     requires value { VALUE ≡ value_bytes listed.header.version }
@@ -466,7 +490,11 @@ fn read_entry_of<S: Source, const HEAD: usize, const VALUE: usize>(
 }
 
 #[tactic(auto, using(imagesize_source::proofs::Runs::steps, imagesize_source::proofs::Runs::missed_before, imagesize_source::proofs::Layouts::binding))]
-fn read_meta<S: Source>(next: &mut Awaited, source: &mut S, offset: u64) -> Step<(), ImageSize>
+fn read_meta<S: Source>(
+    next: &mut Awaited,
+    source: &mut S,
+    offset: u64,
+) -> Result<Found<(), ImageSize>, Halt>
     ensures nears { IfOk (leading_to next.new result) (λ found. Nears (S.state source.old) (S.state source.new) offset (said_at offset found)) }
     ensures steady { IfOk (leading_to next.new result) (λ found. StaysSteady false (said_at offset found)) }
     ensures stays { IfErr result (λ _. next.new ≡ next.old) }
@@ -489,7 +517,11 @@ fn read_meta<S: Source>(next: &mut Awaited, source: &mut S, offset: u64) -> Step
 }
 
 #[tactic(auto, using(imagesize_source::proofs::Runs::steps, imagesize_source::proofs::Runs::missed_before, imagesize_source::proofs::Layouts::binding))]
-fn read_iprp<S: Source>(next: &mut Awaited, source: &mut S, offset: u64) -> Step<(), ImageSize>
+fn read_iprp<S: Source>(
+    next: &mut Awaited,
+    source: &mut S,
+    offset: u64,
+) -> Result<Found<(), ImageSize>, Halt>
     ensures nears { IfOk (leading_to next.new result) (λ found. Nears (S.state source.old) (S.state source.new) offset (said_at offset found)) }
     ensures steady { IfOk (leading_to next.new result) (λ found. StaysSteady false (said_at offset found)) }
     ensures stays { IfErr result (λ _. next.new ≡ next.old) }
@@ -511,7 +543,11 @@ fn read_iprp<S: Source>(next: &mut Awaited, source: &mut S, offset: u64) -> Step
 }
 
 #[tactic(auto, using(imagesize_source::proofs::Runs::steps, imagesize_source::proofs::Runs::missed_before, imagesize_source::proofs::Layouts::binding))]
-fn read_ipco<S: Source>(next: &mut Awaited, source: &mut S, offset: u64) -> Step<(), ImageSize>
+fn read_ipco<S: Source>(
+    next: &mut Awaited,
+    source: &mut S,
+    offset: u64,
+) -> Result<Found<(), ImageSize>, Halt>
     ensures nears { IfOk (leading_to next.new result) (λ found. Nears (S.state source.old) (S.state source.new) offset (said_at offset found)) }
     ensures steady { IfOk (leading_to next.new result) (λ found. StaysSteady false (said_at offset found)) }
     ensures stays { IfErr result (λ _. next.new ≡ next.old) }
@@ -543,7 +579,7 @@ fn read_listed<S: Source>(
     source: &mut S,
     offset: u64,
     gathered: Gathered,
-) -> Step<(), ImageSize>
+) -> Result<Found<(), ImageSize>, Halt>
     ensures nears { IfOk (leading_to next.new result) (λ found. Nears (S.state source.old) (S.state source.new) offset (said_at offset found)) }
     ensures steady { IfOk (leading_to next.new result) (λ found. StaysSteady false (said_at offset found)) }
     ensures stays { IfErr result (λ _. next.new ≡ next.old) }
@@ -575,7 +611,7 @@ fn read_jxl_box<S: Source>(
     source: &mut S,
     offset: u64,
     kept: Kept,
-) -> Step<(), ImageSize>
+) -> Result<Found<(), ImageSize>, Halt>
     requires { kept.len ≤ 16 }
     ensures nears { IfOk (leading_to next.new result) (λ found. Nears (S.state source.old) (S.state source.new) offset (said_at offset found)) }
     ensures steady { IfOk (leading_to next.new result) (λ found. StaysSteady false (said_at offset found)) }

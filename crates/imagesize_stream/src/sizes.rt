@@ -4,7 +4,7 @@ ghost use Rattle.imagesize_stream.specs.Steps.{Awaits, awaited_said};
 use crate::awaited::Awaited;
 use imagesize_source::Halt;
 use imagesize_source::source::Source;
-use imagesize_source::walk::{Found, Records, Step};
+use imagesize_source::walk::{Found, Records};
 use imagesize_types::size::ImageSize;
 
 /// The records from the next one on. `TEXTS` says whether they are texts.
@@ -23,7 +23,11 @@ impl<const TEXTS: bool> Records for Sizes<TEXTS> {
     ghost keeps = { λ sizes held offset. Awaits TEXTS sizes.next held offset };
 
     #[inline(always)]
-    fn read_record<S: Source>(&mut self, source: &mut S, offset: u64) -> Step<Awaited, ImageSize> {
+    fn read_record<S: Source>(
+        &mut self,
+        source: &mut S,
+        offset: u64,
+    ) -> Result<Found<Awaited, ImageSize>, Halt> {
         match self.next.advance::<S, TEXTS>(source, offset)? {
             Found::Answer(size) => Ok(Found::Answer(size)),
             Found::Other { length, .. } => Ok(Found::Other {

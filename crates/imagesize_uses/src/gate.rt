@@ -31,14 +31,14 @@ pub struct Admission {
 ///
 /// Afterwards the reader's offset is unspecified, and the reader may be used again.
 pub fn admit<R: Told>(reader: &mut R, most_pixels: u64) -> Admission
-    ensures admits { Admits (R.account reader.old).telling most_pixels result }
+    ensures admits { Admits (R.telling reader.old) most_pixels result }
 
     // For every reader, even one that reports a wrong length:
     ensures few { IfOk result.verdict (λ size. size.width * size.height ≤ most_pixels) }
     ensures many { IfTooLarge result.verdict (λ size. most_pixels < size.width * size.height) }
-    ensures counts { (R.account reader.new).count ≡ option_map (λ c. c + result.taken) (R.account reader.old).count }
-    ensures fault { IsFaultOf (R.account reader.new).failure result.verdict }
-    ensures leaves { Leaves (R.account reader.old).telling (R.account reader.new).telling }
+    ensures counts { R.count reader.new ≡ option_map (λ c. c + result.taken) (R.count reader.old) }
+    ensures fault { IsFaultOf (R.failure reader.new) result.verdict }
+    ensures leaves { Leaves (R.telling reader.old) (R.telling reader.new) }
 {
     let probed = reader_probe(reader);
     Admission {
@@ -75,25 +75,25 @@ pub struct Limited<'a, R: Told> {
 }
 
 impl<R: Told> Told for Limited<'_, R> {
+    ghost telling = { λ r. may_fail (R.telling r.reader.now) };
+
     // It rises as `left` falls, so no call gives more bytes than were left. It also has the count of the other reader.
-    ghost account = { λ r. record {
-      telling = may_fail (R.account r.reader.now).telling;
-      count = limited_count r.reader.ghost_name (R.account r.reader.now).count r.left;
-      failure = limited_failure r.spent (R.account r.reader.now).failure;
-    } };
+    ghost count = { λ r. limited_count r.reader.ghost_name (R.count r.reader.now) r.left };
+
+    ghost failure = { λ r. limited_failure r.spent (R.failure r.reader.now) };
 
     fn read_told(&mut self, buffer: &mut [u8]) -> Result<usize, Stop>
         ensures bound { IfOk result (λ n. n ≤ length buffer.new) }
-        ensures told { ReadTells (may_fail (R.account self.old.reader.now).telling) (may_fail (R.account self.new.reader.now).telling) buffer.new result }
-        ensures counts { limited_count self.new.reader.ghost_name (R.account self.new.reader.now).count self.new.left
-            ≡ count_after (limited_count self.old.reader.ghost_name (R.account self.old.reader.now).count self.old.left) result }
-        ensures fails { limited_failure self.new.spent (R.account self.new.reader.now).failure
-            ≡ failure_after_read (limited_failure self.old.spent (R.account self.old.reader.now).failure) result }
+        ensures told { ReadTells (may_fail (R.telling self.old.reader.now)) (may_fail (R.telling self.new.reader.now)) buffer.new result }
+        ensures counts { limited_count self.new.reader.ghost_name (R.count self.new.reader.now) self.new.left
+            ≡ count_after (limited_count self.old.reader.ghost_name (R.count self.old.reader.now) self.old.left) result }
+        ensures fails { limited_failure self.new.spent (R.failure self.new.reader.now)
+            ≡ failure_after_read (limited_failure self.old.spent (R.failure self.old.reader.now)) result }
         // Before the limit, a read makes one read of the other reader, of at most `left` bytes, and fails only if that one
         // does.
-        ensures below { 0 < self.old.left → ReadTells (R.account self.old.reader.now).telling (R.account self.new.reader.now).telling
+        ensures below { 0 < self.old.left → ReadTells (R.telling self.old.reader.now) (R.telling self.new.reader.now)
             (take self.old.left buffer.new) result }
-        ensures last { 0 < self.old.left → (R.account self.new.reader.now).failure ≡ failure_after_read (R.account self.old.reader.now).failure result }
+        ensures last { 0 < self.old.left → R.failure self.new.reader.now ≡ failure_after_read (R.failure self.old.reader.now) result }
         ensures ends { self.old.left ≡ 0 → IsErr result }
     {
         if self.left == 0 {
@@ -108,12 +108,12 @@ impl<R: Told> Told for Limited<'_, R> {
     }
 
     fn seek_told(&mut self, to: SeekFrom) -> io::Result<u64>
-        ensures told { SeekTells (may_fail (R.account self.old.reader.now).telling) (may_fail (R.account self.new.reader.now).telling) to result }
-        ensures counts { limited_count self.new.reader.ghost_name (R.account self.new.reader.now).count self.new.left
-            ≡ limited_count self.old.reader.ghost_name (R.account self.old.reader.now).count self.old.left }
-        ensures fails { limited_failure self.new.spent (R.account self.new.reader.now).failure
-            ≡ failure_after (limited_failure self.old.spent (R.account self.old.reader.now).failure) result }
-        ensures below { SeekTells (R.account self.old.reader.now).telling (R.account self.new.reader.now).telling to result }
+        ensures told { SeekTells (may_fail (R.telling self.old.reader.now)) (may_fail (R.telling self.new.reader.now)) to result }
+        ensures counts { limited_count self.new.reader.ghost_name (R.count self.new.reader.now) self.new.left
+            ≡ limited_count self.old.reader.ghost_name (R.count self.old.reader.now) self.old.left }
+        ensures fails { limited_failure self.new.spent (R.failure self.new.reader.now)
+            ≡ failure_after (limited_failure self.old.spent (R.failure self.old.reader.now)) result }
+        ensures below { SeekTells (R.telling self.old.reader.now) (R.telling self.new.reader.now) to result }
     {
         let offset = self.reader.seek_told(to);
         if offset.is_err() {
@@ -126,17 +126,17 @@ impl<R: Told> Told for Limited<'_, R> {
 /// Works like `admit`, for an upload that should have this length. It reads at most 64 bytes more, whatever the reader does.
 /// If the reader reports a greater length and the size needs more bytes than that, the error is a fault.
 pub fn admit_within<R: Told>(reader: &mut R, length: u64, most_pixels: u64) -> Admission
-    ensures admits { Admits (may_fail (R.account reader.old).telling) most_pixels result }
+    ensures admits { Admits (may_fail (R.telling reader.old)) most_pixels result }
 
     // For every reader, even one that reports a wrong length:
     ensures few { IfOk result.verdict (λ size. size.width * size.height ≤ most_pixels) }
     ensures many { IfTooLarge result.verdict (λ size. most_pixels < size.width * size.height) }
-    ensures counts { (R.account reader.new).count ≡ option_map (λ c. c + result.taken) (R.account reader.old).count }
+    ensures counts { R.count reader.new ≡ option_map (λ c. c + result.taken) (R.count reader.old) }
     ensures limit { result.taken ≤ limit_of length }
 
     // Below the limit a fault is the reader's own, and without a fault the image is judged.
-    ensures fault { result.taken < limit_of length → IsFaultOf (R.account reader.new).failure result.verdict }
-    ensures whole { Decides (R.account reader.old).telling (R.account reader.new).failure (limit_of length) most_pixels result }
+    ensures fault { result.taken < limit_of length → IsFaultOf (R.failure reader.new) result.verdict }
+    ensures whole { Decides (R.telling reader.old) (R.failure reader.new) (limit_of length) most_pixels result }
 {
     let mut limited = Limited {
         reader,

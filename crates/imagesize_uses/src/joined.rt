@@ -35,16 +35,16 @@ impl<'a> Joined<'a> {
 /// Its model is the bytes of both and its offset. It cannot fail, is never interrupted and counts nothing. A read ends where
 /// the first slice does.
 impl Told for Joined<'_> {
-    ghost account = { λ r. record {
-      telling = Some (record {
-        bytes = r.first.now ++ r.second.now;
-        offset = r.offset;
-        can_fail = false;
-        interruptions = 0;
-      });
-      count = None;
-      failure = None;
-    } };
+    ghost telling = { λ r. Some (record {
+      bytes = r.first.now ++ r.second.now;
+      offset = r.offset;
+      can_fail = false;
+      interruptions = 0;
+    }) };
+
+    ghost count = { λ _. None };
+
+    ghost failure = { λ _. None };
 
     fn read_told(&mut self, buffer: &mut [u8]) -> Result<usize, Stop> {
         let count = copy_front(rest_of(self.first, self.second, self.offset), buffer);

@@ -71,5 +71,10 @@ pub ilbm_ends : (d : List ℕ) (offset : ℕ) → length d ≤ offset
 ilbm_ends d offset h = ap uncounted (bytes_beyond d offset 8 (λ head. ilbm_named offset head) h (omega arith))
 
 pub ilbm_laws : RecordedLaws 12 18 20 true false ilbm
-ilbm_laws =
-    record { local = ilbm_local; cost = ilbm_cost; within = ilbm_within; lasts = λ _. answers_last ilbm ilbm_lasts }
+ilbm_laws = record {
+  local = ilbm_local;
+  cost = ilbm_cost;
+  within = ilbm_within;
+  lasts =
+      λ _. answers_last ilbm ilbm_lasts;
+}

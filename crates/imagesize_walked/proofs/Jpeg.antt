@@ -246,5 +246,10 @@ jpeg_within d =
     omega arith
 
 pub jpeg_laws : RecordedLaws 12 18 20 true false jpeg
-jpeg_laws =
-    record { local = jpeg_local; cost = jpeg_cost; within = jpeg_within; lasts = λ _. answers_last jpeg jpeg_lasts }
+jpeg_laws = record {
+  local = jpeg_local;
+  cost = jpeg_cost;
+  within = jpeg_within;
+  lasts =
+      λ _. answers_last jpeg jpeg_lasts;
+}

@@ -13,7 +13,7 @@ use imagesize_source::readings::{
     read_bytes, read_bytes_behind, read_if_there, read_u32, read_whole_behind,
 };
 use imagesize_source::source::Source;
-use imagesize_source::walk::{Found, Records, Step, walk};
+use imagesize_source::walk::{Found, Records, walk};
 use imagesize_source::{Endian, Halt};
 use imagesize_types::compression::Compression;
 use imagesize_types::size::{ImageSize, area};
@@ -161,10 +161,16 @@ impl Records for Boxes {
 
     ghost said = { λ boxes passed offset. searched_box boxes.name offset };
 
+    ghost keeps = { λ _ passed offset. Unit {0} };
+
     // Reads the box at an offset.
     #[inline(always)]
     #[tactic(auto, using(imagesize_source::proofs::Runs::steps))]
-    fn read_record<S: Source>(&mut self, source: &mut S, offset: u64) -> Step<(), FoundBox> {
+    fn read_record<S: Source>(
+        &mut self,
+        source: &mut S,
+        offset: u64,
+    ) -> Result<Found<(), FoundBox>, Halt> {
         read_box(source, offset, &self.name)
     }
 
@@ -179,7 +185,11 @@ impl Records for Boxes {
 /// Reads the box at an offset, and whether it has this name.
 #[inline(always)]
 #[tactic(auto, using(imagesize_source::proofs::Runs::steps))]
-pub fn read_box<S: Source>(source: &mut S, offset: u64, name: &[u8; 4]) -> Step<(), FoundBox>
+pub fn read_box<S: Source>(
+    source: &mut S,
+    offset: u64,
+    name: &[u8; 4],
+) -> Result<Found<(), FoundBox>, Halt>
     ensures pays { IfOk result (λ _. Paid (S.state source.old) (S.state source.new) offset) }
     ensures nears { IfOk result (λ found. Nears (S.state source.old) (S.state source.new) offset (said_at offset found)) }
     ensures runs { Follows (S.state source.old) (S.state source.new) (map_answer (said_at offset) result) (searched_box name.now offset) }
@@ -289,7 +299,11 @@ impl Records for Properties {
 
     // Reads the property at an offset.
     #[inline(always)]
-    fn read_record<S: Source>(&mut self, source: &mut S, offset: u64) -> Step<Property, ImageSize> {
+    fn read_record<S: Source>(
+        &mut self,
+        source: &mut S,
+        offset: u64,
+    ) -> Result<Found<Property, ImageSize>, Halt> {
         let Some(property) = read_property(source, offset, self.gathered.left)? else {
             return Ok(Found::Answer(answer(self.gathered)?));
         };

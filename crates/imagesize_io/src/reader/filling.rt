@@ -1,8 +1,8 @@
 //! Fills a buffer from an offset on, by one read after another, within the budget.
-ghost use Rattle.std.specs.Prelude.{◌≡◌, ℕ, ◌+◌, ◌^◌, ◌<◌, ◌≤◌, length, IfOk, IfErr, OnOk, Some, true};
+ghost use Rattle.std.specs.Prelude.{◌≡◌, ℕ, max, ◌+◌, ◌^◌, ◌<◌, ◌≤◌, length, IfOk, IfErr, OnOk, Some, true, false};
 ghost use Rattle.imagesize_source.specs.Limits.{most_retries};
-ghost use Rattle.imagesize_io.specs.Telling.{count_after};
-ghost use Rattle.imagesize_io.specs.Standing.{behind_of, metered, steady, Fills, GivesSome, ReadsFrom, ReadsOnce, Seeks, Tries};
+ghost use Rattle.imagesize_io.specs.Telling.{account, count_after};
+ghost use Rattle.imagesize_io.specs.Standing.{behind, behind_of, steady, stand, GivesSome, StopsBy, KeepsCounts, Tries, Fills, ReadsOnce, drift, GoesTo, ReadsFrom};
 ghost use Rattle.imagesize_io.specs.StopOf.{ending_of, fault_after, halt_if_failed, kept_error, last_failed};
 
 use crate::progress::Progress;
@@ -50,17 +50,17 @@ fn read_retrying<R: Told>(
     buffer: &mut [u8],
 ) -> Result<usize, Halt>
     ensures bound { IfOk result (λ n. n ≤ length buffer.new) }
-    ensures steady { GivesSome (steady (R.account reader.old).telling retries.old)
-        (steady (R.account reader.new).telling retries.new) buffer.new result }
-    ensures counts { (R.account reader.new).count ≡ count_after (R.account reader.old).count result }
+    ensures steady { GivesSome (steady (R.telling reader.old) retries.old) (steady (R.telling reader.new) retries.new)
+        buffer.new result }
+    ensures counts { R.count reader.new ≡ count_after (R.count reader.old) result }
     ensures tried { retries.old ≤ retries.new }
     ensures limit { retries.old ≤ most_retries → retries.new ≤ most_retries }
-    ensures tries { OnOk result (Tries (R.account reader.old).telling retries.old (R.account reader.new).telling retries.new) }
+    ensures tries { OnOk result (Tries (R.telling reader.old) retries.old (R.telling reader.new) retries.new) }
     ensures failed { IfErr result (λ halt. halt ≡ Halt.Failed) }
-    ensures behind { (told : ℕ) → behind_of told retries.new fault.new (R.account reader.new).telling
-        ≡ behind_of told retries.old fault.old (R.account reader.old).telling }
+    ensures behind { (told : ℕ) → behind_of told retries.new fault.new (R.telling reader.new)
+        ≡ behind_of told retries.old fault.old (R.telling reader.old) }
     ensures calm { OnOk result (fault.new ≡ fault.old) }
-    ensures kept { IfErr result (λ _. last_failed fault.new (R.account reader.new).failure ≡ Some (kept_error fault.new)) }
+    ensures kept { IfErr result (λ _. last_failed fault.new (R.failure reader.new) ≡ Some (kept_error fault.new)) }
 {
     loop {
         match reader.read_told(buffer) {
@@ -83,8 +83,8 @@ fn read_counted<R: Told>(
 ) -> Result<usize, Halt>
     requires fits { progress.old.taken + length buffer.old ≤ progress.old.budget }
     requires stands { progress.old.offset ≡ offset }
-    ensures reads { ReadsOnce (metered (R.account reader.old) progress.old) (metered (R.account reader.new) progress.new)
-        buffer.new result }
+    ensures reads { ReadsOnce progress.old progress.new (account R.telling R.count R.failure reader.old)
+        (account R.telling R.count R.failure reader.new) buffer.new result }
     ensures failed { IfErr result (λ halt. halt ≡ Halt.Failed) }
 {
     let count = read_retrying(reader, &mut progress.retries, &mut progress.fault, buffer)?;
@@ -106,8 +106,8 @@ fn read_some<R: Told>(
     progress: &mut Progress,
     buffer: &mut [u8],
 ) -> Result<usize, Halt>
-    ensures { ReadsOnce (metered (R.account reader.old) progress.old) (metered (R.account reader.new) progress.new)
-        buffer.new result }
+    ensures { ReadsOnce progress.old progress.new (account R.telling R.count R.failure reader.old)
+        (account R.telling R.count R.failure reader.new) buffer.new result }
 {
     let offset = progress.offset;
     let left = progress.budget - progress.taken;
@@ -129,8 +129,9 @@ fn fill<R: Told>(
     buffer: &mut [u8],
 ) -> Result<usize, Halt>
     requires { progress.old.offset ≡ offset }
-    ensures { Fills (metered (R.account reader.old) progress.old) (metered (R.account reader.new) progress.new)
-        buffer.new result }
+    ensures { Fills progress.old progress.new (stand (R.telling reader.old) progress.old) (stand (R.telling reader.new) progress.new)
+        (account R.telling R.count R.failure reader.old)
+        (account R.telling R.count R.failure reader.new) buffer.new result }
 {
     if buffer.len() as u64 > progress.budget - progress.taken {
         return fill_behind(reader, progress, buffer);
@@ -151,8 +152,9 @@ fn fill_behind<R: Told>(
     buffer: &mut [u8],
 ) -> Result<usize, Halt>
     requires { progress.old.offset < 2 ^ 64 }
-    ensures { Fills (metered (R.account reader.old) progress.old) (metered (R.account reader.new) progress.new)
-        buffer.new result }
+    ensures { Fills progress.old progress.new (stand (R.telling reader.old) progress.old) (stand (R.telling reader.new) progress.new)
+        (account R.telling R.count R.failure reader.old)
+        (account R.telling R.count R.failure reader.new) buffer.new result }
 {
     let count = fill_rest(reader, progress, buffer)?;
     Ok(count)
@@ -167,8 +169,9 @@ fn fill_rest<R: Told>(
     buffer: &mut [u8],
 ) -> Result<usize, Halt>
     requires { progress.old.offset < 2 ^ 64 }
-    ensures { Fills (metered (R.account reader.old) progress.old) (metered (R.account reader.new) progress.new)
-        buffer.new result }
+    ensures { Fills progress.old progress.new (stand (R.telling reader.old) progress.old) (stand (R.telling reader.new) progress.new)
+        (account R.telling R.count R.failure reader.old)
+        (account R.telling R.count R.failure reader.new) buffer.new result }
 {
     let mut filled = 0;
     while filled < buffer.len() {
@@ -185,9 +188,18 @@ fn fill_rest<R: Told>(
 // seek returns is not checked.
 #[inline(always)]
 fn go_to<R: Told>(reader: &mut R, progress: &mut Progress, offset: u64) -> Result<bool, Halt>
-    ensures seeks { Seeks (metered (R.account reader.old) progress.old) (metered (R.account reader.new) progress.new)
-        offset result }
+    ensures stand { GoesTo (stand (R.telling reader.old) progress.old)
+        (stand (R.telling reader.new) progress.new) offset progress.new.offset result }
+    ensures asked { IfOk result (λ there. there ≡ true → progress.new.offset ≡ offset) }
+    ensures short { IfOk result (λ there. there ≡ true → offset ≤ max progress.old.told progress.old.offset) }
+    ensures far { IfOk result (λ there. there ≡ false → progress.old.told < offset) }
     ensures stays { progress.old.offset ≡ offset → (result ≡ Ok true) × (reader.new ≡ reader.old) }
+    ensures since { drift (R.count reader.new) progress.new.taken ≡ drift (R.count reader.old) progress.old.taken }
+    ensures behind { behind (R.telling reader.new) progress.new ≡ behind (R.telling reader.old) progress.old }
+    ensures calm { OnOk result (progress.new.fault ≡ progress.old.fault) }
+    ensures taken { progress.new.taken ≡ progress.old.taken }
+    ensures keeps { KeepsCounts progress.old progress.new }
+    ensures stops { IfErr result (StopsBy progress.new (R.failure reader.new)) }
 {
     if progress.offset == offset {
         return Ok(true);
@@ -211,8 +223,9 @@ pub(super) fn read_from<R: Told>(
     offset: u64,
     buffer: &mut [u8],
 ) -> Result<usize, Halt>
-    ensures { ReadsFrom (metered (R.account reader.old) progress.old) (metered (R.account reader.new) progress.new)
-        offset buffer.new result }
+    ensures { ReadsFrom progress.old progress.new (stand (R.telling reader.old) progress.old) (stand (R.telling reader.new) progress.new)
+        (account R.telling R.count R.failure reader.old)
+        (account R.telling R.count R.failure reader.new) offset buffer.new result }
 {
     if !go_to(reader, progress, offset)? {
         return Ok(0);

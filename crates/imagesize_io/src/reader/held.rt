@@ -2,7 +2,8 @@
 ghost use Rattle.std.specs.Prelude.{◌≡◌, ◌+◌, ◌^◌, ◌<◌, ◌≤◌, true, IfSome, None, Ok, length, take};
 ghost use Rattle.imagesize_source.specs.Limits.{most_held};
 ghost use Rattle.imagesize_io.specs.Held.{IsWhole};
-ghost use Rattle.imagesize_io.specs.ReaderState.{windowed, ReadsAt};
+ghost use Rattle.imagesize_io.specs.ReaderState.{ReadsAt};
+ghost use Rattle.imagesize_io.specs.Telling.{account};
 
 use super::Ledger;
 use crate::Told;
@@ -20,9 +21,10 @@ pub(super) fn read_held<R: Told>(
 ) -> Option<usize>
     ensures bound { IfSome result (λ n. n ≤ length buffer.new) }
     ensures whole { IfSome result (λ n. IsWhole text (take n buffer.new)) }
-    ensures none { result ≡ None → (R.account reader.new ≡ R.account reader.old) × (ledger.new ≡ ledger.old) }
-    ensures reads { IfSome result (λ n. ReadsAt (windowed (R.account reader.old) ledger.old)
-        (windowed (R.account reader.new) ledger.new) offset (take n buffer.new) (Ok n)) }
+    ensures none { result ≡ None → (account R.telling R.count R.failure reader.new ≡ account R.telling R.count R.failure reader.old)
+        × (ledger.new ≡ ledger.old) }
+    ensures reads { IfSome result (λ n. ReadsAt ledger.old ledger.new (account R.telling R.count R.failure reader.old)
+        (account R.telling R.count R.failure reader.new) offset (take n buffer.new) (Ok n)) }
 {
     if !pays_there(ledger, offset, buffer.len() as u64) {
         return None;

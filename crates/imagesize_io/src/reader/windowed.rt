@@ -1,7 +1,8 @@
 //! Reads through the window: its bytes are not read again, and the bytes after it are kept.
-ghost use Rattle.std.specs.Prelude.{◌≡◌, ◌≢◌, ◌<◌, Ok};
-ghost use Rattle.imagesize_io.specs.ReaderState.{windowed, ReadsAt, ReadsOn};
-ghost use Rattle.imagesize_io.specs.Standing.{metered, ReadsFrom};
+ghost use Rattle.std.specs.Prelude.{◌<◌, ◌≤◌};
+ghost use Rattle.imagesize_io.specs.ReaderState.{ReadsAt, ReadsOn};
+ghost use Rattle.imagesize_io.specs.Standing.{stand, ReadsFrom};
+ghost use Rattle.imagesize_io.specs.Telling.{account};
 
 use super::Ledger;
 use super::filling::read_from;
@@ -10,22 +11,18 @@ use crate::progress::Progress;
 use crate::window::{copy_kept, keep, keep_front};
 use imagesize_source::Halt;
 
-// Reads from an offset on. Bytes right after the window are kept.
+// Reads from an offset on, from the reader alone if the offset is past the window. Bytes right after the window are kept.
 #[inline(always)]
-pub(super) fn read_on<R: Told>(
+fn read_windowed<R: Told>(
     reader: &mut R,
     ledger: &mut Ledger,
     offset: u64,
     buffer: &mut [u8],
 ) -> Result<usize, Halt>
-    ensures reads { ReadsOn (windowed (R.account reader.old) ledger.old) (windowed (R.account reader.new) ledger.new)
-        offset buffer.new result }
-    ensures ends { ledger.old.progress.told < offset → offset ≢ ledger.old.present
-        → (result ≡ Ok 0) × (reader.new ≡ reader.old) × (ledger.new.present ≡ ledger.old.present) }
+    requires { offset ≤ ledger.old.progress.told }
+    ensures { ReadsOn reader.old reader.new ledger.old ledger.new (account R.telling R.count R.failure reader.old)
+        (account R.telling R.count R.failure reader.new) offset buffer.new result }
 {
-    if ledger.progress.told < offset {
-        return read_beyond(reader, ledger, offset, buffer);
-    }
     if offset < ledger.window.len() as u64 || buffer.is_empty() {
         let count = read_within(reader, ledger, offset, buffer)?;
         ledger.present = offset + count as u64;
@@ -37,6 +34,60 @@ pub(super) fn read_on<R: Told>(
     Ok(count)
 }
 
+// Reads from an offset on: first the window's bytes, then the reader's.
+#[inline(always)]
+fn read_within<R: Told>(
+    reader: &mut R,
+    ledger: &mut Ledger,
+    offset: u64,
+    buffer: &mut [u8],
+) -> Result<usize, Halt>
+    ensures { ReadsAt ledger.old ledger.new (account R.telling R.count R.failure reader.old)
+        (account R.telling R.count R.failure reader.new) offset buffer.new result }
+{
+    let copied = copy_kept(&ledger.window, offset, buffer);
+    if copied == buffer.len() {
+        return Ok(buffer.len());
+    }
+    let next = offset + copied as u64;
+    let count = read_across(reader, &mut ledger.progress, next, &mut buffer[copied..])?;
+    keep(&mut ledger.window, next, &buffer[copied..copied + count]);
+    Ok(copied + count)
+}
+
+// Continues a read past the window in which it began.
+#[cold]
+#[inline(never)]
+fn read_across<R: Told>(
+    reader: &mut R,
+    progress: &mut Progress,
+    offset: u64,
+    buffer: &mut [u8],
+) -> Result<usize, Halt>
+    ensures { ReadsFrom progress.old progress.new (stand (R.telling reader.old) progress.old) (stand (R.telling reader.new) progress.new)
+        (account R.telling R.count R.failure reader.old)
+        (account R.telling R.count R.failure reader.new) offset buffer.new result }
+{
+    read_from(reader, progress, offset, buffer)
+}
+
+// Reads from an offset on.
+#[inline(always)]
+pub(super) fn read_on<R: Told>(
+    reader: &mut R,
+    ledger: &mut Ledger,
+    offset: u64,
+    buffer: &mut [u8],
+) -> Result<usize, Halt>
+    ensures { ReadsOn reader.old reader.new ledger.old ledger.new (account R.telling R.count R.failure reader.old)
+        (account R.telling R.count R.failure reader.new) offset buffer.new result }
+{
+    if ledger.progress.told < offset {
+        return read_beyond(reader, ledger, offset, buffer);
+    }
+    read_windowed(reader, ledger, offset, buffer)
+}
+
 // Calls `read_above`. Inlined, so that stack space for its result is set up on this path alone.
 #[inline(always)]
 fn read_beyond<R: Told>(
@@ -46,10 +97,8 @@ fn read_beyond<R: Told>(
     buffer: &mut [u8],
 ) -> Result<usize, Halt>
     requires { ledger.old.progress.told < offset }
-    ensures reads { ReadsOn (windowed (R.account reader.old) ledger.old) (windowed (R.account reader.new) ledger.new)
-        offset buffer.new result }
-    ensures ends { offset ≢ ledger.old.present
-        → (result ≡ Ok 0) × (reader.new ≡ reader.old) × (ledger.new.present ≡ ledger.old.present) }
+    ensures { ReadsOn reader.old reader.new ledger.old ledger.new (account R.telling R.count R.failure reader.old)
+        (account R.telling R.count R.failure reader.new) offset buffer.new result }
 {
     let count = read_above(reader, ledger, offset, buffer)?;
     Ok(count)
@@ -66,10 +115,8 @@ fn read_above<R: Told>(
     buffer: &mut [u8],
 ) -> Result<usize, Halt>
     requires { ledger.old.progress.told < offset }
-    ensures reads { ReadsOn (windowed (R.account reader.old) ledger.old) (windowed (R.account reader.new) ledger.new)
-        offset buffer.new result }
-    ensures ends { offset ≢ ledger.old.present
-        → (result ≡ Ok 0) × (reader.new ≡ reader.old) × (ledger.new.present ≡ ledger.old.present) }
+    ensures { ReadsOn reader.old reader.new ledger.old ledger.new (account R.telling R.count R.failure reader.old)
+        (account R.telling R.count R.failure reader.new) offset buffer.new result }
 {
     if offset != ledger.present {
         return Ok(0);
@@ -77,40 +124,4 @@ fn read_above<R: Told>(
     let count = read_within(reader, ledger, offset, buffer)?;
     ledger.present = offset.saturating_add(count as u64);
     Ok(count)
-}
-
-// Reads from an offset on: first the window's bytes, then the reader's.
-#[inline(always)]
-fn read_within<R: Told>(
-    reader: &mut R,
-    ledger: &mut Ledger,
-    offset: u64,
-    buffer: &mut [u8],
-) -> Result<usize, Halt>
-    ensures { ReadsAt (windowed (R.account reader.old) ledger.old) (windowed (R.account reader.new) ledger.new)
-        offset buffer.new result }
-{
-    let copied = copy_kept(&ledger.window, offset, buffer);
-    if copied == buffer.len() {
-        return Ok(buffer.len());
-    }
-    let next = offset + copied as u64;
-    let count = read_across(reader, &mut ledger.progress, next, &mut buffer[copied..])?;
-    keep(&mut ledger.window, next, &buffer[copied..copied + count]);
-    Ok(copied + count)
-}
-
-// Continues a read past the window in which it began. Not inlined, since few reads get here.
-#[cold]
-#[inline(never)]
-fn read_across<R: Told>(
-    reader: &mut R,
-    progress: &mut Progress,
-    offset: u64,
-    buffer: &mut [u8],
-) -> Result<usize, Halt>
-    ensures { ReadsFrom (metered (R.account reader.old) progress.old) (metered (R.account reader.new) progress.new)
-        offset buffer.new result }
-{
-    read_from(reader, progress, offset, buffer)
 }

@@ -114,9 +114,13 @@ fn lines_of_spans_stand_below(rt: HostRuntime) -> Result<(), Fail> {
 struct Unseekable;
 
 impl Told for Unseekable {
-    ghost use Rattle.imagesize_io.specs.Telling.{silent};
+    ghost use Rattle.std.specs.Prelude.{None};
 
-    ghost account = { λ _. silent };
+    ghost telling = { λ _. None };
+
+    ghost count = { λ _. None };
+
+    ghost failure = { λ _. None };
 
     fn read_told(&mut self, _buffer: &mut [u8]) -> Result<usize, Stop> {
         Ok(0)

@@ -10,7 +10,7 @@ ghost use Rattle.imagesize_texts.specs.Texts.{line_read};
 use crate::util::{read_line_capped, read_u32_behind};
 use imagesize_source::readings::{read_bytes_behind, read_u32};
 use imagesize_source::source::Source;
-use imagesize_source::walk::{Found, Records, Step, walk};
+use imagesize_source::walk::{Found, Records, walk};
 use imagesize_source::{Endian, Halt};
 use imagesize_types::size::{ImageSize, size_if_known};
 
@@ -85,7 +85,11 @@ impl Records for Attributes {
 
     // Reads the attribute at an offset.
     #[tactic(auto, using(imagesize_source::proofs::Runs::steps, imagesize_source::proofs::Runs::missed_before))]
-    fn read_record<S: Source>(&mut self, source: &mut S, offset: u64) -> Step<(), ImageSize> {
+    fn read_record<S: Source>(
+        &mut self,
+        source: &mut S,
+        offset: u64,
+    ) -> Result<Found<(), ImageSize>, Halt> {
         let names = self.names;
         let name = read_name(source, offset, names, &mut self.buffer)?;
         if name.is_empty() {

@@ -8,7 +8,7 @@ ghost use Rattle.imagesize_texts.specs.Texts.{line_at};
 use crate::util::{number, read_line_capped};
 use imagesize_source::Halt;
 use imagesize_source::source::Source;
-use imagesize_source::walk::{Found, Records, Step, walk};
+use imagesize_source::walk::{Found, Records, walk};
 use imagesize_types::size::{ImageSize, size_if_known};
 
 /// A line after the first has at most this many bytes, including its line feed.
@@ -88,9 +88,15 @@ impl Records for Lines {
 
     ghost said = { λ _ passed offset. line_at 0x0A offset 256 (hdr_line offset) };
 
+    ghost keeps = { λ _ passed offset. Unit {0} };
+
     // Reads the line at an offset.
     #[tactic(auto, using(imagesize_source::proofs::Runs::steps))]
-    fn read_record<S: Source>(&mut self, source: &mut S, offset: u64) -> Step<(), ImageSize> {
+    fn read_record<S: Source>(
+        &mut self,
+        source: &mut S,
+        offset: u64,
+    ) -> Result<Found<(), ImageSize>, Halt> {
         let line = read_line_capped(source, offset, b'\n', &mut self.buffer)?;
         if is_resolution(line) {
             let Some((height, width)) = lengths(line) else {

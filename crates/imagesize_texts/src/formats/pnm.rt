@@ -8,7 +8,7 @@ ghost use Rattle.imagesize_texts.specs.Texts.{word};
 use crate::util::{WORD_ROOM, is_hash, number, pass_line_behind, read_word, read_word_behind};
 use imagesize_source::Halt;
 use imagesize_source::source::Source;
-use imagesize_source::walk::{Found, Records, Step, walk};
+use imagesize_source::walk::{Found, Records, walk};
 use imagesize_types::size::{ImageSize, size_if_known};
 
 /// Whether the input begins with a magic number from `P1` to `P6`.
@@ -53,10 +53,16 @@ impl Records for Words {
 
     ghost said = { λ _ passed offset. word offset (pnm_word offset) };
 
+    ghost keeps = { λ _ passed offset. Unit {0} };
+
     // Reads the word at an offset. After the width it reads the height too, and at the start of a comment the rest of the
     // comment.
     #[tactic(auto, using(imagesize_source::proofs::Runs::steps, imagesize_source::proofs::Runs::missed_before))]
-    fn read_record<S: Source>(&mut self, source: &mut S, offset: u64) -> Step<(), ImageSize> {
+    fn read_record<S: Source>(
+        &mut self,
+        source: &mut S,
+        offset: u64,
+    ) -> Result<Found<(), ImageSize>, Halt> {
         let word = read_word(source, offset, &mut self.buffer)?;
         let taken = word.taken as u64;
         if is_comment(word.text) {

@@ -1,5 +1,5 @@
 //! Readers of a test vector.
-ghost use Rattle.imagesize_io.specs.Telling.{silent};
+ghost use Rattle.std.specs.Prelude.{None};
 
 use super::{is_answer, is_kind, is_type};
 use crate::table::{Row, Wrong, holds};
@@ -98,7 +98,11 @@ struct Sent<'a, R: Told> {
 }
 
 impl<R: Told> Told for Sent<'_, R> {
-    ghost account = { λ _. silent };
+    ghost telling = { λ _. None };
+
+    ghost count = { λ _. None };
+
+    ghost failure = { λ _. None };
 
     fn read_told(&mut self, buffer: &mut [u8]) -> Result<usize, Stop> {
         self.reader.read_told(buffer)

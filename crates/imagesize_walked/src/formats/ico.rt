@@ -14,7 +14,7 @@ ghost use Rattle.imagesize_source.specs.State.{Runs, Follows, IsSound};
 
 use imagesize_source::readings::{read_if_there, read_u16};
 use imagesize_source::source::Source;
-use imagesize_source::walk::{Found, Records, Step, walk};
+use imagesize_source::walk::{Found, Records, walk};
 use imagesize_source::{Endian, Halt};
 use imagesize_types::size::ImageSize;
 
@@ -78,7 +78,7 @@ impl Records for Entries {
         &mut self,
         source: &mut S,
         offset: u64,
-    ) -> Step<ImageSize, ImageSize> {
+    ) -> Result<Found<ImageSize, ImageSize>, Halt> {
         self.read_icon(source, offset)
     }
 
@@ -97,7 +97,7 @@ impl Entries {
         &mut self,
         source: &mut S,
         offset: u64,
-    ) -> Step<ImageSize, ImageSize>
+    ) -> Result<Found<ImageSize, ImageSize>, Halt>
         requires { ForSome self.now.largest IsIcon }
         ensures count { self.new.count ≡ self.old.count }
         ensures nears { IfOk result (λ found. Nears (S.state source.old) (S.state source.new) offset (said_at offset found)) }

@@ -5,7 +5,7 @@ ghost use Rattle.imagesize_walked.specs.Ilbm.{chunk_bytes, chunk_length, ilbm, i
 
 use imagesize_source::readings::{read_bytes, read_u16_behind};
 use imagesize_source::source::Source;
-use imagesize_source::walk::{Found, Records, Step, walk};
+use imagesize_source::walk::{Found, Records, walk};
 use imagesize_source::{Endian, Halt};
 use imagesize_types::size::ImageSize;
 
@@ -40,9 +40,15 @@ impl Records for Chunks {
 
     ghost said = { λ _ passed offset. ilbm_chunk offset };
 
+    ghost keeps = { λ _ passed offset. Unit {0} };
+
     // Reads the chunk at an offset.
     #[tactic(auto, using(imagesize_source::proofs::Runs::steps))]
-    fn read_record<S: Source>(&mut self, source: &mut S, offset: u64) -> Step<(), ImageSize> {
+    fn read_record<S: Source>(
+        &mut self,
+        source: &mut S,
+        offset: u64,
+    ) -> Result<Found<(), ImageSize>, Halt> {
         let head = read_bytes::<S, 8>(source, offset)?;
         if is_bitmap_header(&head) {
             let width = read_u16_behind(source, offset, 8, Endian::Big)? as usize;

@@ -9,7 +9,7 @@ ghost use Rattle.imagesize_source.specs.State.{Follows, Runs};
 
 use imagesize_source::readings::{read_bytes, read_u16_behind};
 use imagesize_source::source::Source;
-use imagesize_source::walk::{Found, Records, Step, walk};
+use imagesize_source::walk::{Found, Records, walk};
 use imagesize_source::{Endian, Halt};
 use imagesize_types::size::ImageSize;
 
@@ -50,7 +50,11 @@ impl Records for Segments {
     // Reads the segment at an offset.
     #[inline]
     #[tactic(auto, using(crate::proofs::Jpeg::stands_on, crate::proofs::Jpeg::stands_stay, crate::proofs::Jpeg::segment_as, crate::proofs::Jpeg::shallow))]
-    fn read_record<S: Source>(&mut self, source: &mut S, offset: u64) -> Step<u8, ImageSize> {
+    fn read_record<S: Source>(
+        &mut self,
+        source: &mut S,
+        offset: u64,
+    ) -> Result<Found<u8, ImageSize>, Halt> {
         self.read_segment(source, offset)
     }
 
@@ -99,7 +103,11 @@ impl Segments {
     /// Reads the segment at an offset.
     #[inline]
     #[tactic(auto, using(imagesize_source::proofs::Runs::steps))]
-    pub fn read_segment<S: Source>(&mut self, source: &mut S, offset: u64) -> Step<u8, ImageSize>
+    pub fn read_segment<S: Source>(
+        &mut self,
+        source: &mut S,
+        offset: u64,
+    ) -> Result<Found<u8, ImageSize>, Halt>
         requires { self.now.depth + 1 < 2 ^ 64 }
         ensures nears { IfOk result (λ found. Nears (S.state source.old) (S.state source.new) offset (said_at offset found)) }
         ensures depth { IfOk result (λ found. LeadsOn self.old.depth self.new.depth (said_at offset found)) }

@@ -13,7 +13,7 @@ use imagesize_source::readings::{
     read_bytes, read_exact_at, read_u16, read_u32, read_u64, read_whole_behind,
 };
 use imagesize_source::source::Source;
-use imagesize_source::walk::{Found, Records, Step, walk};
+use imagesize_source::walk::{Found, Records, walk};
 use imagesize_source::{Endian, Halt};
 use imagesize_types::size::{ImageSize, size_if_known};
 
@@ -222,7 +222,11 @@ impl<const HEAD: usize, const VALUE: usize> Records for Entries<HEAD, VALUE> {
     // Reads the entry at an offset.
     #[inline(always)]
     #[tactic(auto, using(crate::proofs::Tiff::entries_on, crate::proofs::Tiff::entries_stay, crate::proofs::Tiff::entry_runs))]
-    fn read_record<S: Source>(&mut self, source: &mut S, offset: u64) -> Step<Entry, ImageSize> {
+    fn read_record<S: Source>(
+        &mut self,
+        source: &mut S,
+        offset: u64,
+    ) -> Result<Found<Entry, ImageSize>, Halt> {
         self.read_next(source, offset)
     }
 
@@ -239,7 +243,11 @@ impl<const HEAD: usize, const VALUE: usize> Records for Entries<HEAD, VALUE> {
 impl<const HEAD: usize, const VALUE: usize> Entries<HEAD, VALUE> {
     /// Reads the entry at an offset.
     #[inline(always)]
-    pub fn read_next<S: Source>(&mut self, source: &mut S, offset: u64) -> Step<Entry, ImageSize>
+    pub fn read_next<S: Source>(
+        &mut self,
+        source: &mut S,
+        offset: u64,
+    ) -> Result<Found<Entry, ImageSize>, Halt>
         ensures header { self.new.header ≡ self.old.header }
         ensures count { self.new.count ≡ self.old.count }
         ensures nears { IfOk result (λ found. Nears (S.state source.old) (S.state source.new) offset (said_at offset found)) }

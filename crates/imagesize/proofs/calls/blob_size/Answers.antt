@@ -1,4 +1,4 @@
-use Rattle.std.proofs.Common.{Result, ap, sym, ◌∙◌, refl, arith, rules}
+use Rattle.std.proofs.Common.{Result, ap, ◌∙◌, arith, rules}
 use Rattle.imagesize.proofs.Counts.{cost_most, cost_stated, cost_within}
 use Rattle.imagesize.proofs.Extension.{size_lasts}
 use Rattle.imagesize.proofs.Locality.{local_meaning}
@@ -8,7 +8,7 @@ use Rattle.imagesize_source.specs.Errors.{is_stopped}
 use Rattle.imagesize_source.specs.declared.error.ImageError.{ImageError}
 use Rattle.imagesize_types.specs.declared.size.ImageSize.{ImageSize}
 use Rattle.imagesize_source.proofs.Halts.{stated_same}
-use Rattle.imagesize.proofs.Endings.{never_stopped, slice_unstopped}
+use Rattle.imagesize.proofs.Endings.{slice_unstopped}
 use Rattle.imagesize_source.proofs.Agreement.{same_by_local}
 use Rattle.imagesize.specs.Meaning.{meaning_reads}
 use Rattle.imagesize.proofs.calls.blob_size.Goals as goal
@@ -34,11 +34,9 @@ pub returns-clause-lasts : goal.returns-clause-lasts
 returns-clause-lasts c = size_lasts c.args.«data».now 0 _ (search rules)
 
 pub returns-clause-value : goal.returns-clause-value
-returns-clause-value c =
-    let run = c.probe-found.ensures.runs in
-    let calm = never_stopped _ _ refl refl refl run in
-    c.with_error.ensures ∙ stated_same _ _ _ calm ∙ ap stated (sym (run.answer refl calm))
+returns-clause-value c = c.with_error.ensures ∙ stated_same _ _ _ c.probe_slice.ensures.unstopped
+    ∙ ap stated c.probe_slice.ensures.value
 
 pub returns-clause-unstopped : goal.returns-clause-unstopped
 returns-clause-unstopped c = ap (λ (r : Result ImageSize ImageError). is_stopped r) c.with_error.ensures
-    ∙ slice_unstopped _ _ _ (never_stopped _ _ refl refl refl c.probe-found.ensures.runs)
+    ∙ slice_unstopped _ _ _ c.probe_slice.ensures.unstopped

@@ -15,7 +15,7 @@ ghost use Rattle.imagesize_source.specs.declared.endian.Endian.TheVariants as en
 use super::front::{Front, MOST};
 use imagesize_source::readings::{read_bytes, read_bytes_behind, read_u64};
 use imagesize_source::source::Source;
-use imagesize_source::walk::{Found, Records, Step, walk};
+use imagesize_source::walk::{Found, Records, walk};
 use imagesize_source::{Endian, Halt};
 
 // The first bytes of the codestream, from the boxes after the signature box.
@@ -47,7 +47,11 @@ impl Records for Boxes {
 
     // Reads the box at an offset.
     #[tactic(auto, using(crate::proofs::JxlBoxes::joined))]
-    fn read_record<S: Source>(&mut self, source: &mut S, offset: u64) -> Step<Front, Front> {
+    fn read_record<S: Source>(
+        &mut self,
+        source: &mut S,
+        offset: u64,
+    ) -> Result<Found<Front, Front>, Halt> {
         match read_box(source, offset, &self.front)? {
             Found::Answer(front) => Ok(Found::Answer(front)),
             Found::Other { held, length } => {
@@ -77,7 +81,11 @@ pub struct BoxHead {
 
 /// Reads the box at an offset. `front` has the bytes of the codestream from the boxes before it.
 #[tactic(auto, using(imagesize_source::proofs::Runs::steps, imagesize_source::proofs::Layouts::binding))]
-pub fn read_box<S: Source>(source: &mut S, offset: u64, front: &Front) -> Step<Front, Front>
+pub fn read_box<S: Source>(
+    source: &mut S,
+    offset: u64,
+    front: &Front,
+) -> Result<Found<Front, Front>, Halt>
     requires { length front.now ≤ 16 }
     ensures nears { IfOk result (λ found. Nears (S.state source.old) (S.state source.new) offset (said_at offset found)) }
     ensures fits { IfOk result (λ found. FitsBehind front.now (said_at offset found)) }
@@ -171,7 +179,7 @@ fn read_content<S: Source>(
     offset: u64,
     head: &BoxHead,
     front: &Front,
-) -> Step<Front, Front>
+) -> Result<Found<Front, Front>, Halt>
     requires sound { IsSound (S.state source.old) }
     requires is { IsHead offset head.now }
     requires few { length front.now ≤ 16 }
@@ -232,7 +240,7 @@ fn read_partial<S: Source>(
     offset: u64,
     head: &BoxHead,
     front: &Front,
-) -> Step<Front, Front>
+) -> Result<Found<Front, Front>, Halt>
     requires sound { IsSound (S.state source.old) }
     requires is { IsHead offset head.now }
     ensures further { IfOk result (λ found. IsFurther offset (said_at offset found)) }

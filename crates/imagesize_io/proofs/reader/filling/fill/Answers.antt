@@ -1,7 +1,7 @@
-use Rattle.std.proofs.Common.{◌≡◌, ℕ, Result, Err, rules}
+use Rattle.std.proofs.Common.{◌≡◌, ℕ, Result, Err, ◌∙◌, rules}
 use Rattle.imagesize_source.specs.declared.halt.Halt.{Halt}
 use Rattle.imagesize_io.proofs.Filling.{gave_rest, stopped_rest, within_rest}
-use Rattle.imagesize_io.proofs.Standings.{meters_both}
+use Rattle.imagesize_io.proofs.Standings.{keeps_both}
 use Rattle.imagesize_io.proofs.reader.filling.fill.Goals as goal
 
 pub returns : goal.returns
@@ -10,11 +10,15 @@ returns g c =
     let rest = c.in_ok-rest.ensures in
     record {
       bound = search rules;
-      gives = gave_rest _ _ _ _ _ _ _ read.gives read.bound rest.gives rest.bound (search rules);
+      stand = gave_rest _ _ _ _ _ _ _ read.stand read.bound rest.stand rest.bound (search rules);
       taken = search rules;
       offset = search rules;
-      within = within_rest _ _ _ _ _ _ _ _ _ read.gives read.taken (search rules) (search rules) rest.within;
-      meters = meters_both read.meters rest.meters;
+      within = within_rest _ _ _ _ _ _ _ _ _ read.stand read.taken (search rules) (search rules) rest.within;
+      since = search rules;
+      behind = search rules;
+      calm = search rules;
+      keeps = search rules;
+      stops = search rules;
     }
 
 pub returns-in_err-rest : goal.returns-in_err-rest
@@ -24,9 +28,13 @@ returns-in_err-rest g c =
     let rest = c.in_err-rest.ensures in
     rw is (record {
       bound = tt;
-      gives = stopped_rest _ _ _ _ _ _ _ _ read.gives rest.gives;
+      stand = stopped_rest _ _ _ _ _ _ _ _ read.stand rest.stand;
       taken = tt;
       offset = tt;
-      within = within_rest _ _ _ _ _ _ _ _ _ read.gives read.taken (search rules) (search rules) rest.within;
-      meters = meters_both read.meters rest.meters;
+      within = within_rest _ _ _ _ _ _ _ _ _ read.stand read.taken (search rules) (search rules) rest.within;
+      since = rest.since ∙ read.since;
+      behind = rest.behind ∙ read.behind;
+      calm = tt;
+      keeps = keeps_both read.keeps rest.keeps;
+      stops = rest.stops;
     })

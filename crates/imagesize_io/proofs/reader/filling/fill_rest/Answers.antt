@@ -4,7 +4,7 @@ use Rattle.imagesize_io.proofs.Filling.{filled_none, filling_more, filling_done,
 use Rattle.imagesize_io.proofs.reader.filling.fill_rest.Goals as goal
 
 pub loop-filled-init : goal.loop-filled-init
-loop-filled-init g c = filled_none _ _ c.requires
+loop-filled-init g c = filled_none _ _ _ _ c.requires
 
 pub loop-filled-preserved : goal.loop-filled-preserved
 loop-filled-preserved g c =

@@ -4,7 +4,8 @@ use Rattle.imagesize_io.proofs.reader.filling.read_retrying.Given as goal
 
 abbrev pub invariant-loop-count : goal.invariant-loop-count
 invariant-loop-count g l = Retried
-    (g.R.Told.account l.initial.reader) (g.R.Told.account l.reader) l.initial.retries l.retries l.initial.fault l.fault
+    (g.R.Told.telling l.initial.reader) (g.R.Told.telling l.reader)
+    (g.R.Told.count l.initial.reader) (g.R.Told.count l.reader) l.initial.retries l.retries l.initial.fault l.fault
 
 abbrev pub decreases-loop-count : goal.decreases-loop-count
 decreases-loop-count g l = 64 - l.retries

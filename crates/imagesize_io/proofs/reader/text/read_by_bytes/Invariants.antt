@@ -1,12 +1,16 @@
 use Rattle.std.proofs.Common.{ℕ, ◌-◌, length, take}
-use Rattle.imagesize_io.specs.ReaderState.{reader_state, windowed}
+use Rattle.imagesize_io.specs.ReaderState.{reader_state}
+use Rattle.imagesize_io.specs.Telling.{account}
 use Rattle.imagesize_io.proofs.TextReads.{Taking}
 use Rattle.imagesize_io.proofs.reader.text.read_by_bytes.Given as goal
 
 abbrev pub invariant-loop-count : goal.invariant-loop-count
 invariant-loop-count g l = (home : ℕ) → Taking
-    (reader_state home (windowed (g.R.Told.account l.initial.reader) l.initial.ledger))
-    (reader_state home (windowed (g.R.Told.account l.reader) l.ledger))
+    (reader_state (account g.R.Told.telling g.R.Told.count g.R.Told.failure l.initial.reader) home
+    l.initial.ledger.progress
+    l.initial.ledger.window.items)
+    (reader_state (account g.R.Told.telling g.R.Told.count g.R.Told.failure l.reader) home l.ledger.progress
+    l.ledger.window.items)
     l.text l.offset l.count l.begun (length l.buffer) (take l.count l.buffer)
 
 abbrev pub decreases-loop-count : goal.decreases-loop-count

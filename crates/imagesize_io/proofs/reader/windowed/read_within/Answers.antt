@@ -1,7 +1,7 @@
 use Rattle.std.proofs.Common.{◌≡◌, ℕ, Result, Err, ◌+◌, ap, ◌∙◌, arith, refl, rules}
 use Rattle.imagesize_source.specs.declared.halt.Halt.{Halt}
+use Rattle.imagesize_io.specs.Telling.{account}
 use Rattle.imagesize_io.specs.ReaderState.{kept_window}
-use Rattle.imagesize_io.specs.Standing.{metered}
 use Rattle.imagesize_io.proofs.Filling.{put_there}
 use Rattle.imagesize_io.proofs.Layers.{some_copied, reads_behind, stops_behind}
 use Rattle.imagesize_io.proofs.Windows.{in_window, told_by}
@@ -10,12 +10,13 @@ use Rattle.imagesize_io.proofs.reader.windowed.read_within.Goals as goal
 pub returns-then-copied-buffer : goal.returns-then-copied-buffer
 returns-then-copied-buffer g c =
     let copy = c.copy_kept-copied in
+    let old = c.args.ledger.now.progress in
     record {
       bound = search rules;
       pays = search rules;
       keeps = search rules;
       runs = λ home.
-          let told = told_by home (metered (g.R.Told.account c.args.reader.now) c.args.ledger.now.progress) in
+          let told = told_by (account g.R.Told.telling g.R.Told.count g.R.Told.failure c.args.reader.now) home old in
           in_window _ _ _ _ _ _ _ _ _ told refl copy.ensures.count copy.ensures.copied c.if-copied-buffer.true
           copy.auto.buffer;
     }

@@ -14,7 +14,7 @@ returns-then-found-wanted-clause-runs c =
     f.result.1 f.result.0
     (record { start = c.args.offset + f.result.0; sure = f.result.1 - f.result.0; most = f.result.1 - f.result.0 })
     f.ensures.wanted c.if-found-wanted.true refl refl refl
-    (state_is c.miss.ensures.told
+    (state_is _ _ _ _ _ _ _ _ _ _ c.miss.ensures.told
     (run_is c.miss.ensures.start c.miss.ensures.kept c.miss.ensures.chunk)
     (both_bytes c.miss.ensures.kept c.miss.ensures.chunk) c.miss.ensures.seen c.miss.ensures.missed))
 
@@ -25,5 +25,5 @@ returns-clause-runs c =
     parts_read s.told (came s.start s.kept.now s.chunk.now)
     (s.kept.now ++ s.chunk.now) s.log.spans s.missed _ f.new.buffer c.args.offset
     f.result.1 f.result.0 f.ensures.wanted f.ensures.within c.if-found-wanted.false f.ensures.copied
-    (state_is c.see.ensures.told (run_is c.see.ensures.start c.see.ensures.kept c.see.ensures.chunk)
+    (state_is _ _ _ _ _ _ _ _ _ _ c.see.ensures.told (run_is c.see.ensures.start c.see.ensures.kept c.see.ensures.chunk)
     (both_bytes c.see.ensures.kept c.see.ensures.chunk) c.see.ensures.seen c.see.ensures.missed)

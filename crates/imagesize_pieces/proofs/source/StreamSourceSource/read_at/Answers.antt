@@ -17,5 +17,5 @@ returns-clause-runs c =
     (s.kept.now ++ s.chunk.now) s.log.spans s.missed _ c.copy_from_slice.new.self
     c.args.offset (length found) (length found) wanted (omega arith) (omega arith)
     (ap (take (length found)) same ∙ whole.1)
-    (state_is c.see.ensures.told (run_is c.see.ensures.start c.see.ensures.kept c.see.ensures.chunk)
+    (state_is _ _ _ _ _ _ _ _ _ _ c.see.ensures.told (run_is c.see.ensures.start c.see.ensures.kept c.see.ensures.chunk)
     (both_bytes c.see.ensures.kept c.see.ensures.chunk) c.see.ensures.seen c.see.ensures.missed)

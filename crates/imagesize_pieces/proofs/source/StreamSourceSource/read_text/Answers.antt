@@ -14,7 +14,7 @@ returns-then-is_cut-clause-runs c =
     (record { start = c.args.offset + f.result.0; sure = 1; most = f.result.1 - f.result.0 })
     f.ensures.wanted f.ensures.within f.ensures.copied (cut_is f.new.buffer f.result.0 f.result.1 c.args.offset s.told _ _
     f.ensures.wanted f.ensures.within c.is_cut.ensures ∙ c.if-is_cut.true) refl refl refl
-    (state_is c.miss.ensures.told
+    (state_is _ _ _ _ _ _ _ _ _ _ c.miss.ensures.told
     (run_is c.miss.ensures.start c.miss.ensures.kept c.miss.ensures.chunk)
     (both_bytes c.miss.ensures.kept c.miss.ensures.chunk) c.miss.ensures.seen c.miss.ensures.missed))
 
@@ -28,5 +28,5 @@ returns-clause-runs c =
     (cut_is f.new.buffer f.result.0 f.result.1 c.args.offset s.told _ _ f.ensures.wanted f.ensures.within c.is_cut.ensures
     ∙ c.if-is_cut.false)
     c.text_length-count.ensures.length
-    (state_is c.see.ensures.told (run_is c.see.ensures.start c.see.ensures.kept c.see.ensures.chunk)
+    (state_is _ _ _ _ _ _ _ _ _ _ c.see.ensures.told (run_is c.see.ensures.start c.see.ensures.kept c.see.ensures.chunk)
     (both_bytes c.see.ensures.kept c.see.ensures.chunk) c.see.ensures.seen c.see.ensures.missed)

@@ -10,7 +10,8 @@ returns-then-found-wanted-clause-runs c =
     f.result.1 f.result.0
     (record { start = c.args.offset + f.result.0; sure = f.result.1 - f.result.0; most = f.result.1 - f.result.0 })
     f.ensures.wanted c.if-found-wanted.true refl refl refl
-    (state_is c.miss.ensures.told c.miss.ensures.spans c.miss.ensures.bytes c.miss.ensures.seen c.miss.ensures.missed))
+    (state_is _ _ _ _ _ _ _ _ _ _ c.miss.ensures.told c.miss.ensures.spans c.miss.ensures.bytes c.miss.ensures.seen
+    c.miss.ensures.missed))
 
 pub returns-clause-runs : goal.returns-clause-runs
 returns-clause-runs c =
@@ -18,4 +19,5 @@ returns-clause-runs c =
     let f = c.fill_known-found in
     parts_read s.told s.spans.now s.bytes.now s.log.spans s.missed _ f.new.buffer c.args.offset
     f.result.1 f.result.0 f.ensures.wanted f.ensures.within c.if-found-wanted.false f.ensures.copied
-    (state_is c.see.ensures.told c.see.ensures.spans c.see.ensures.bytes c.see.ensures.seen c.see.ensures.missed)
+    (state_is _ _ _ _ _ _ _ _ _ _ c.see.ensures.told c.see.ensures.spans c.see.ensures.bytes c.see.ensures.seen
+    c.see.ensures.missed)

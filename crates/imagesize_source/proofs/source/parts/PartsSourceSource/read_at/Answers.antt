@@ -31,4 +31,5 @@ returns-clause-runs c =
     (ap (take (length found)) same
     ∙ front_part s.told s.spans.now s.bytes.now s.front.now s.front_known found c.args.offset (length found)
     (omega (arith, has.1, has.2)) (has.0 ∙ ap (part s.front.now c.args.offset) (omega (arith, has.1))) refl)
-    (state_is c.see.ensures.told c.see.ensures.spans c.see.ensures.bytes c.see.ensures.seen c.see.ensures.missed)
+    (state_is _ _ _ _ _ _ _ _ _ _ c.see.ensures.told c.see.ensures.spans c.see.ensures.bytes c.see.ensures.seen
+    c.see.ensures.missed)

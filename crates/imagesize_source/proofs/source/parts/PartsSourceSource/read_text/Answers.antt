@@ -12,7 +12,8 @@ returns-then-is_cut-clause-runs c =
     (record { start = c.args.offset + f.result.0; sure = 1; most = f.result.1 - f.result.0 })
     f.ensures.wanted f.ensures.within f.ensures.copied (cut_is f.new.buffer f.result.0 f.result.1 c.args.offset s.told _ _
     f.ensures.wanted f.ensures.within c.is_cut.ensures ∙ c.if-is_cut.true) refl refl refl
-    (state_is c.miss.ensures.told c.miss.ensures.spans c.miss.ensures.bytes c.miss.ensures.seen c.miss.ensures.missed))
+    (state_is _ _ _ _ _ _ _ _ _ _ c.miss.ensures.told c.miss.ensures.spans c.miss.ensures.bytes c.miss.ensures.seen
+    c.miss.ensures.missed))
 
 pub returns-clause-runs : goal.returns-clause-runs
 returns-clause-runs c =
@@ -23,4 +24,5 @@ returns-clause-runs c =
     (cut_is f.new.buffer f.result.0 f.result.1 c.args.offset s.told _ _ f.ensures.wanted f.ensures.within c.is_cut.ensures
     ∙ c.if-is_cut.false)
     c.text_length-count.ensures.length
-    (state_is c.see.ensures.told c.see.ensures.spans c.see.ensures.bytes c.see.ensures.seen c.see.ensures.missed)
+    (state_is _ _ _ _ _ _ _ _ _ _ c.see.ensures.told c.see.ensures.spans c.see.ensures.bytes c.see.ensures.seen
+    c.see.ensures.missed)
