@@ -1,5 +1,5 @@
 -- Where a walk over the bytes so far stands, for every input that begins with them.
-use Rattle.std.proofs.Common.{◌≡◌, ℕ, ◌+◌, ◌-◌, ◌^◌, ◌<◌, ◌≤◌, max, min, suc, leb, ◌&&◌, Bool, true, false, List, [], ◌∷◌, ◌++◌, length, Option, None, Some, Result, Ok, Err, inl, inr, sym, ap, ◌∙◌, subst, arith}
+use Rattle.std.proofs.Common.{◌≡◌, ℕ, ◌+◌, ◌-◌, ◌^◌, ◌<◌, ◌≤◌, max, min, suc, leb, ◌&&◌, Bool, true, false, List, [], ◌∷◌, ◌++◌, length, Option, None, Some, inl, inr, sym, ap, ◌∙◌, subst, arith}
 use Rattle.std.specs.Prelude.{option_map}
 use Rattle.std.specs.List.{list_any}
 use Rattle.std.specs.Option.{ForSome}
@@ -9,11 +9,10 @@ use Rattle.imagesize_source.specs.Agreement.{AllRead, has_offset, is_covered}
 use Rattle.imagesize_source.specs.Chain.{Chain, Along, next_record, chain_from, Advances}
 use Rattle.imagesize_source.specs.Input.{span_at}
 use Rattle.imagesize_source.specs.Known.{AllKnown, Lacks, parts_state}
-use Rattle.imagesize_source.specs.Reading.{Reads, go_on, put_behind, uncounted}
-use Rattle.imagesize_source.specs.declared.halt.Halt.{Halt}
+use Rattle.imagesize_source.specs.Reading.{put_behind, uncounted}
 use Rattle.imagesize_source.specs.State.{State, Misses, state_after}
 use Rattle.imagesize_source.proofs.Agreement.{alike_layout, covered-left, covered-right, with_texts}
-use Rattle.imagesize_source.proofs.Among.{Among, any_left, any_right, covered-any}
+use Rattle.imagesize_source.proofs.Among.{Among, any_right, covered-any}
 use Rattle.imagesize_source.proofs.ChainLaws.{chain_induction}
 use Rattle.imagesize_source.proofs.Chains.{chain_next, chain_stop, chain_unfolds, follows}
 use Rattle.imagesize_source.proofs.Runs.{past-recorded}

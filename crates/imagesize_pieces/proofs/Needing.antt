@@ -1,5 +1,5 @@
 -- What a result needs, between wider bounds and after other spans.
-use Rattle.std.proofs.Common.{◌≡◌, ℕ, suc, leb, ◌+◌, ◌<◌, ◌≤◌, Bool, true, false, ◌&&◌, List, ◌++◌, Result, Ok, Err, refl, sym, ◌∙◌, subst, arith}
+use Rattle.std.proofs.Common.{◌≡◌, ℕ, suc, leb, ◌+◌, ◌≤◌, Bool, true, false, ◌&&◌, List, ◌++◌, Result, Ok, Err, refl, sym, ◌∙◌, subst, arith}
 use Rattle.std.specs.List.{list_any}
 use Rattle.std.proofs.lemmas.Bool.Decides.{nat_tests}
 use Rattle.imagesize_source.specs.declared.halt.Halt.{Halt}

@@ -4,11 +4,12 @@ ghost use Rattle.std.specs.Option.{ForSome};
 ghost use Rattle.imagesize_source.specs.Agreement.{has_offset};
 ghost use Rattle.imagesize_source.specs.Input.{part, span_at};
 ghost use Rattle.imagesize_source.specs.Known.{AllKnown, Lacks};
-ghost use Rattle.imagesize_source.specs.Reading.{part_read, map_answer};
+ghost use Rattle.imagesize_source.specs.Reading.{part_read, text_read, map_answer};
 ghost use Rattle.imagesize_source.specs.State.{Runs};
 ghost use Rattle.imagesize_pieces.specs.Stream.{byte_at, came, end_of, stream_input, stream_state};
 
 use crate::buffer::bytes_behind;
+use imagesize_source::part::copy_ended;
 use imagesize_source::source::Source;
 use imagesize_source::source::log::SpanLog;
 use imagesize_source::source::parts::{Missing, count_there, is_cut, put};
@@ -207,6 +208,26 @@ impl<'a> StreamSource<'a> {
         self.see(offset, found);
         Ok(found)
     }
+
+    // A text that no slice contains as a whole.
+    #[cold]
+    #[inline(never)]
+    fn gather_text(&mut self, offset: u64, text: Text, buffer: &mut [u8]) -> Result<usize, Halt>
+        ensures bound { IfOk result (λ n. n ≤ length buffer.new) }
+        ensures there { IfOk result (λ n. n ≤ self.old.told - offset) }
+        ensures runs { Runs (stream_state self.old.told self.old.start self.old.kept.now self.old.chunk.now self.old.log.spans self.old.missed)
+            (stream_state self.new.told self.new.start self.new.kept.now self.new.chunk.now self.new.log.spans self.new.missed)
+            (map_answer (λ n. take n buffer.new) result)
+            (text_read (stream_input self.old.told self.old.start self.old.kept.now self.old.chunk.now) text offset (length buffer.new)) }
+    {
+        let (found, wanted) = self.fill_known(offset, buffer);
+        if is_cut(text, &buffer[..found], wanted) {
+            return Err(self.miss(offset, found, 1, wanted - found));
+        }
+        let count = text_length(text, &buffer[..found]);
+        self.see(offset, count);
+        Ok(count)
+    }
 }
 
 impl Source for StreamSource<'_> {
@@ -234,12 +255,11 @@ impl Source for StreamSource<'_> {
         Ok(found.len())
     }
 
+    #[inline(always)]
     fn read_text(&mut self, offset: u64, text: Text, buffer: &mut [u8]) -> Result<usize, Halt> {
-        let (found, wanted) = self.fill_known(offset, buffer);
-        if is_cut(text, &buffer[..found], wanted) {
-            return Err(self.miss(offset, found, 1, wanted - found));
-        }
-        let count = text_length(text, &buffer[..found]);
+        let Some(count) = copy_ended(self.known_from(offset), text, buffer) else {
+            return self.gather_text(offset, text, buffer);
+        };
         self.see(offset, count);
         Ok(count)
     }

@@ -10,7 +10,7 @@ use Rattle.imagesize_source.specs.Input.{part}
 use Rattle.imagesize_source.specs.Known.{byte_of, filled_input, byte_in_parts, reaches, length_within}
 use Rattle.imagesize_source.proofs.Texts.{found}
 use Rattle.imagesize_source.proofs.Known.{filled_at, known_below, length-filled_input}
-use Rattle.imagesize_source.proofs.Parts.{part_length, part_at}
+use Rattle.imagesize_source.proofs.Parts.{part_length, part_at, part_none}
 
 -- a part goes on with the next one
 part_more : (d : List ℕ) (offset i n : ℕ) → part d offset (i + n) ≡ part d offset i ++ part d (offset + i) n
@@ -98,6 +98,25 @@ module _ (n : ℕ) (spans : List Span) (bytes front : List ℕ)
       run_part n spans bytes found offset count (omega (arith, long)) (omega (arith, fits, front_long))
       (λ i below. is (offset + i) (omega (arith, fits, below, long))
       ∙ ap Some (sym (part_at front offset count i (omega (arith, below, long))) ∙ ap (λ bs. get_or bs i 0) (sym at)))
+
+  -- whatever it is, also nothing
+  pub front_there : (found : List ℕ) (offset : ℕ) → found ≡ part front offset (length found)
+      → (length found ≤ n - offset) × (take (length found) found ≡ part (filled_input n spans bytes) offset (length found))
+  front_there found offset at = by_length (length found) refl where
+    long : length found ≤ length front - offset
+    long = omega (arith, ap length at, part_length front offset (length found))
+
+    by_length : (k : ℕ) → length found ≡ k
+        → (length found ≤ n - offset) × (take (length found) found ≡ part (filled_input n spans bytes) offset (length found))
+    by_length zero none = (
+      omega (arith, none),
+      ap (λ k. take k found) none ∙ sym (part_none (filled_input n spans bytes) offset)
+          ∙ ap (part (filled_input n spans bytes) offset) (sym none),
+    )
+    by_length (suc k) some = (
+      omega (arith, some, long, front_long),
+      front_part found offset (length found) (omega (arith, some, long)) at refl,
+    )
 
 -- ---- one part after another
 

@@ -31,6 +31,11 @@ pub parts_sound : (n : ℕ) (spans : List Span) (bytes : List ℕ) (log : List S
 parts_sound n spans bytes log missed = λ honest.
     let long = length-filled_input n spans bytes in (sym long, grind (arith, nat_tests))
 
+-- nothing and no
+and_false : (b : Bool) → b && false ≡ false
+and_false true = refl
+and_false false = refl
+
 -- a text that is ended stays so
 ended_more : (t : Text) (xs ys : List ℕ) → is_ended t xs ≡ true → is_ended t (xs ++ ys) ≡ true
 ended_more t xs ys is = sym (front_any t (xs ++ ys)) ∙ ap (is_ended t) (front_more t xs ys is) ∙ front_any t xs ∙ is
@@ -205,6 +210,20 @@ module _ (n : ℕ) (spans : List Span) (bytes : List ℕ) (log : List Span) (mis
       answers (text_read d t offset (length buffer)) b (take count buffer)
       (after ∙ ap (λ k. parts_state n spans bytes (log ++ span_at offset k) missed) (counts ∙ ap length (sym is)))
       (ap Ok (is ∙ sym got))
+
+  -- a text whose bytes are known, with the one that ends it
+  pub parts_ended : (b : State) (t : Text) (buffer : List ℕ) (offset m : ℕ) → m ≤ length buffer → m ≤ n - offset
+      → take m buffer ≡ part (filled_input n spans bytes) offset m
+      → is_ended t (take m buffer) ≡ true → text_front t (take m buffer) ≡ take m buffer
+      → b ≡ parts_state n spans bytes (log ++ span_at offset m) missed
+      → Runs (parts_state n spans bytes log missed) b (Ok (take m buffer))
+      (text_read (filled_input n spans bytes) t offset (length buffer))
+  parts_ended b t buffer offset m fits there known ended whole after =
+      let uncut : leb (suc m) (min (length buffer) (n - offset)) && not (is_ended t (take m buffer)) ≡ false =
+      ap (λ is. leb (suc m) (min (length buffer) (n - offset)) && not is) ended
+      ∙ and_false (leb (suc m) (min (length buffer) (n - offset))) in
+      parts_text b t buffer offset (min (length buffer) (n - offset)) m m refl (omega (arith, fits, there)) known uncut
+      (omega (arith, ap length whole, length-take m buffer, fits)) after
 
   pub parts_text_missing : (b : State) (t : Text) (buffer : List ℕ) (offset k wanted found : ℕ) (w : Missing)
       → wanted ≡ min k (n - offset) → found ≤ wanted → take found buffer ≡ part (filled_input n spans bytes) offset found

@@ -20,6 +20,7 @@ pub mod Marks
 pub mod Numbers
 pub mod Parts
 pub mod PastTheEnd
+pub mod Places
 pub mod Reached
 pub mod Recordings
 pub mod Runs

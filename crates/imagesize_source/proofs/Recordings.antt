@@ -1,5 +1,5 @@
 -- What a reading of a slice records.
-use Rattle.std.proofs.Common.{◌≡◌, ℕ, ◌+◌, ◌-◌, ◌^◌, ◌<◌, ◌≤◌, min, List, [], ◌∷◌, ◌++◌, length, take, drop, Ok, refl, sym, ap, subst, ◌∙◌, append_assoc, add-zero, arith}
+use Rattle.std.proofs.Common.{◌≡◌, ℕ, ◌+◌, ◌-◌, ◌^◌, ◌<◌, ◌≤◌, min, List, [], ◌∷◌, ◌++◌, length, take, drop, length-take, Ok, refl, sym, ap, subst, ◌∙◌, append_assoc, add-zero, arith}
 use Rattle.std.proofs.lemmas.List.{append-nil, length-append}
 use Rattle.imagesize_source.specs.declared.span.Span.{Span}
 use Rattle.imagesize_source.specs.Buffer.{Holds}
@@ -8,7 +8,7 @@ use Rattle.imagesize_source.specs.Reading.{Reads, part_read, text_part, text_rea
 use Rattle.imagesize_source.specs.declared.text.Text.{Text}
 use Rattle.imagesize_source.specs.State.{State, Runs, state_after, recording_state, total}
 use Rattle.imagesize_source.proofs.Runs.{total-append}
-use Rattle.imagesize_source.proofs.Slices.{copied_is, front_is, given_runs}
+use Rattle.imagesize_source.proofs.Slices.{front_is, given_runs}
 
 -- the spans of readings are recorded behind those before
 pub past-recording : (d : List ℕ) (spans more : List Span) (home : ℕ) → state_after
@@ -51,16 +51,14 @@ recording_reads d e buffer old spans after home there offset n short bytes name 
     (recorded ∙ ap (λ s. spans ++ s) (span_is d offset (length old) (length buffer) n count kept))
 
 -- a reading of a text
-pub recording_reads_text : (d e old copied found : List ℕ) (t : Text) (spans after : List Span) (home there : ℕ)
-    (offset : ℕ) → length d < 2 ^ 63 → e ≡ d → there ≡ home → found ≡ text_part d t offset (length old) → length found ≤ length old
-    → copied ≡ found → after ≡ spans ++ span_at offset (length found) → Runs (recording_state d spans home)
-    (recording_state e after there) (Ok (take (length found) (copied ++ drop (length found) old)))
-    (text_read d t offset (length (copied ++ drop (length found) old)))
-recording_reads_text d e old copied found t spans after home there offset short bytes name is fits same recorded =
-    let front = copied_is d old copied found t offset is fits same in
-    recording_runs d e spans after home there (take (length found) (copied ++ drop (length found) old)) short bytes name
-    (ap Ok (sym (front.0 ∙ front.1)))
-    (recorded ∙ ap (λ bs. spans ++ span_at offset (length bs)) front.1)
+pub recording_reads_text : (d e buffer : List ℕ) (t : Text) (spans after : List Span) (home there : ℕ) (offset count : ℕ)
+    → length d < 2 ^ 63 → e ≡ d → there ≡ home → take count buffer ≡ text_part d t offset (length buffer) → count ≤ length buffer
+    → after ≡ spans ++ span_at offset count → Runs (recording_state d spans home)
+    (recording_state e after there) (Ok (take count buffer)) (text_read d t offset (length buffer))
+recording_reads_text d e buffer t spans after home there offset count short bytes name is fits recorded =
+    let long : count ≡ length (text_part d t offset (length buffer)) = omega (arith, ap length is, length-take count buffer, fits) in
+    recording_runs d e spans after home there (take count buffer) short bytes name (ap Ok (sym is))
+    (recorded ∙ ap (λ n. spans ++ span_at offset n) long)
 
 -- one span more is held
 pub written_on : (buffer spans log : List Span) (s : Span) → log ≡ spans ++ s ∷ [] → Holds buffer (spans ++ s ∷ []) → Holds buffer log

@@ -1,6 +1,6 @@
 -- What a reading of a slice sees.
 use Rattle.std.proofs.Common.{◌≡◌, ℕ, ◌-◌, ◌^◌, ◌<◌, ◌≤◌, min, List, [], ◌∷◌, ◌++◌, length, take, drop, Ok, inl, inr, refl, sym, ap, ◌∙◌, arith}
-use Rattle.std.proofs.lemmas.List.{length-append, length-drop, drop_all, take_all, take_min}
+use Rattle.std.proofs.lemmas.List.{length-drop, drop_all, take_all, take_min}
 use Rattle.std.proofs.Math.Seq.{take-append_seam}
 use Rattle.imagesize_source.specs.declared.span.Span.{Span}
 use Rattle.imagesize_source.specs.Input.{part}
@@ -110,29 +110,8 @@ slice_text_there d found t offset from k m found_is m_is there some =
       part_length d offset k,
     )
 
--- what was copied of a text is the text
-pub copied_is : (d old copied found : List ℕ) (t : Text) (offset : ℕ) → found ≡ text_part d t offset (length old)
-    → length found ≤ length old → copied ≡ found → (take (length found) (copied ++ drop (length found) old) ≡ found)
-    × (found ≡ text_part d t offset (length (copied ++ drop (length found) old)))
-copied_is d old copied found t offset is fits same =
-    let kept : length (copied ++ drop (length found) old) ≡ length old = omega (
-      arith,
-      length-append copied (drop (length found) old),
-      ap length same,
-      length-drop (length found) old,
-      fits,
-    ) in (
-      ap (λ bs. take (length found) (bs ++ drop (length found) old)) same
-          ∙ take-append_seam found (drop (length found) old),
-      is ∙ ap (text_part d t offset) (sym kept),
-    )
-
 -- the reading of a text of a slice
-pub slice_reads_text : (d old copied found : List ℕ) (t : Text) (offset : ℕ) → length d < 2 ^ 63
-    → found ≡ text_part d t offset
-    (length old) → length found ≤ length old → copied ≡ found → Runs (slice_state d) (slice_state d)
-    (Ok (take (length found) (copied ++ drop (length found) old)))
-    (text_read d t offset (length (copied ++ drop (length found) old)))
-slice_reads_text d old copied found t offset short is fits same =
-    let front = copied_is d old copied found t offset is fits same in
-    slice_runs d (take (length found) (copied ++ drop (length found) old)) short (ap Ok (sym (front.0 ∙ front.1)))
+pub slice_reads_text : (d buffer : List ℕ) (t : Text) (offset count : ℕ) → length d < 2 ^ 63
+    → take count buffer ≡ text_part d t offset (length buffer)
+    → Runs (slice_state d) (slice_state d) (Ok (take count buffer)) (text_read d t offset (length buffer))
+slice_reads_text d buffer t offset count short is = slice_runs d (take count buffer) short (ap Ok (sym is))

@@ -184,7 +184,7 @@ front_first t bs =
     )
 
 -- the text of a text is itself
-front_front : (t : Text) (bs : List ℕ) → is_ended t bs ≡ true → text_front t (text_front t bs) ≡ text_front t bs
+pub front_front : (t : Text) (bs : List ℕ) → is_ended t bs ≡ true → text_front t (text_front t bs) ≡ text_front t bs
 front_front t bs some =
     let split = front_first t bs in
     sym (front_more t (text_front t bs) split.0 (front_any t bs ∙ some)) ∙ ap (text_front t) split.1
@@ -238,37 +238,7 @@ word_length bs start begins =
     ∙ length-append (take start bs) (take n (drop start bs))
     ∙ omega (arith, length-take start bs, length-take n (drop start bs), length-drop start bs, at.1)
 
--- the length of a word that never begins, of one that never ends, and of one that ends
-pub word_blank : (bs : List ℕ) → position (λ b. not (is_ascii_whitespace b)) bs ≡ None
-    → length bs ≡ length (text_front Word bs)
-unfolding text_front
-word_blank bs blank =
-    let n : ℕ = position_or_len (λ b. not (is_ascii_whitespace b)) bs in
-    let beyond : length bs ≤ n = not_found (λ b. not (is_ascii_whitespace b)) bs blank in
-    let m : ℕ = position_or_len is_ascii_whitespace (drop n bs) + 1 in
-    omega (
-      arith,
-      length-append (take n bs) (take m (drop n bs)),
-      length-take n bs,
-      length-take m
-          (drop n bs),
-      length-drop n bs,
-    )
-
-pub word_open : (bs : List ℕ) (start : ℕ) → position (λ b. not (is_ascii_whitespace b)) bs ≡ Some start
-    → position is_ascii_whitespace
-    (take (length bs - start) (drop start bs)) ≡ None → length bs ≡ length (text_front Word bs)
-word_open bs start begins goes_on =
-    let all : take (length bs - start) (drop start bs) ≡ drop start bs = take_all (length bs - start) (drop start bs)
-    (omega (arith, length-drop start bs)) in
-    let on = not_found is_ascii_whitespace (drop start bs) (sym (ap (position is_ascii_whitespace) all) ∙ goes_on) in
-    omega (
-      arith,
-      word_length bs start begins,
-      length-drop start bs,
-      (found (λ b. not (is_ascii_whitespace b)) bs start begins).1,
-    )
-
+-- the length of a word that ends
 pub word_closed : (bs : List ℕ) (start i : ℕ) → position (λ b. not (is_ascii_whitespace b)) bs ≡ Some start
     → position is_ascii_whitespace (take (length bs - start) (drop start bs)) ≡ Some i
     → start + i + 1 ≡ length (text_front Word bs)

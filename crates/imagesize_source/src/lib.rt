@@ -6,6 +6,7 @@ pub mod error;
 pub mod halt;
 pub mod part;
 pub mod readings;
+mod search;
 pub mod source;
 pub mod span;
 pub mod text;

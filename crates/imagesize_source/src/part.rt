@@ -1,10 +1,11 @@
 //! Parts of a slice from an offset on, as far as the slice goes.
-ghost use Rattle.std.specs.Prelude.{◌≡◌, ◌<◌, ◌≤◌, min, ◌-◌, ◌++◌, drop, length};
+ghost use Rattle.std.specs.Prelude.{◌≡◌, ◌<◌, ◌≤◌, min, ◌-◌, ◌++◌, take, drop, length, true, IfSome};
 ghost use Rattle.imagesize_source.specs.Input.{part};
 ghost use Rattle.imagesize_source.specs.Reading.{text_part};
+ghost use Rattle.imagesize_source.specs.Text.{is_ended, text_front};
 
 use crate::Text;
-use crate::text::text_length;
+use crate::text::{ended_length, text_length};
 
 /// Copies the bytes from an offset on into the buffer, as far as there are any, and returns how many were copied.
 #[inline(always)]
@@ -38,12 +39,56 @@ pub(crate) fn part_of(bytes: &[u8], offset: u64, most: u64) -> &[u8]
     &rest[..rest.len().min(most as usize)]
 }
 
-/// The text from an offset on, at most `most` bytes of it.
-pub(crate) fn text_at(bytes: &[u8], offset: u64, text: Text, most: usize) -> &[u8]
-    ensures text { result.now ≡ text_part bytes.now text offset most }
-    ensures fits { length result.now ≤ most }
-    ensures there { 0 < length result.now → offset < length bytes.now }
+/// Copies the text from an offset on into the buffer, as far as it fits, and returns how many bytes it has. The buffer after the
+/// text may change.
+#[inline(always)]
+pub(crate) fn copy_text_at(bytes: &[u8], offset: u64, text: Text, buffer: &mut [u8]) -> usize
+    ensures text { take result buffer.new ≡ text_part bytes.now text offset (length buffer.new) }
+    ensures fits { result ≤ length buffer.new }
+    ensures there { 0 < result → offset < length bytes.now }
 {
-    let part = part_of(bytes, offset, most as u64);
-    &part[..text_length(text, part)]
+    let part = part_of(bytes, offset, buffer.len() as u64);
+    let count = text_length(text, part);
+    copy_front(part, count, buffer);
+    count
+}
+
+/// Copies the text at the front of the bytes into the buffer, with the byte that ends it, and returns how many bytes it has.
+/// Returns `None` if the bytes or the buffer end before the text does.
+///
+/// It searches for the end first. So it copies the text alone, and not byte by byte. The buffer after the text may change.
+#[inline(always)]
+pub fn copy_ended(bytes: &[u8], text: Text, buffer: &mut [u8]) -> Option<usize>
+    ensures bound { IfSome result (λ n. n ≤ length buffer.new) }
+    ensures there { IfSome result (λ n. n ≤ length bytes.now) }
+    ensures copied { IfSome result (λ n. take n buffer.new ≡ take n bytes.now) }
+    ensures ended { IfSome result (λ n. is_ended text (take n bytes.now) ≡ true) }
+    ensures whole { IfSome result (λ n. text_front text (take n bytes.now) ≡ take n bytes.now) }
+{
+    let most = bytes.len().min(buffer.len());
+    match ended_length(text, &bytes[..most]) {
+        Some(count) => {
+            copy_front(bytes, count, buffer);
+            Some(count)
+        }
+        None => None,
+    }
+}
+
+// How many bytes are copied at once where a text is short.
+const SHORT: usize = 16;
+
+/// Copies the first `count` bytes into the buffer. A short text is copied by one load and one store, and not by a call. The
+/// buffer after the text may change.
+#[inline(always)]
+pub fn copy_front(bytes: &[u8], count: usize, buffer: &mut [u8])
+    requires there { count ≤ length bytes.now }
+    requires fits { count ≤ length buffer.old }
+    ensures { take count buffer.new ≡ take count bytes.now }
+{
+    if count <= SHORT && bytes.len() >= SHORT && buffer.len() >= SHORT {
+        buffer[..SHORT].copy_from_slice(&bytes[..SHORT]);
+    } else {
+        buffer[..count].copy_from_slice(&bytes[..count]);
+    }
 }

@@ -1,8 +1,10 @@
 //! Texts within an input: bytes up to one that ends them.
-ghost use Rattle.std.specs.Prelude.{◌≡◌, ◌≤◌, ◌==◌, not, length};
+ghost use Rattle.std.specs.Prelude.{◌≡◌, ◌≤◌, not, true, false, None, length, IfSome};
 ghost use Rattle.std.specs.List.{position};
 ghost use Rattle.std.specs.Char.{is_ascii_whitespace};
-ghost use Rattle.imagesize_source.specs.Text.{ends, is_ended, front_through, text_front};
+ghost use Rattle.imagesize_source.specs.Text.{ends, is_ended, text_front};
+
+use crate::search::first_of;
 
 /// A text, by what ends it. If nothing ends it, it goes on to the end of the input or of the buffer.
 #[derive(Clone, Copy, Debug, PartialEq, Eq)]
@@ -14,10 +16,26 @@ pub enum Text {
 }
 
 /// How many bytes the text at the front of the bytes has.
+#[inline]
 #[tactic(auto, using(crate::proofs::Texts::fronts))]
 pub fn text_length(text: Text, bytes: &[u8]) -> usize
     ensures length { result ≡ length (text_front text bytes.now) }
     ensures within { result ≤ length bytes.now }
+{
+    match ended_length(text, bytes) {
+        Some(length) => length,
+        None => bytes.len(),
+    }
+}
+
+/// How many bytes the text at the front of the bytes has, with the byte that ends it. `None` if none of the bytes ends it.
+///
+/// A caller that needs the length and whether the text is ended searches the bytes once.
+#[inline]
+pub fn ended_length(text: Text, bytes: &[u8]) -> Option<usize>
+    ensures ended { IfSome result (λ _. is_ended text bytes.now ≡ true) }
+    ensures length { IfSome result (λ n. n ≡ length (text_front text bytes.now)) }
+    ensures open { result ≡ None → is_ended text bytes.now ≡ false }
 {
     match text {
         Text::Line { delimiter } => line_length(delimiter, bytes),
@@ -25,41 +43,43 @@ pub fn text_length(text: Text, bytes: &[u8]) -> usize
     }
 }
 
-// How many bytes there are up to and with the delimiter; all of them if it is missing.
-fn line_length(delimiter: u8, bytes: &[u8]) -> usize
-    ensures { result ≡ length (front_through (λ b. b == delimiter) bytes.now) }
+// How many bytes there are up to and with the delimiter, if it is there.
+#[inline(always)]
+fn line_length(delimiter: u8, bytes: &[u8]) -> Option<usize>
+    ensures ended { IfSome result (λ _. is_ended (Text.Line delimiter) bytes.now ≡ true) }
+    ensures length { IfSome result (λ n. n ≡ length (text_front (Text.Line delimiter) bytes.now)) }
+    ensures open { result ≡ None → is_ended (Text.Line delimiter) bytes.now ≡ false }
 {
-    match first_delimiter(delimiter, bytes) {
-        Some(index) => index + 1,
-        None => bytes.len(),
+    match first_of(delimiter, bytes) {
+        Some(index) => Some(index + 1),
+        None => None,
     }
 }
 
-// How many bytes there are up to and with the white space that ends the first word; all of them if it is missing.
-fn word_length(bytes: &[u8]) -> usize
-    ensures { result ≡ length (text_front Text.Word bytes.now) }
+// How many bytes there are up to and with the white space that ends the first word, if it is there.
+#[inline]
+fn word_length(bytes: &[u8]) -> Option<usize>
+    ensures ended { IfSome result (λ _. is_ended Text.Word bytes.now ≡ true) }
+    ensures length { IfSome result (λ n. n ≡ length (text_front Text.Word bytes.now)) }
+    ensures open { result ≡ None → is_ended Text.Word bytes.now ≡ false }
 {
     let Some(start) = first_of_word(bytes) else {
-        return bytes.len();
+        return None;
     };
     match first_white(&bytes[start..]) {
-        Some(index) => start + index + 1,
-        None => bytes.len(),
+        Some(index) => Some(start + index + 1),
+        None => None,
     }
 }
 
-fn first_delimiter(delimiter: u8, bytes: &[u8]) -> Option<usize>
-    ensures { result ≡ position (λ b. b == delimiter) bytes.now }
-{
-    bytes.iter().position(|byte| *byte == delimiter)
-}
-
+#[inline]
 fn first_of_word(bytes: &[u8]) -> Option<usize>
     ensures { result ≡ position (λ b. not (is_ascii_whitespace b)) bytes.now }
 {
     bytes.iter().position(|byte| !byte.is_ascii_whitespace())
 }
 
+#[inline]
 fn first_white(bytes: &[u8]) -> Option<usize>
     ensures { result ≡ position is_ascii_whitespace bytes.now }
 {
@@ -70,26 +90,8 @@ fn first_white(bytes: &[u8]) -> Option<usize>
 pub(crate) fn is_closed(text: Text, bytes: &[u8]) -> bool
     ensures { result ≡ is_ended text bytes.now }
 {
-    match text {
-        Text::Line { delimiter } => line_is_closed(delimiter, bytes),
-        Text::Word => word_is_closed(bytes),
-    }
-}
-
-// Whether the delimiter is among the bytes.
-#[tactic(auto, using(crate::proofs::TextEnds::line_ended))]
-fn line_is_closed(delimiter: u8, bytes: &[u8]) -> bool
-    ensures { result ≡ is_ended (Text.Line delimiter) bytes.now }
-{
-    first_delimiter(delimiter, bytes).is_some()
-}
-
-// Whether white space follows a word.
-fn word_is_closed(bytes: &[u8]) -> bool
-    ensures { result ≡ is_ended Text.Word bytes.now }
-{
-    match first_of_word(bytes) {
-        Some(start) => first_white(&bytes[start..]).is_some(),
+    match ended_length(text, bytes) {
+        Some(_) => true,
         None => false,
     }
 }

@@ -5,13 +5,13 @@ ghost use Rattle.std.specs.Option.{ForSome};
 ghost use Rattle.imagesize_source.specs.Agreement.{has_offset};
 ghost use Rattle.imagesize_source.specs.Input.{part, span_at};
 ghost use Rattle.imagesize_source.specs.Known.{AllKnown, Lacks, filled_input, byte_in_parts, parts_state, length_within};
-ghost use Rattle.imagesize_source.specs.Reading.{part_read, map_answer};
+ghost use Rattle.imagesize_source.specs.Reading.{part_read, text_read, map_answer};
 ghost use Rattle.imagesize_source.specs.State.{Runs};
 ghost use Rattle.imagesize_source.specs.Text.{is_ended};
 
 use super::Source;
 use super::log::SpanLog;
-use crate::part::part_of;
+use crate::part::{copy_ended, part_of};
 use crate::text::{is_closed, text_length};
 use crate::{Halt, ImageError, Reason, Span, Text};
 
@@ -175,6 +175,26 @@ impl<'a> PartsSource<'a> {
         self.see(offset, found);
         Ok(found)
     }
+
+    // A text that `front` does not contain as a whole.
+    #[cold]
+    #[inline(never)]
+    fn gather_text(&mut self, offset: u64, text: Text, buffer: &mut [u8]) -> Result<usize, Halt>
+        ensures bound { IfOk result (λ n. n ≤ length buffer.new) }
+        ensures there { IfOk result (λ n. n ≤ self.old.told - offset) }
+        ensures runs { Runs (parts_state self.old.told self.old.spans.now self.old.bytes.now self.old.log.spans self.old.missed)
+            (parts_state self.new.told self.new.spans.now self.new.bytes.now self.new.log.spans self.new.missed)
+            (map_answer (λ n. take n buffer.new) result)
+            (text_read (filled_input self.old.told self.old.spans.now self.old.bytes.now) text offset (length buffer.new)) }
+    {
+        let (found, wanted) = self.fill_known(offset, buffer);
+        if is_cut(text, &buffer[..found], wanted) {
+            return Err(self.miss(offset, found, 1, wanted - found));
+        }
+        let count = text_length(text, &buffer[..found]);
+        self.see(offset, count);
+        Ok(count)
+    }
 }
 
 impl Source for PartsSource<'_> {
@@ -202,12 +222,11 @@ impl Source for PartsSource<'_> {
         Ok(found.len())
     }
 
+    #[inline(always)]
     fn read_text(&mut self, offset: u64, text: Text, buffer: &mut [u8]) -> Result<usize, Halt> {
-        let (found, wanted) = self.fill_known(offset, buffer);
-        if is_cut(text, &buffer[..found], wanted) {
-            return Err(self.miss(offset, found, 1, wanted - found));
-        }
-        let count = text_length(text, &buffer[..found]);
+        let Some(count) = copy_ended(bytes_behind(self.front, offset), text, buffer) else {
+            return self.gather_text(offset, text, buffer);
+        };
         self.see(offset, count);
         Ok(count)
     }

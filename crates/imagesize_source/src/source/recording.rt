@@ -7,7 +7,7 @@ ghost use Rattle.imagesize_source.specs.declared.span.Span.{Span};
 
 use super::Source;
 use super::log::SpanLog;
-use crate::part::{copy_part, text_at};
+use crate::part::{copy_part, copy_text_at};
 use crate::{Halt, ImageError, Reason, Span, Text};
 
 /// A slice that is read at offsets, and the spans of the reads so far, in order. A read that saw no byte has no span.
@@ -28,6 +28,7 @@ pub struct RecordingSource<'a, 'b> {
 
 impl<'a, 'b> RecordingSource<'a, 'b> {
     /// A source of a slice's bytes that writes its spans to the caller's buffer. It has no spans yet.
+    #[inline(always)]
     pub fn new(bytes: &'a [u8], buffer: &'b mut [Span]) -> Self
         ensures bytes { result.bytes.now ≡ bytes.now }
         ensures same_reference { result.buffer.ghost_name ≡ buffer.entry.ghost_name }
@@ -43,6 +44,7 @@ impl<'a, 'b> RecordingSource<'a, 'b> {
     }
 
     // Records `count` bytes from an offset on. Without bytes it records no span.
+    #[inline(always)]
     #[tactic(auto, unfolding(crate::specs::Input::span_at))]
     fn record(&mut self, start: u64, count: usize)
         ensures same_reference { self.new.buffer.ghost_name ≡ self.old.buffer.ghost_name }
@@ -61,6 +63,7 @@ impl<'a, 'b> RecordingSource<'a, 'b> {
 }
 
 // Writes a span after `count` others, if it fits.
+#[inline(always)]
 fn put(buffer: &mut [Span], count: usize, span: Span)
     ensures { (spans : List Span) → count ≡ min (length spans) (2 ^ 64 - 1) → Holds buffer.old spans
         → Holds buffer.new (spans ++ span ∷ []) }
@@ -73,10 +76,12 @@ fn put(buffer: &mut [Span], count: usize, span: Span)
 impl Source for RecordingSource<'_, '_> {
     ghost state = { λ s. recording_state s.bytes.now s.log.spans s.buffer.ghost_name };
 
+    #[inline(always)]
     fn told(&self) -> u64 {
         self.bytes.len() as u64
     }
 
+    #[inline(always)]
     fn taken(&self) -> u64 {
         0
     }
@@ -85,6 +90,7 @@ impl Source for RecordingSource<'_, '_> {
         halt.error(Reason::EndOfInput, 0)
     }
 
+    #[inline(always)]
     fn read_at(&mut self, offset: u64, buffer: &mut [u8]) -> Result<usize, Halt> {
         // The proof needs that the length is below 2^63.
         let _length = self.bytes.len();
@@ -96,9 +102,8 @@ impl Source for RecordingSource<'_, '_> {
     fn read_text(&mut self, offset: u64, text: Text, buffer: &mut [u8]) -> Result<usize, Halt> {
         // The proof needs that the length is below 2^63.
         let _length = self.bytes.len();
-        let found = text_at(self.bytes, offset, text, buffer.len());
-        self.record(offset, found.len());
-        buffer[..found.len()].copy_from_slice(found);
-        Ok(found.len())
+        let length = copy_text_at(self.bytes, offset, text, buffer);
+        self.record(offset, length);
+        Ok(length)
     }
 }

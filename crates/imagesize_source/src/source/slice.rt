@@ -3,7 +3,7 @@ ghost use Rattle.std.specs.Prelude.{◌<◌, ◌-◌, length};
 ghost use Rattle.imagesize_source.specs.State.{slice_state};
 
 use super::Source;
-use crate::part::{copy_part, text_at};
+use crate::part::{copy_part, copy_text_at};
 use crate::{Halt, ImageError, Reason, Text};
 
 /// A slice that is read at offsets.
@@ -41,8 +41,6 @@ impl Source for SliceSource<'_> {
     fn read_text(&mut self, offset: u64, text: Text, buffer: &mut [u8]) -> Result<usize, Halt> {
         // The proof needs that the length is below 2^63.
         let _length = self.bytes.len();
-        let found = text_at(self.bytes, offset, text, buffer.len());
-        buffer[..found.len()].copy_from_slice(found);
-        Ok(found.len())
+        Ok(copy_text_at(self.bytes, offset, text, buffer))
     }
 }

@@ -4,7 +4,6 @@ use Rattle.imagesize_source.proofs.source.recording.RecordingSourceSource.read_t
 
 pub returns-clause-runs : goal.returns-clause-runs
 returns-clause-runs c =
-    recording_reads_text c.args.self.now.bytes.now c.record.new.self.bytes.now c.args.buffer.now c.copy_from_slice.new.self
-    c.text_at-found.result.now c.args.text _ _ _ _ c.args.offset
-    (omega arith) c.record.ensures.bytes c.record.ensures.same_reference c.text_at-found.ensures.text c.text_at-found.ensures.fits
-    c.copy_from_slice.ensures.after c.record.ensures.recorded
+    recording_reads_text c.args.self.now.bytes.now c.record.new.self.bytes.now c.copy_text_at-length.new.buffer c.args.text _ _ _ _
+    c.args.offset c.copy_text_at-length.result (omega arith) c.record.ensures.bytes c.record.ensures.same_reference
+    c.copy_text_at-length.ensures.text c.copy_text_at-length.ensures.fits c.record.ensures.recorded

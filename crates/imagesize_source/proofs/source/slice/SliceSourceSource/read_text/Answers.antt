@@ -4,7 +4,5 @@ use Rattle.imagesize_source.proofs.source.slice.SliceSourceSource.read_text.Goal
 
 pub returns-clause-runs : goal.returns-clause-runs
 returns-clause-runs c =
-    slice_reads_text c.args.self.now.bytes.now c.args.buffer.now c.copy_from_slice.new.self c.text_at-found.result.now
-    c.args.text
-    c.args.offset
-    (omega arith) c.text_at-found.ensures.text c.text_at-found.ensures.fits c.copy_from_slice.ensures.after
+    slice_reads_text c.args.self.now.bytes.now c.copy_text_at.new.buffer c.args.text c.args.offset c.copy_text_at.result
+    (omega arith) c.copy_text_at.ensures.text

@@ -1,0 +1,61 @@
+use Rattle.std.proofs.Common.{◌≡◌, ℕ, ◌+◌, ◌-◌, ◌≤◌, ◌==◌, Bool, not, List, length, drop, take, None, Some, sym, ap, ◌∙◌, arith}
+use Rattle.std.proofs.lemmas.List.{length-drop, length-take, take_all, drop-drop}
+use Rattle.std.proofs.lemmas.List.Sums.{prefix_len-le-length}
+use Rattle.std.specs.List.{position, position_or_len}
+use Rattle.imagesize_source.proofs.Places.{goes_on, stops, position_some, position_none}
+use Rattle.imagesize_source.proofs.Texts.{found, not_found}
+use Rattle.imagesize_source.proofs.search.first_of.Goals as goal
+
+pub returns-then-count-lt-LANES : goal.returns-then-count-lt-LANES
+returns-then-count-lt-LANES c =
+    let p : ℕ → Bool = λ b. b == c.args.wanted in
+    let bs : List ℕ = c.args.bytes.now in
+    let rest : List ℕ = drop c.loop-index.index bs in
+    let there : 16 ≤ length rest = omega (arith, length-drop c.loop-index.index bs, c.loop-index-test.true) in
+    let at : position_or_len p rest ≡ c.count_before-count.result =
+    stops p rest 16 c.count_before-count.result there c.count_before-count.ensures c.if-count-lt-LANES.true in
+    sym (position_some p bs (c.loop-index.index + c.count_before-count.result)
+    (c.loop-index.invariant.1 ∙ ap (λ k. c.loop-index.index + k) at)
+    (omega (arith, c.loop-index-test.true, c.if-count-lt-LANES.true)))
+
+pub loop-index-preserved : goal.loop-index-preserved
+loop-index-preserved c =
+    let p : ℕ → Bool = λ b. b == c.args.wanted in
+    let bs : List ℕ = c.args.bytes.now in
+    let rest : List ℕ = drop c.loop-index.index bs in
+    let there : 16 ≤ length rest = omega (arith, length-drop c.loop-index.index bs, c.loop-index-test.true) in
+    let few : length (take 16 rest) ≡ 16 = omega (arith, length-take 16 rest, there) in
+    let all : c.count_before-count.result ≡ 16 =
+    omega (arith, few, prefix_len-le-length (λ b. not (p b)) (take 16 rest), c.count_before-count.ensures, c.if-count-lt-LANES.false) in
+    let on : position_or_len p rest ≡ 16 + position_or_len p (drop 16 rest) =
+    goes_on p rest 16 c.count_before-count.result there c.count_before-count.ensures all in
+    let same : drop 16 rest ≡ drop (c.loop-index.index + 16) bs = drop-drop 16 c.loop-index.index bs in
+    (omega (arith, c.loop-index-test.true), omega (arith, c.loop-index.invariant.1, on, ap (position_or_len p) same))
+
+-- the bytes behind the last sixteen
+rest_is : (bs : List ℕ) (index : ℕ) → take (length bs - index) (drop index bs) ≡ drop index bs
+rest_is bs index = take_all (length bs - index) (drop index bs) (omega (arith, length-drop index bs))
+
+pub returns-in_err-count : goal.returns-in_err-count
+returns-in_err-count c =
+    let p : ℕ → Bool = λ b. b == c.args.wanted in
+    let bs : List ℕ = c.args.bytes.now in
+    let rest : List ℕ = drop c.loop-index.index bs in
+    let none : position p rest ≡ None =
+    ap (position p) (sym (rest_is bs c.loop-index.index)) ∙ sym c.first_in_rest.ensures ∙ c.in_err-count.was in
+    let beyond : length rest ≤ position_or_len p rest = not_found p rest none in
+    c.from_residual.ensures
+    ∙ sym (position_none p bs (c.loop-index.index + position_or_len p rest) c.loop-index.invariant.1
+    (omega (arith, beyond, length-drop c.loop-index.index bs, c.loop-index.invariant.0)))
+
+pub returns : goal.returns
+returns c =
+    let p : ℕ → Bool = λ b. b == c.args.wanted in
+    let bs : List ℕ = c.args.bytes.now in
+    let rest : List ℕ = drop c.loop-index.index bs in
+    let some : position p rest ≡ Some c.in_ok-count.count =
+    ap (position p) (sym (rest_is bs c.loop-index.index)) ∙ sym c.first_in_rest.ensures ∙ c.in_ok-count.was in
+    let at = found p rest c.in_ok-count.count some in
+    sym (position_some p bs (c.loop-index.index + c.in_ok-count.count)
+    (c.loop-index.invariant.1 ∙ ap (λ k. c.loop-index.index + k) at.0)
+    (omega (arith, at.1, length-drop c.loop-index.index bs, c.loop-index.invariant.0)))

@@ -1,0 +1,48 @@
+//! Searches a slice for a byte, sixteen bytes at a time.
+ghost use Rattle.std.specs.Prelude.{◌≡◌, ◌+◌, ◌≤◌, ◌==◌, length, take, drop};
+ghost use Rattle.std.specs.List.{position, position_or_len};
+
+use std::simd::prelude::*;
+
+// How many bytes are compared at once.
+const LANES: usize = 16;
+
+/// The index of the first byte with this value. Byte by byte, a search takes four instructions a byte, and this one takes less
+/// than one.
+#[inline]
+pub(crate) fn first_of(wanted: u8, bytes: &[u8]) -> Option<usize>
+    ensures { result ≡ position (λ b. b == wanted) bytes.now }
+{
+    let mut index = 0;
+    while bytes.len() - index >= LANES {
+        let count = count_before(wanted, bytes, index);
+        if count < LANES {
+            return Some(index + count);
+        }
+        index += LANES;
+    }
+    let count = first_in_rest(wanted, &bytes[index..])?;
+    Some(index + count)
+}
+
+// How many of the sixteen bytes from an index on come before the first that equals the wanted one; all of them if none does.
+#[inline(always)]
+fn count_before(wanted: u8, bytes: &[u8], index: usize) -> usize
+    requires { index + 16 ≤ length bytes.now }
+    ensures { result ≡ position_or_len (λ b. b == wanted) (take 16 (drop index bytes.now)) }
+{
+    let lanes = u8x16::from_slice(&bytes[index..]);
+    let marks = lanes.simd_eq(u8x16::splat(wanted)).to_bitmask();
+    if marks == 0 {
+        return LANES;
+    }
+    marks.trailing_zeros() as usize
+}
+
+// The same of fewer bytes, one at a time.
+#[inline]
+fn first_in_rest(wanted: u8, bytes: &[u8]) -> Option<usize>
+    ensures { result ≡ position (λ b. b == wanted) bytes.now }
+{
+    bytes.iter().position(|byte| *byte == wanted)
+}
