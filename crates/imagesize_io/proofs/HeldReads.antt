@@ -1,14 +1,13 @@
 -- A text out of the bytes that a reader holds: it is what byte by byte would be read.
-use Rattle.std.proofs.Common.{◌≡◌, ℕ, ◌+◌, ◌-◌, ◌^◌, ◌≤◌, ◌<◌, min, Bool, true, false, cond, leb, eqb, ◌||◌, not, List, [], ◌∷◌, ◌++◌, length, take, slice_index, slice_set, Option, Some, None, Ok, IfSome, ap, ◌∙◌, sym, subst, refl, arith, append_assoc}
+use Rattle.std.proofs.Common.{◌≡◌, ℕ, ◌+◌, ◌-◌, ◌^◌, ◌≤◌, ◌<◌, min, Bool, true, false, cond, leb, ◌||◌, List, [], ◌∷◌, ◌++◌, length, take, Option, Some, None, Ok, IfSome, ap, ◌∙◌, sym, subst, refl, arith}
 use Rattle.std.proofs.lemmas.Bool.Decides.{nat_tests}
-use Rattle.std.proofs.lemmas.List.{length-take, take_more, take_more_set}
+use Rattle.std.proofs.lemmas.List.{length-take}
 use Rattle.std.proofs.Math.Seq.{take-take}
-use Rattle.std.specs.Char.{is_ascii_whitespace}
 use Rattle.imagesize_source.specs.declared.text.Text.{Text}
 use Rattle.imagesize_source.specs.Input.{part}
 use Rattle.imagesize_source.specs.Reading.{part_read, text_part, text_read}
 use Rattle.imagesize_source.specs.State.{State, Runs, state_after}
-use Rattle.imagesize_source.specs.Text.{ends, text_front}
+use Rattle.imagesize_source.specs.Text.{text_front}
 use Rattle.imagesize_source.proofs.Agreement.{whole_span}
 use Rattle.imagesize_source.proofs.Counts.{total-span_of}
 use Rattle.imagesize_source.proofs.Runs.{part_is}
@@ -23,52 +22,9 @@ use Rattle.imagesize_io.proofs.Standings.{behind_given}
 use Rattle.std.specs.declared.io.Error.{Error}
 use Rattle.std.specs.Prelude.{is_none}
 use Rattle.imagesize_io.proofs.Filling.{part-add}
-use Rattle.imagesize_io.proofs.TextReads.{took_text, text_rest, rest_start, rest_ends, rest_goes_on, rest_some}
+use Rattle.imagesize_io.proofs.TextReads.{took_text, rest_start, rest_some}
 use Rattle.imagesize_io.proofs.Layers.{reads_past}
 use Rattle.imagesize_source.proofs.Parts.{part_length}
-
--- so many bytes of a text were copied, and none of them ends it
-pub record Copied (t : Text) (begun : Bool) (index : ℕ) (bytes buffer : List ℕ) : Type 0 where
-  pub same : take index buffer ≡ take index bytes
-  pub front : (more : List ℕ) → text_front t (take index bytes ++ more) ≡ take index bytes ++ text_rest t begun more
-
-pub copied_none : (t : Text) (bytes buffer : List ℕ) → Copied t false 0 bytes buffer
-copied_none t bytes buffer = record { same = refl; front = λ more. rest_start t more }
-
-module _ {t : Text} {begun : Bool} {index : ℕ} {bytes buffer : List ℕ} (h : Copied t begun index bytes buffer)
-    (here : index < length bytes)
-    (fits : index < length buffer) where
-  -- one byte more
-  pub copied_same : take (index + 1) (slice_set buffer index (slice_index bytes index)) ≡ take (index + 1) bytes
-  copied_same = take_more_set buffer index (slice_index bytes index) fits
-      ∙ ap (λ bs. bs ++ slice_index bytes index ∷ []) h.same ∙ sym (take_more bytes index 0 here)
-
-  front_next : (more : List ℕ) → text_front t (take (index + 1) bytes ++ more) ≡ take index bytes ++ text_rest t begun
-      (slice_index bytes index ∷ more)
-  front_next more = ap (λ bs. text_front t (bs ++ more)) (take_more bytes index 0 here)
-      ∙ ap (text_front t) (append_assoc (take index bytes) (slice_index bytes index ∷ []) more)
-      ∙ h.front (slice_index bytes index ∷ more)
-
-  -- that does not end it
-  pub copied_more : (is_end white : Bool) → is_end ≡ ends t begun (slice_index bytes index) → is_end ≡ false
-      → white ≡ is_ascii_whitespace (slice_index bytes index)
-      → Copied t (begun || not white) (index + 1) bytes (slice_set buffer index (slice_index bytes index))
-  copied_more is_end white end_is goes_on white_is = record {
-    same = copied_same;
-    front = λ more. front_next more
-        ∙ ap (λ bs. take index bytes ++ bs) (rest_goes_on t begun (slice_index bytes index) more (sym end_is ∙ goes_on))
-        ∙ ap (λ w. take index bytes ++ slice_index bytes index ∷ text_rest t (begun || not w) more) (sym white_is)
-        ∙ sym (append_assoc (take index bytes) (slice_index bytes index ∷ []) (text_rest t (begun || not white) more))
-        ∙ ap (λ bs. bs ++ text_rest t (begun || not white) more) (sym (take_more bytes index 0 here));
-  }
-
-  -- that ends it
-  pub copied_whole : (is_end : Bool) → is_end ≡ ends t begun (slice_index bytes index) → is_end ≡ true
-      → IsWhole t (take (index + 1) (slice_set buffer index (slice_index bytes index)))
-  copied_whole is_end end_is ends_here = subst (IsWhole t) (sym copied_same)
-      (λ more. front_next more
-      ∙ ap (λ bs. take index bytes ++ bs) (rest_ends t begun (slice_index bytes index) more (sym end_is ∙ ends_here))
-      ∙ sym (take_more bytes index 0 here))
 
 -- a whole text has a byte
 pub whole_some : (t : Text) (bs : List ℕ) → IsWhole t bs → 0 < length bs
@@ -142,18 +98,13 @@ since_given (Some c) count' taken taken' n is took =
     let below : taken' - (c + n) ≡ taken - c = omega (arith, took) in
     rw (is, above, below) refl
 
-not_kept : (w bytes : List ℕ) (offset : ℕ) → length w < offset → w ≡ kept_window w offset bytes
-not_kept w bytes offset far =
-    let off : eqb offset (length w) ≡ false = grind (arith, nat_tests) in
-    rw off refl
-
 -- A text that the reader held is a reading of as many bytes from where it stands.
 pub held_reads : {old new : Ledger} {a b : Account} {offset n : ℕ} (buffer : List ℕ) (t : Text)
     → ReadTells a.telling b.telling buffer (Ok n) → b.count ≡ count_after {E = Stop} a.count (Ok n) → n ≤ length buffer
     → IsWhole t (take n buffer)
-    → old.progress.offset ≡ offset → offset ≤ old.progress.told → length old.window.items < offset
+    → old.progress.offset ≡ offset → offset ≤ old.progress.told → length old.window.items ≤ offset
     → length old.window.items ≤ 32
-    → new.window ≡ old.window → new.progress.told ≡ old.progress.told → new.progress.budget ≡ old.progress.budget
+    → new.window.items ≡ kept_window old.window.items offset (take n buffer) → new.progress.told ≡ old.progress.told → new.progress.budget ≡ old.progress.budget
     → new.progress.retries ≡ old.progress.retries → new.progress.fault ≡ old.progress.fault
     → new.progress.taken ≡ old.progress.taken + n
     → new.progress.offset ≡ min (offset + n) (2 ^ 64 - 1) → new.progress.taken ≤ old.progress.budget
@@ -196,7 +147,7 @@ held_reads {old} {new} {a} {b} {offset} {n} buffer t gave counts fits whole at n
       stops = tt;
     } in
     reads_past small (omega (arith, far)) (omega (arith, long, many)) read
-    (ap (λ w. w.items) same ∙ not_kept old.window.items (take n (take n buffer)) offset far) limit
+    (same ∙ ap (kept_window old.window.items offset) (sym (take-take n n buffer (omega arith)))) limit
 
 -- and what byte by byte would be read
 pub held_text : {a c : State} (t : Text) (offset n : ℕ) (buffer : List ℕ) → IsWhole t (take n buffer) → n ≤ length buffer

@@ -1,9 +1,9 @@
 -- A text that is read byte by byte: its readings are one, and it takes none behind it.
 use Rattle.std.proofs.Common.{◌≡◌, ℕ, zero, suc, ◌+◌, ◌-◌, ◌^◌, ◌<◌, ◌≤◌, min, max, Bool, true, false, ◌||◌, not, cond, List, [], ◌∷◌, ◌++◌, length, take, drop, slice_index, None, Ok, Err, inl, inr, refl, sym, ap, ◌∙◌, subst, arith, append_assoc}
-use Rattle.std.proofs.Math.Nat.{add-zero}
 use Rattle.std.proofs.lemmas.Bool.{cases_lt}
 use Rattle.std.proofs.lemmas.Bool.Decides.{nat_tests}
-use Rattle.std.proofs.lemmas.List.{append-nil, length-append, length-drop, length-take, take_all}
+use Rattle.std.proofs.Math.Seq.{drop-append_seam, take-add}
+use Rattle.std.proofs.lemmas.List.{append-nil, length-append, length-drop, length-take, take-append-le, take_all}
 use Rattle.std.proofs.lemmas.Slice.{take-put_mid, take-put_mid_below}
 use borrow.Rule.Slice.PartMut.{put_mid}
 use Rattle.std.specs.Char.{is_ascii_whitespace}
@@ -16,6 +16,7 @@ use Rattle.imagesize_source.specs.Paying.{Paid}
 use Rattle.imagesize_source.specs.Reading.{part_read, text_part, text_read}
 use Rattle.imagesize_source.specs.State.{State, Runs, IsSound, total, state_after, step, new_bytes, front_after}
 use Rattle.imagesize_io.specs.declared.progress.Progress.{Progress}
+use Rattle.imagesize_io.specs.Held.{is_line}
 use Rattle.imagesize_io.specs.ReaderState.{reader_frame, reader_state}
 use Rattle.imagesize_io.specs.Standing.{stand}
 use Rattle.imagesize_io.specs.StopOf.{failures_of}
@@ -26,7 +27,7 @@ use Rattle.imagesize_source.proofs.Layouts.{no_part, no_span}
 use Rattle.imagesize_source.proofs.Agreement.{span-some, whole_span}
 use Rattle.imagesize_source.proofs.Runs.{part_is, past-held}
 use Rattle.imagesize_io.proofs.Windows.{sound_at, told_by}
-use Rattle.imagesize_source.proofs.Texts.{line_front, no_front, through-cons, word_front}
+use Rattle.imagesize_source.proofs.Texts.{front_length, line_front, no_front, through-cons, word_front}
 use Rattle.imagesize_source.proofs.Parts.{part_length, part_none}
 
 -- what is left of a text behind some of its bytes, of which one was no white space or none was
@@ -79,13 +80,13 @@ rest_some t begun b bs = by_end (ends t begun b) refl where
 abbrev pub CountsOnly : State → Type 0
 CountsOnly a = (a.frame.counts ≡ true) × (a.recorded ≡ None)
 
-front_joins : (front offset n : ℕ)
-    → front_after (front_after front offset n) (offset + n) 1 ≡ front_after front offset (n + 1)
-front_joins front offset n = grind (arith, nat_tests)
+front_joins : (front offset n m : ℕ) → 0 < m
+    → front_after (front_after front offset n) (offset + n) m ≡ front_after front offset (n + m)
+front_joins front offset n m some = grind (arith, nat_tests)
 
-fresh_joins : (front offset n : ℕ)
-    → new_bytes front offset n + new_bytes (front_after front offset n) (offset + n) 1 ≡ new_bytes front offset (n + 1)
-fresh_joins front offset n = grind (arith, nat_tests)
+fresh_joins : (front offset n m : ℕ) → 0 < m
+    → new_bytes front offset n + new_bytes (front_after front offset n) (offset + n) m ≡ new_bytes front offset (n + m)
+fresh_joins front offset n m some = grind (arith, nat_tests)
 
 -- a state by what was taken
 abbrev having : State → ℕ → ℕ → State
@@ -95,29 +96,31 @@ step_counts : (a : State) (s : Span) → CountsOnly a → step a s ≡ having a 
     (a.taken + new_bytes a.front s.start s.len)
 step_counts a s only = let counts = only.0 in let none = only.1 in rw (counts, none) refl
 
-step_joins : (a : State) (offset n : ℕ) → CountsOnly a → step (step a (record { start = offset; len = n }))
-    (record { start = offset + n; len = 1 }) ≡ step a (record { start = offset; len = n + 1 })
-step_joins a offset n only =
+step_joins : (a : State) (offset n m : ℕ) → 0 < m → CountsOnly a → step (step a (record { start = offset; len = n }))
+    (record { start = offset + n; len = m }) ≡ step a (record { start = offset; len = n + m })
+step_joins a offset n m some only =
     let first = step_counts a (record { start = offset; len = n }) only in
     let front : ℕ = front_after a.front offset n in
     let taken : ℕ = a.taken + new_bytes a.front offset n in
-    let more : taken + new_bytes front (offset + n) 1 ≡ a.taken + new_bytes a.front offset (n + 1) =
-    omega (arith, fresh_joins a.front offset n) in
-    ap (λ s. step s (record { start = offset + n; len = 1 })) first
-    ∙ step_counts (having a front taken) (record { start = offset + n; len = 1 }) (only.0, refl)
-    ∙ ap (λ w. having a w (taken + new_bytes front (offset + n) 1)) (front_joins a.front offset n)
-    ∙ ap (λ m. having a (front_after a.front offset (n + 1)) m) more
-    ∙ sym (step_counts a (record { start = offset; len = n + 1 }) only)
+    let more : taken + new_bytes front (offset + n) m ≡ a.taken + new_bytes a.front offset (n + m) =
+    omega (arith, fresh_joins a.front offset n m some) in
+    ap (λ s. step s (record { start = offset + n; len = m })) first
+    ∙ step_counts (having a front taken) (record { start = offset + n; len = m }) (only.0, refl)
+    ∙ ap (λ w. having a w (taken + new_bytes front (offset + n) m)) (front_joins a.front offset n m some)
+    ∙ ap (λ k. having a (front_after a.front offset (n + m)) k) more
+    ∙ sym (step_counts a (record { start = offset; len = n + m }) only)
 
-span_joins : (a : State) (offset n : ℕ) → CountsOnly a
-    → state_after (state_after a (span_at offset n)) (span_at (offset + n) 1) ≡ state_after a
-    (span_at offset (n + 1))
+span_joins : (a : State) (offset n m : ℕ) → 0 < m → CountsOnly a
+    → state_after (state_after a (span_at offset n)) (span_at (offset + n) m) ≡ state_after a
+    (span_at offset (n + m))
 unfolding state_after span_at
-span_joins a offset zero only = rw add-zero refl
-span_joins a offset (suc n) only =
-    ap (λ s. state_after (state_after a s) (span_at (offset + suc n) 1)) (span-some offset (suc n) (omega arith))
-    ∙ step_joins a offset (suc n) only
-    ∙ sym (ap (state_after a) (span-some offset (suc n + 1) (omega arith)))
+span_joins a offset zero m some only = let here : offset + 0 ≡ offset = omega arith in
+    let all : zero + m ≡ m = omega arith in rw (here, all) refl
+span_joins a offset (suc n) m some only =
+    ap (λ s. state_after (state_after a s) (span_at (offset + suc n) m)) (span-some offset (suc n) (omega arith))
+    ∙ ap (state_after (state_after a (record { start = offset; len = suc n } ∷ []))) (span-some (offset + suc n) m some)
+    ∙ step_joins a offset (suc n) m some only
+    ∙ sym (ap (state_after a) (span-some offset (suc n + m) (omega arith)))
 
 -- what stands from an offset on, where one byte there is known
 drop_byte : (d : List ℕ) (offset b : ℕ) → take 1 (drop offset d) ≡ b ∷ [] → drop offset d ≡ b ∷ drop (suc offset) d
@@ -297,6 +300,50 @@ module _ {a b : State} {t : Text} {offset count k : ℕ} {begun : Bool} {got : L
             (arith, text_long honest, total_there b.held.input next 1, ap length (same_input honest), beyond)
       ]
 
+    -- the rest of a line is a line
+    pub taking_line : (rest : List ℕ) → is_line t ≡ true → 0 < length rest → count + length rest ≤ k → CountsOnly a → IsSound a
+        → Runs b c (Ok rest) (text_read b.held.input t next (k - count))
+        → Runs a c (Ok (got ++ rest)) (text_read a.held.input t offset k)
+    unfolding text_part
+    taking_line rest line some few only sound run = took_text t k (record {
+      long = omega (arith, length-append got rest, h.took.long);
+      sound = run.sound_after;
+      frame = run.frame ∙ h.took.frame;
+      taken = omega (arith, h.took.taken, run.taken);
+      within = λ honest. omega (
+        arith,
+        h.took.within honest,
+        run.within (same_honest honest),
+        total-span_at next (length (text_part b.held.input t next (k - count))),
+        ap length (is_rest honest),
+      );
+      state = λ honest. run.state (same_honest honest) refl
+          ∙ ap (λ n. state_after b (span_at next n)) (ap length (is_rest honest))
+          ∙ ap (λ p. state_after b (span_at p (length rest))) (here honest)
+          ∙ ap (λ s. state_after s (span_at (offset + count) (length rest))) (h.took.state honest)
+          ∙ span_joins a offset count (length rest) some only;
+    }) sound (λ honest. h.left honest
+        ∙ ap (λ bs. got ++ bs) (line_rest line (part a.held.input (offset + count) (k - count)))
+        ∙ ap (λ bs. got ++ text_front t bs) (ap (λ p. part a.held.input p (k - count)) (sym (here honest)))
+        ∙ ap (λ d. got ++ text_front t (part d next (k - count))) (sym (same_input honest))
+        ∙ ap (λ bs. got ++ bs) (is_rest honest)) where
+          is_rest : a.held.honest ≡ true → text_part b.held.input t next (k - count) ≡ rest
+          is_rest honest = part_is (run.answer (same_honest honest) refl)
+
+          line_rest : is_line t ≡ true → (bs : List ℕ) → text_rest t begun bs ≡ text_front t bs
+          line_rest line bs = by_text t line where
+            by_text : (u : Text) → is_line u ≡ true → text_rest u begun bs ≡ text_front u bs
+            by_text (Line delimiter) line = sym (line_front delimiter bs)
+            by_text Word line = absurd cc
+
+          -- a byte of the line lies before the end of the input
+          here : a.held.honest ≡ true → next ≡ offset + count
+          here honest =
+              let short : length b.held.input < 2 ^ 63 = (h.took.sound (same_honest honest)).1 in
+              let part_some : length rest ≤ length (part b.held.input next (k - count)) =
+              omega (arith, ap length (is_rest honest), front_length t (part b.held.input next (k - count))) in
+              omega (arith, some, part_some, part_length b.held.input next (k - count), next_is, short)
+
     module _ (byte : ℕ) (more : count < k) (run : Runs b c (Ok (byte ∷ [])) (part_read b.held.input next 1)) where
       byte_read : a.held.honest ≡ true → part a.held.input next 1 ≡ byte ∷ []
       byte_read honest = ap (λ d. part d next 1) (sym (same_input honest))
@@ -333,7 +380,7 @@ module _ {a b : State} {t : Text} {offset count k : ℕ} {begun : Bool} {got : L
           ∙ ap (state_after b) (whole_span b.held.input next 1 there)
           ∙ ap (λ p. state_after b (span_at p 1)) (next_offset honest)
           ∙ ap (λ s. state_after s (span_at (offset + count) 1)) (h.took.state honest)
-          ∙ span_joins a offset count only
+          ∙ span_joins a offset count 1 (omega arith) only
 
       -- with that byte
       took_byte : CountsOnly a → Took a c offset (count + 1) (got ++ byte ∷ [])
@@ -486,3 +533,44 @@ module _ {a b : State} {t : Text} {offset count : ℕ} {begun : Bool} (buffer : 
       (sym (buffer_long count m buffer more fits is_one one))
       (taking_stopped h next next_is fits
       (subst (λ k. Runs b c (Err e) (part_read b.held.input next k)) one run) sound untold)
+
+-- as long as it was, where some bytes of it were put anew
+pub kept_long : (count m : ℕ) (buffer more : List ℕ) → count + m ≤ length buffer → length more ≡ m
+    → length (put_mid count m buffer more) ≡ length buffer
+kept_long count m buffer more fits long = simp (length-append, length-take, length-drop) (omega (arith, fits, long))
+
+-- the bytes behind those that were read may have changed
+pub taking_kept : {a b b' : State} {t : Text} {offset count : ℕ} {begun : Bool} (buffer : List ℕ) (m : ℕ) (more : List ℕ)
+    → Taking a b t offset count begun (length buffer) (take count buffer) → b' ≡ b → count + m ≤ length buffer → length more ≡ m
+    → Taking a b' t offset count begun (length (put_mid count m buffer more)) (take count (put_mid count m buffer more))
+taking_kept {a} {b} {b'} {t} {offset} {count} {begun} buffer m more h same fits long =
+    subst (λ k. Taking a b' t offset count begun k (take count (put_mid count m buffer more)))
+    (sym (kept_long count m buffer more fits long))
+    (subst (λ bs. Taking a b' t offset count begun (length buffer) bs)
+    (sym (take-put_mid_below count m buffer more count (omega arith) (omega (arith, fits))))
+    (subst (λ s. Taking a s t offset count begun (length buffer) (take count buffer)) (sym same) h))
+
+-- the rest of a line behind them
+pub text_line : {a b c : State} {t : Text} {offset count : ℕ} {begun : Bool} (buffer : List ℕ)
+    → Taking a b t offset count begun (length buffer) (take count buffer)
+    → (next n m : ℕ) (more : List ℕ) → next ≡ min (offset + count) (2 ^ 64 - 1) → count < length buffer
+    → m ≡ length buffer - count → length more ≡ m → n ≤ length more → 0 < n → is_line t ≡ true → CountsOnly a → IsSound a
+    → Runs b c (Ok (take n more)) (text_read b.held.input t next (length more))
+    → Runs a c (Ok (take (count + n) (put_mid count m buffer more)))
+    (text_read a.held.input t offset (length (put_mid count m buffer more)))
+text_line {a} {b} {c} {t} {offset} {count} {begun} buffer h next n m more next_is fits is long few some line only sound run =
+    let whole : List ℕ = put_mid count m buffer more in
+    let got : take (count + n) whole ≡ take count buffer ++ take n more =
+    take-add count n whole ∙ ap (λ bs. bs ++ take n (drop count whole))
+    (take-put_mid_below count m buffer more count (omega arith) (omega (arith, fits)))
+    ∙ ap (λ bs. take count buffer ++ take n bs) (behind_first (take count buffer) (more ++ drop m (drop count buffer)) count
+    (omega (arith, length-take count buffer, fits)))
+    ∙ ap (λ bs. take count buffer ++ bs) (take-append-le n more (drop m (drop count buffer)) few) in
+    subst (λ k. Runs a c (Ok (take (count + n) whole)) (text_read a.held.input t offset k))
+    (sym (kept_long count m buffer more (omega (arith, fits, is)) long))
+    (subst (λ bs. Runs a c (Ok bs) (text_read a.held.input t offset (length buffer))) (sym got)
+    (taking_line h next next_is (take n more) line (omega (arith, length-take n more, few, some))
+    (omega (arith, length-take n more, few, long, is, fits)) only sound
+    (subst (λ k. Runs b c (Ok (take n more)) (text_read b.held.input t next k)) (long ∙ is) run))) where
+      behind_first : (xs ys : List ℕ) (k : ℕ) → length xs ≡ k → drop k (xs ++ ys) ≡ ys
+      behind_first xs ys k same = ap (λ j. drop j (xs ++ ys)) (sym same) ∙ drop-append_seam xs ys

@@ -3,7 +3,7 @@ ghost use Rattle.std.specs.Prelude.{◌≡◌, ◌≤◌, IfSome, length, take};
 ghost use Rattle.imagesize_io.specs.Held.{IsWhole};
 
 use imagesize_source::Text;
-use imagesize_source::text::is_end;
+use imagesize_source::part::copy_ended;
 
 /// Copies the text at the front of the bytes into the buffer, and returns how many bytes it has. Returns `None` if the bytes
 /// or the buffer end before the text does.
@@ -14,15 +14,6 @@ pub(crate) fn copy_text(text: Text, bytes: &[u8], buffer: &mut [u8]) -> Option<u
     ensures there { IfSome result (λ n. n ≤ length bytes.now) }
     ensures copied { IfSome result (λ n. take n buffer.new ≡ take n bytes.now) }
 {
-    let most = bytes.len().min(buffer.len());
-    let mut begun = false;
-    for index in 0..most {
-        let byte = bytes[index];
-        buffer[index] = byte;
-        if is_end(text, begun, byte) {
-            return Some(index + 1);
-        }
-        begun |= !byte.is_ascii_whitespace();
-    }
-    None
+    let count = copy_ended(bytes, text, buffer)?;
+    Some(count)
 }

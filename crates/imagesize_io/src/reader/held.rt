@@ -7,6 +7,7 @@ ghost use Rattle.imagesize_io.specs.Telling.{account};
 
 use super::Ledger;
 use crate::Told;
+use crate::window::keep;
 use imagesize_source::Text;
 
 /// The text at an offset from the bytes that the reader holds, if the reader is at that offset and holds all of the text.
@@ -30,6 +31,7 @@ pub(super) fn read_held<R: Told>(
         return None;
     }
     let count = reader.read_held(text, buffer)?;
+    keep(&mut ledger.window, offset, &buffer[..count]);
     ledger.progress.taken += count as u64;
     ledger.progress.offset = offset.saturating_add(count as u64);
     ledger.present = ledger.progress.offset;
@@ -37,12 +39,12 @@ pub(super) fn read_held<R: Told>(
 }
 
 // Whether the reader is at an offset, and the budget allows `most` bytes there. The offset must lie within the reported
-// length and past the end of the window, so that the window keeps none of the bytes.
+// length, and the window must have no byte from there on.
 #[inline(always)]
-fn pays_there(ledger: &Ledger, offset: u64, most: u64) -> bool
+pub(super) fn pays_there(ledger: &Ledger, offset: u64, most: u64) -> bool
     ensures stands { result ≡ true → ledger.now.progress.offset ≡ offset }
     ensures told { result ≡ true → offset ≤ ledger.now.progress.told }
-    ensures behind { result ≡ true → length ledger.now.window.items < offset }
+    ensures behind { result ≡ true → length ledger.now.window.items ≤ offset }
     ensures small { length ledger.now.window.items ≤ most_held }
     ensures pays { result ≡ true → ledger.now.progress.taken + most ≤ ledger.now.progress.budget }
     ensures fits { result ≡ true → ledger.now.progress.taken + most < 2 ^ 64 }
@@ -51,6 +53,6 @@ fn pays_there(ledger: &Ledger, offset: u64, most: u64) -> bool
     let progress = &ledger.progress;
     offset == progress.offset
         && offset <= progress.told
-        && offset > window
+        && offset >= window
         && most <= progress.budget - progress.taken
 }

@@ -1,9 +1,11 @@
 //! Texts from a reader: from the bytes that it holds, or byte by byte, so that no byte after the text is read.
-ghost use Rattle.imagesize_io.specs.ReaderState.{ReadsText};
+ghost use Rattle.std.specs.Prelude.{◌≡◌, ◌≤◌, true, None, Ok, IfSome, length, take};
+ghost use Rattle.imagesize_io.specs.Held.{IsWhole, is_line};
+ghost use Rattle.imagesize_io.specs.ReaderState.{ReadsAt, ReadsText};
 ghost use Rattle.imagesize_io.specs.Telling.{account};
 
 use super::Ledger;
-use super::held::read_held;
+use super::held::{pays_there, read_held};
 use super::windowed::read_on;
 use crate::Told;
 use imagesize_source::text::is_end;
@@ -27,7 +29,8 @@ pub(super) fn read_text<R: Told>(
     read_by_bytes(reader, ledger, offset, text, buffer)
 }
 
-// Reads the text byte by byte. Not inlined, since a buffered reader holds most texts.
+// Reads the text byte by byte, and the rest of a line at once if the reader holds it. Not inlined, since a buffered reader
+// holds most texts.
 #[inline(never)]
 fn read_by_bytes<R: Told>(
     reader: &mut R,
@@ -40,9 +43,20 @@ fn read_by_bytes<R: Told>(
         (account R.telling R.count R.failure reader.new) text offset buffer.new result }
 {
     let mut begun = false;
+    let mut is_new = true;
     let mut count = 0;
     while count < buffer.len() {
         let next = offset.saturating_add(count as u64);
+        if let Some(rest) = read_rest(
+            reader,
+            ledger,
+            next,
+            text,
+            &mut is_new,
+            &mut buffer[count..],
+        ) {
+            return Ok(count + rest);
+        }
         if read_on(reader, ledger, next, &mut buffer[count..count + 1])? == 0 {
             break;
         }
@@ -54,4 +68,38 @@ fn read_by_bytes<R: Told>(
         begun |= !byte.is_ascii_whitespace();
     }
     Ok(count)
+}
+
+// The rest of a line from the bytes that the reader holds. It is a line itself, so it need not be read byte by byte. If the
+// reader does not hold all of it, it is not asked again: the search would start anew at each byte.
+#[inline(always)]
+fn read_rest<R: Told>(
+    reader: &mut R,
+    ledger: &mut Ledger,
+    next: u64,
+    text: Text,
+    is_new: &mut bool,
+    buffer: &mut [u8],
+) -> Option<usize>
+    ensures bound { IfSome result (λ n. n ≤ length buffer.new) }
+    ensures whole { IfSome result (λ n. IsWhole text (take n buffer.new)) }
+    ensures line { IfSome result (λ _. is_line text ≡ true) }
+    ensures none { result ≡ None → (account R.telling R.count R.failure reader.new ≡ account R.telling R.count R.failure reader.old)
+        × (ledger.new ≡ ledger.old) }
+    ensures reads { IfSome result (λ n. ReadsAt ledger.old ledger.new (account R.telling R.count R.failure reader.old)
+        (account R.telling R.count R.failure reader.new) next (take n buffer.new) (Ok n)) }
+{
+    if !*is_new || !is_line(text) || !pays_there(ledger, next, buffer.len() as u64) {
+        return None;
+    }
+    *is_new = false;
+    read_held(reader, ledger, next, text, buffer)
+}
+
+// Whether the text is a line.
+#[inline(always)]
+fn is_line(text: Text) -> bool
+    ensures { result ≡ is_line text }
+{
+    matches!(text, Text::Line { .. })
 }

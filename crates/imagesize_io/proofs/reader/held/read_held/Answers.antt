@@ -7,4 +7,4 @@ returns-clause-reads g c =
     let held = c.in_ok-count.ensures in
     held_reads c.read_held.new._buffer c.args.text held.told held.counts held.bound held.whole (search rules)
     (search rules) (search rules) (search rules)
-    refl refl refl refl refl refl (search rules) (search rules)
+    c.keep.ensures refl refl refl refl refl (search rules) (search rules)
