@@ -92,13 +92,6 @@ no_span n (s ∷ spans) within is = let here = within 0 s (omega arith) in absur
 pub no_marks : (d : List ℕ) → length d ≡ 0 → length (meaning d 0).marks ≡ 0
 no_marks d is = no_span (length d) (meaning d 0).marks (meaning_within d 0) is
 
--- a vector of their number has all of them
-pub all_held : (items buffer marks : List Span) (n count : ℕ) → count ≡ length marks → length buffer ≡ count → n ≡ count
-    → take count buffer ≡ take (length buffer) marks → take n (buffer ++ drop (length buffer) items) ≡ marks
-all_held items buffer marks n count is long many held =
-    take-append-le n buffer (drop (length buffer) items) (omega (arith, many, long))
-    ∙ ap (λ k. take k buffer) many ∙ held ∙ take_all (length buffer) marks (omega (arith, long, is))
-
 -- a size stays, whatever bytes follow
 pub answer_lasts : (d : List ℕ) (q : Result ImageSize ImageError) → q ≡ (meaning d 0).answer → IsTrue (lasts_as (kind_of d 0).answer)
     → IfOk q (λ size. (x : List ℕ) → (meaning (d ++ x) 0).answer ≡ Ok size)

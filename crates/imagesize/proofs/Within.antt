@@ -199,10 +199,6 @@ marks_few d offset = omega
     (arith, count_within (length d) (meaning_reads d offset).marks (meaning_within d offset), cost_within d offset)
 
 -- those that a buffer begins with
-pub front_within : (n : ℕ) (marks new rest : List Span) (count again : ℕ) → count ≡ length marks → again ≡ length marks
-    → length new ≡ count
-    → take again new ≡ take (length new) marks → AreWithin n marks → AreWithin n (take count (new ++ rest))
-front_within n marks new rest count again is also long written within =
-    let same : new ≡ marks = sym (take_all again new (omega (arith, is, also, long))) ∙ written
-    ∙ take_all (length new) marks (omega (arith, is, long)) in
-    subst (AreWithin n) (sym (ap (λ k. take k (new ++ rest)) (sym long) ∙ take-append_seam new rest ∙ same)) within
+pub front_is : (marks new rest : List Span) (count : ℕ) → new ≡ marks → count ≡ length marks → take count (new ++ rest) ≡ marks
+front_is marks new rest count is counted = ap (λ xs. take count (xs ++ rest)) is ∙ ap (λ k. take k (marks ++ rest)) counted
+    ∙ take-append_seam marks rest

@@ -33,11 +33,30 @@ pub fn blob_spans(data: &[u8], buffer: &mut [Span]) -> usize
     ensures few { result ≤ length «data».now + allowance }
     ensures unchanged { length buffer.old < result → buffer.new ≡ buffer.old }
 {
-    let count = record(data, &mut []).count;
+    let mut first = [Span { start: 0, len: 0 }; FEW];
+    let count = record(data, &mut first).count;
     if count <= buffer.len() {
-        record(data, &mut buffer[..count]);
+        fill_spans(data, &first, &mut buffer[..count]);
     }
     count
+}
+
+// How many spans the first pass keeps.
+pub(crate) const FEW: usize = 32;
+
+// Fills a buffer that is as long as the list of all spans. If the first pass kept all of them, they are copied, and the
+// slice is not read again.
+pub(crate) fn fill_spans(data: &[u8], first: &[Span], buffer: &mut [Span])
+    requires long { length buffer.old ≡ length (meaning «data».now 0).marks }
+    requires kept { take (length buffer.old) first.now ≡ take (length first.now) (meaning «data».now 0).marks }
+    ensures { buffer.new ≡ (meaning «data».now 0).marks }
+{
+    let count = buffer.len();
+    if count <= first.len() {
+        buffer.copy_from_slice(&first[..count]);
+    } else {
+        record(data, buffer);
+    }
 }
 
 // What a slice holds, and how many spans its reads have.

@@ -7,7 +7,7 @@ ghost use Rattle.imagesize_source.specs.Limits.{allowance};
 ghost use Rattle.imagesize_source.specs.Agreement.{Agrees};
 ghost use Rattle.imagesize_source.specs.State.{total};
 
-use crate::spans::{Recorded, record};
+use crate::spans::{FEW, Recorded, fill_spans, record};
 use crate::types::ImageType;
 use crate::{ImageResult, Span};
 use imagesize_types::size::ImageSize;
@@ -55,9 +55,14 @@ pub fn blob_trace<A: Allocator>(alloc: A, data: &[u8]) -> Result<Trace<A>, Alloc
     ensures lasts { IsTrue (lasts_as (kind_of «data».now 0).answer) → IfOk result (λ t. IfOk t.answer (λ size.
         (x : List ℕ) → (meaning («data».now ++ x) 0).answer ≡ Ok size)) }
 {
-    let count = record(data, &mut []).count;
+    let mut first = [Span { start: 0, len: 0 }; FEW];
+    let Recorded {
+        kind,
+        answer,
+        count,
+    } = record(data, &mut first);
     let mut spans = empty_spans(alloc, count)?;
-    let Recorded { kind, answer, .. } = record(data, &mut spans);
+    fill_spans(data, &first, &mut spans);
     Ok(Trace {
         kind,
         answer,
