@@ -1,4 +1,5 @@
 pub mod Behind
+pub mod Skipping
 pub mod Steps
 pub mod Running
 pub mod Firsts

@@ -1,5 +1,5 @@
 -- Which of the readings of a stream read no text.
-use Rattle.std.proofs.Common.{◌≡◌, ℕ, ◌+◌, ◌-◌, ◌++◌, min, Bool, true, false, ◌&&◌, cond, eqb, drop, List, length, slice_index, take, Option, None, Some, Result, Ok, Err, refl, ap, ◌∙◌}
+use Rattle.std.proofs.Common.{◌≡◌, ℕ, ◌+◌, ◌-◌, ◌++◌, min, Bool, true, false, cond, eqb, drop, List, length, slice_index, take, Option, None, Some, Result, Ok, Err, refl, ap, ◌∙◌}
 use Rattle.std.specs.Prelude.{codes}
 use Rattle.imagesize.proofs.Detection.{with_costs}
 use Rattle.imagesize.proofs.Ways.{laws_of}
@@ -8,7 +8,7 @@ use Rattle.imagesize.specs.Parted.{has_texts}
 use Rattle.imagesize.specs.Types.{lasts, rows, way_of}
 use Rattle.imagesize.proofs.Detection.{kind_cost}
 use Rattle.imagesize.specs.declared.types.ImageType.{ImageType}
-use Rattle.imagesize.specs.declared.types.ImageType.TheVariants.{Aseprite, Astc, Atc, Bmp, Dds, Eac, Etc2, Exr, Farbfeld, Gif, Hdr, Heif, Ico, Ilbm, Jpeg, Jxl, Ktx2, Pnm, Pvrtc, Psd, Qoi, Tga, Tiff, Vtf, Webp}
+use Rattle.imagesize.specs.declared.types.ImageType.TheVariants.{Exr, Hdr, Heif, Ico, Ilbm, Jpeg, Jxl, Pnm, Tiff}
 use Rattle.imagesize_boxes.proofs.Heif.{by_found, by_searched}
 use Rattle.imagesize_boxes.proofs.JxlBoxes.{by_checked, by_content, by_head, by_piece}
 use Rattle.imagesize_boxes.specs.Heif.{property_at, searched_box}
@@ -31,7 +31,7 @@ use Rattle.imagesize_source.specs.Layout.Layout.{begin_record, field, reading, r
 use Rattle.imagesize_source.specs.Numbers.{number}
 use Rattle.imagesize_source.specs.Way.{Way, Fixed, Recorded, Texts}
 use Rattle.imagesize_stream.specs.Steps.{Awaits, after, awaited_said, decides, ipco_leads, iprp_leads, is_text, jxl_verdict, kept_front, kept_of, last_awaited, listed_with, meta_leads, property_step, step}
-use Rattle.imagesize_stream.specs.Streamed.{first_by, first_layout, jxl_opened, opening, opening_by, opening_records, opens, sized}
+use Rattle.imagesize_stream.specs.Streamed.{first_by, first_layout, jxl_opened, opening, opening_by, opening_records, opens}
 use Rattle.imagesize_stream.specs.declared.awaited.Awaited.{Awaited}
 use Rattle.imagesize_stream.specs.declared.awaited.Awaited.TheVariants.{Attribute, Box, Chunk, Comment, Directory, Entry, Height, Icon, Ipco, Iprp, Line, Meta, Property, Segment, Word}
 use Rattle.imagesize_stream.specs.declared.front.First.TheVariants as first

@@ -3,5 +3,6 @@ pub mod Heard
 pub mod Parts
 pub mod Probe
 pub mod Pushed
+pub mod Skips
 pub mod Steps
 pub mod Streamed

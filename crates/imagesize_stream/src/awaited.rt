@@ -5,6 +5,7 @@ ghost use Rattle.imagesize_source.specs.Paying.{Nears, Paid};
 ghost use Rattle.imagesize_source.specs.Reading.{is_stopped, map_answer, number_read};
 ghost use Rattle.imagesize_source.specs.State.{Follows, Runs};
 ghost use Rattle.imagesize_source.specs.Walk.{said_at};
+ghost use Rattle.imagesize_stream.specs.Skips.{ReadsFirst};
 ghost use Rattle.imagesize_stream.specs.Steps.{IsSmall, IsSteady, StaysSteady, after, decides, ends_with, is_text, kept_of, leading_to, names_of, step, word_leads};
 ghost use Rattle.imagesize_texts.specs.Texts.{read_word_of};
 ghost use Rattle.imagesize_walked.specs.Tiff.{head_bytes, value_bytes};
@@ -104,6 +105,26 @@ impl Awaited {
                 | Awaited::Comment
                 | Awaited::Height { .. }
         )
+    }
+
+    // How many bytes the first read of the record requests, from the record's offset on. 0 if that is not known without a
+    // read: for texts, and for entries of a table, which follow one another.
+    #[inline]
+    pub(crate) fn first_read(&self) -> u64
+        ensures first { 0 < result → (offset : ℕ) → ReadsFirst offset result (step self.now offset) }
+        ensures few { result ≤ 132 }
+    {
+        match self {
+            Awaited::Segment { .. } => 2,
+            Awaited::Chunk => 8,
+            Awaited::Meta => 8,
+            Awaited::Iprp => 8,
+            Awaited::Ipco => 8,
+            Awaited::Property(_) => 8,
+            Awaited::Box(_) => 8,
+            Awaited::Directory { header } => tiff::count_bytes(header.version),
+            _ => 0,
+        }
     }
 
     // Reads the record at an offset. Then this is the record after it. `TEXTS` says whether the records are texts.

@@ -1,10 +1,11 @@
 //! The stages of a push parser, and how each chunk continues them.
-ghost use Rattle.std.specs.Prelude.{◌≡◌, ℕ, ◌+◌, ◌-◌, ◌<◌, ◌≤◌, ◌++◌, List, Option, length, take};
+ghost use Rattle.std.specs.Prelude.{◌≡◌, ℕ, ◌+◌, ◌-◌, ◌<◌, ◌≤◌, ◌++◌, List, Option, IfSome, length, take};
 ghost use Rattle.imagesize.specs.declared.types.ImageType.{ImageType};
 ghost use Rattle.imagesize_source.specs.Input.{part};
 ghost use Rattle.imagesize_stream.specs.Given.{IsGiven, MayBeAt};
 ghost use Rattle.imagesize_stream.specs.Heard.{RestsOnMore};
 ghost use Rattle.imagesize_stream.specs.Probe.{CameTo, HoldsAt, IfAwaiting, IsAhead, RestsOnNext};
+ghost use Rattle.imagesize_stream.specs.Skips.{PassesOver};
 ghost use Rattle.imagesize_stream.specs.Steps.{IsSteady, is_text, reach_of};
 ghost use Rattle.imagesize_stream.specs.declared.stage.Stage.TheVariants as stage;
 
@@ -67,11 +68,39 @@ pub(crate) fn walk(next: Awaited, stand: &mut Stand, buffer: &mut [u8; ROOM], ch
         → RestsOnNext result stand.new (front ++ chunk.now) stand.old.told }
     ensures whole { IfAwaiting result (stand.old.told ≤ stand.old.passed + length chunk.now → ⊥) }
 {
+    if let Some(further) = passed_over(&next, stand, chunk.len() as u64) {
+        *stand = further;
+        return Stage::Records { next };
+    }
     if next.is_text() {
         walk_over::<true>(next, stand, buffer, chunk)
     } else {
         walk_over::<false>(next, stand, buffer, chunk)
     }
+}
+
+// The position after a chunk of so many bytes, if it ends before the next record begins. Most chunks of a large segment end
+// here, at a tenth of the cost of a walk that misses the record's first byte.
+#[inline]
+fn passed_over(next: &Awaited, stand: &Stand, count: u64) -> Option<Stand>
+    requires { stand.now.passed + count ≤ stand.now.told }
+    ensures { IfSome result (λ further. PassesOver next.now stand.now further count) }
+{
+    let passed = stand.passed + count;
+    if passed > stand.start || stand.start != stand.offset || stand.start >= stand.told {
+        return None;
+    }
+    let most = next.first_read();
+    if most == 0 {
+        return None;
+    }
+    Some(Stand {
+        start: stand.start,
+        offset: stand.offset,
+        passed,
+        end: (stand.start + most).min(stand.told),
+        told: stand.told,
+    })
 }
 
 // Continues the walk with the next chunk. `TEXTS` says whether the records are texts.

@@ -1,0 +1,34 @@
+-- Chunks that end before the next record begins.
+use Rattle.std.specs.Prelude.{◌≡◌, ℕ, ◌+◌, ◌<◌, ◌≤◌, min}
+use Rattle.imagesize_pieces.specs.declared.stand.Stand.{Stand}
+use Rattle.imagesize_source.specs.Layout.{Layout, begin_record, field, reading}
+use Rattle.imagesize_source.specs.Layout.Layout.{«done», refuse}
+use Rattle.imagesize_source.specs.Reading.{AllOf, PartOf, TextOf}
+use Rattle.imagesize_stream.specs.Steps.{step}
+use Rattle.imagesize_stream.specs.declared.awaited.Awaited.{Awaited}
+
+-- the first read of the layout requests n bytes from an offset on, and no text
+abbrev pub ReadsFirst : {X : Type 0} → ℕ → ℕ → Layout X → Type 0
+ReadsFirst offset n (done x) = ⊥
+ReadsFirst offset n (refuse e) = ⊥
+ReadsFirst offset n (field order p k f) = (p ≡ offset) × (k ≡ n)
+ReadsFirst offset n (reading (AllOf k) p f) = (p ≡ offset) × (k ≡ n)
+ReadsFirst offset n (reading (PartOf k) p f) = (p ≡ offset) × (k ≡ n)
+ReadsFirst offset n (reading (TextOf t k) p f) = ⊥
+ReadsFirst offset n (begin_record t) = ReadsFirst offset n t
+
+-- So many more bytes came, all before the next record, which begins within the input. Its first read is the one that misses
+-- bytes.
+pub record PassesOver (next : Awaited) (old new : Stand) (count : ℕ) : Type 0 where
+  pub passed : new.passed ≡ old.passed + count
+  pub start : new.start ≡ old.start
+  pub offset : new.offset ≡ old.offset
+  pub told : new.told ≡ old.told
+  pub here : old.start ≡ old.offset
+  pub before : old.passed + count ≤ old.start
+  pub within : old.start < old.told
+  pub most : ℕ
+  pub some : 0 < most
+  pub few : most ≤ 132
+  pub first : ReadsFirst old.offset most (step next old.offset)
+  pub end : new.end ≡ min (old.start + most) old.told
