@@ -80,7 +80,7 @@ pub(crate) fn walk(next: Awaited, stand: &mut Stand, buffer: &mut [u8; ROOM], ch
 }
 
 // The position after a chunk of so many bytes, if it ends before the next record begins. Most chunks of a large segment end
-// here, at a tenth of the cost of a walk that misses the record's first byte.
+// here, which saves a walk that misses the record's first byte.
 #[inline]
 fn passed_over(next: &Awaited, stand: &Stand, count: u64) -> Option<Stand>
     requires { stand.now.passed + count ≤ stand.now.told }
