@@ -1,12 +1,11 @@
 -- What a reading of a slice sees.
-use Rattle.std.proofs.Common.{◌≡◌, ℕ, ◌-◌, ◌^◌, ◌<◌, ◌≤◌, min, List, [], ◌∷◌, ◌++◌, length, take, drop, Ok, inl, inr, refl, sym, ap, ◌∙◌, arith}
+use Rattle.std.proofs.Common.{◌≡◌, ℕ, ◌-◌, ◌^◌, ◌<◌, min, List, [], ◌∷◌, ◌++◌, length, take, drop, Ok, inl, inr, refl, sym, ap, ◌∙◌, arith}
 use Rattle.std.proofs.lemmas.List.{length-drop, drop_all, take_all, take_min}
 use Rattle.std.proofs.Math.Seq.{take-append_seam}
 use Rattle.imagesize_source.specs.declared.span.Span.{Span}
 use Rattle.imagesize_source.specs.Input.{part}
 use Rattle.imagesize_source.specs.Reading.{Reads, part_read, text_part, text_read}
 use Rattle.imagesize_source.specs.Text.{text_front}
-use Rattle.imagesize_source.proofs.Counts.{text_length}
 use Rattle.imagesize_source.proofs.Texts.{front_take}
 use Rattle.imagesize_source.specs.declared.text.Text.{Text}
 use Rattle.std.proofs.lemmas.Bool.{cases_lt}
@@ -83,32 +82,6 @@ pub slice_text : (d found : List ℕ) (t : Text) (offset from k m : ℕ) → fou
 unfolding text_part
 slice_text d found t offset from k m found_is m_is there = ap (λ j. take j found) m_is ∙ front_take t found
     ∙ ap (text_front t) (found_is ∙ ap (λ p. part d p k) there)
-
--- how long it is
-pub slice_text_fits : (d found : List ℕ) (t : Text) (offset from k m : ℕ) → found ≡ part d from k
-    → m ≡ length (text_front t found)
-    → from ≡ offset → length (take m found) ≤ k
-slice_text_fits d found t offset from k m found_is m_is there =
-    omega (
-      arith,
-      ap length
-          (slice_text d found t offset from k m found_is m_is there),
-      text_length d t offset k,
-      part_length d offset k,
-    )
-
-pub slice_text_there : (d found : List ℕ) (t : Text) (offset from k m : ℕ) → found ≡ part d from k
-    → m ≡ length (text_front t found)
-    → from ≡ offset → 0 < length (take m found) → offset < length d
-slice_text_there d found t offset from k m found_is m_is there some =
-    omega (
-      arith,
-      some,
-      ap length
-          (slice_text d found t offset from k m found_is m_is there),
-      text_length d t offset k,
-      part_length d offset k,
-    )
 
 -- the reading of a text of a slice
 pub slice_reads_text : (d buffer : List ℕ) (t : Text) (offset count : ℕ) → length d < 2 ^ 63
