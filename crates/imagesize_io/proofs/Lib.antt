@@ -1,3 +1,4 @@
+mod Buffered
 mod Cursors
 pub mod Filling
 pub mod Fronts

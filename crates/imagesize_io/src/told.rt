@@ -12,7 +12,7 @@ ghost use Rattle.imagesize_io.specs.StopOf.{stop_of};
 
 use crate::held::copy_text;
 use imagesize_source::Text;
-use imagesize_source::part::copy_part;
+use imagesize_source::part::{copy_front, copy_part};
 use std::io::{self, BufRead, BufReader, Cursor, ErrorKind, Read, Seek, SeekFrom};
 
 /// Why a read gave no bytes.
@@ -136,12 +136,16 @@ impl<R: Read + Seek + Drop> Told for BufReader<R> {
 
     ghost failure = { λ _. None };
 
+    #[inline(always)]
     fn read_told(&mut self, buffer: &mut [u8]) -> Result<usize, Stop>
         ensures bound { IfOk result (λ n. n ≤ length buffer.new) }
         ensures stops { IfErr result (λ stop. (e : Error) × (stop ≡ stop_of e)) }
         ensures reads { ReadConsumes (reader_remaining R.remaining self.old) (reader_remaining R.remaining self.new) result buffer.new }
     {
-        let count = self.read(buffer)?;
+        if let Some(count) = read_buffered(self, buffer) {
+            return Ok(count);
+        }
+        let count = read_unheld(self, buffer)?;
         Ok(count)
     }
 
@@ -168,6 +172,36 @@ impl<R: Read + Seek + Drop> Told for BufReader<R> {
             _ => self.seek(to),
         }
     }
+}
+
+// Fills the buffer with bytes that a buffered reader holds, if it holds as many, and returns how many. Most reads are of a few
+// bytes that it holds. For them this saves the call of `read`, whose result has room for an error.
+#[inline(always)]
+fn read_buffered<R: Read>(reader: &mut BufReader<R>, buffer: &mut [u8]) -> Option<usize>
+    ensures bound { IfSome result (λ n. n ≤ length buffer.new) }
+    ensures reads { IfSome result (λ n. ReadConsumes {E = Stop} (reader_remaining R.remaining reader.old) (reader_remaining R.remaining reader.new)
+        (Ok n) buffer.new) }
+    ensures stays { result ≡ None → reader.new ≡ reader.old }
+{
+    let count = buffer.len();
+    let held = reader.buffer();
+    if count == 0 || count > held.len() {
+        return None;
+    }
+    copy_front(held, count, buffer);
+    reader.consume(count);
+    Some(count)
+}
+
+// A read that the buffer does not hold as a whole. Not inlined, since few reads get here.
+#[inline(never)]
+fn read_unheld<R: Read>(reader: &mut BufReader<R>, buffer: &mut [u8]) -> Result<usize, Stop>
+    ensures bound { IfOk result (λ n. n ≤ length buffer.new) }
+    ensures stops { IfErr result (λ stop. (e : Error) × (stop ≡ stop_of e)) }
+    ensures reads { ReadConsumes (reader_remaining R.remaining reader.old) (reader_remaining R.remaining reader.new) result buffer.new }
+{
+    let count = reader.read(buffer)?;
+    Ok(count)
 }
 
 // Seeks to an offset, and keeps the buffer if it has that offset.
