@@ -34,7 +34,11 @@ pub fn keep_behind(buffer: &mut [u8], count: usize, more: &[u8], skip: u64)
 {
     let kept = count as u64;
     if skip >= kept {
-        put(bytes_behind(more, skip - kept), buffer, 0);
+        // Nothing is left where the next record has not begun. This saves a call that copies no byte.
+        let rest = bytes_behind(more, skip - kept);
+        if !rest.is_empty() {
+            put(rest, buffer, 0);
+        }
         return;
     }
     let first = skip as usize;

@@ -1,5 +1,5 @@
 -- A probe whose bytes arrive in chunks: which bytes arrived, and what they say.
-use Rattle.std.specs.Prelude.{◌≡◌, ℕ, ◌+◌, ◌-◌, ◌<◌, ◌≤◌, max, min, Bool, false, List, length, drop, take, Option, None, Some, IfSome}
+use Rattle.std.specs.Prelude.{◌≡◌, ℕ, ◌+◌, ◌-◌, ◌<◌, ◌≤◌, max, min, Bool, false, List, length, drop, take, Option, None, Some, IfSome, Result}
 use Rattle.std.specs.Coded.{Unit-prop, coded_bool, le_prop, ×_prop}
 use denote.Struct.Props.{≡_prop}
 use Rattle.imagesize.specs.Meaning.{meaning_reads}
@@ -8,11 +8,14 @@ use Rattle.imagesize.specs.declared.types.ImageType.{ImageType}
 use Rattle.imagesize_pieces.specs.Stream.{Begins, Needs, Streams}
 use Rattle.imagesize_pieces.specs.declared.stand.Stand.{Stand}
 use Rattle.imagesize_source.specs.Reading.{is_stopped}
+use Rattle.imagesize_source.specs.declared.halt.Halt.{Halt}
 use Rattle.imagesize_source.specs.declared.span.Span.{Span}
 use Rattle.imagesize_stream.specs.Heard.{IsByFooter, OutOfHeader, SizeIs, TypeIs}
 use Rattle.imagesize_stream.specs.Steps.{Awaits, IsSteady, awaited_said, is_text, reach_of, steady_prop}
+use Rattle.imagesize_stream.specs.declared.awaited.Awaited.{Awaited}
 use Rattle.imagesize_stream.specs.declared.stage.Stage.{Stage}
 use Rattle.imagesize_stream.specs.declared.stage.Stage.TheVariants.{Done, First, Footer, Records}
+use Rattle.imagesize_types.specs.declared.size.ImageSize.{ImageSize}
 
 -- a known type is the type of every input that begins so
 abbrev pub TypeSays : List ℕ → ℕ → Option ImageType → Type 0
@@ -101,3 +104,8 @@ MarkedBy texts (Done size) start passed end marks = Unit {0}
 abbrev pub RestsOnNext : Stage → Stand → List ℕ → ℕ → Type 0
 RestsOnNext stage stand front told = (d : List ℕ) → Begins front told d → length d ≡ told
     → MarkedBy (texts_of d) stage stand.start stand.passed stand.end (meaning_reads d 0).marks
+
+-- the stage after a walk: the size or the error, or the next record
+abbrev pub stage_after : Awaited → Option (Result ImageSize Halt) → Stage
+stage_after next None = Records next
+stage_after next (Some size) = Done size

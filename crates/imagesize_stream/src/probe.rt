@@ -1,5 +1,5 @@
 //! A push parser: the caller passes the bytes of an image as they arrive, in chunks of any length.
-ghost use Rattle.std.specs.Prelude.{◌≡◌, ℕ, ◌+◌, ◌-◌, ◌<◌, ◌≤◌, ◌^◌, ◌++◌, [], false, List, length, take, max, min, Option, None, Some, IfSome, unwrap_or};
+ghost use Rattle.std.specs.Prelude.{◌≡◌, ℕ, ◌+◌, ◌-◌, ◌<◌, ◌≤◌, ◌^◌, ◌++◌, [], false, true, List, length, take, max, min, Option, None, Some, IfSome, unwrap_or};
 ghost use Rattle.std.specs.Result.{result_ok};
 ghost use Rattle.imagesize.specs.Meaning.{kind_of, meaning};
 ghost use Rattle.imagesize_pieces.specs.Stream.{AllBelow, Begins};
@@ -9,7 +9,7 @@ ghost use Rattle.imagesize_stream.specs.Given.{HasPart, IsGiven, MayBeAt};
 ghost use Rattle.imagesize_stream.specs.Heard.{RestsOnMore};
 ghost use Rattle.imagesize_stream.specs.Probe.{HoldsAt, IfAwaiting, IsAhead, IsNext, holds_prop};
 
-use crate::stage::{ROOM, Stage, begin, wait, walk};
+use crate::stage::{ROOM, Stage, begin, pass_over, wait, walk};
 use imagesize::{ImageResult, ImageType};
 use imagesize_pieces::buffer::front_of;
 use imagesize_pieces::stand::Stand;
@@ -100,6 +100,9 @@ impl StreamProbe {
         // No result is a fault, a spent budget or a lack of memory.
         ensures unstopped { IfSome result (λ answer. is_stopped answer.1 ≡ false) }
     {
+        if self.pass_over(chunk) {
+            return None;
+        }
         self.take_in(chunk);
         self.answer()
     }
@@ -147,18 +150,47 @@ impl StreamProbe {
             → HasPart d self.old.stand.passed chunk.now → MayBeAt self.new.stage self.new.kind self.new.stand self.new.buffer d }
     {
         let chunk = front_of(chunk, self.stand.told - self.stand.passed);
-        self.stage = match self.stage {
-            Stage::First => begin(&mut self.kind, &mut self.stand, &mut self.buffer, chunk),
-            Stage::Records { next } => walk(next, &mut self.stand, &mut self.buffer, chunk),
-            Stage::Footer { size } => wait(
-                size,
-                &mut self.kind,
-                &mut self.stand,
-                &mut self.buffer,
-                chunk,
-            ),
-            Stage::Done { .. } => self.stage,
-        };
+        match &mut self.stage {
+            Stage::First => {
+                self.stage = begin(&mut self.kind, &mut self.stand, &mut self.buffer, chunk);
+            }
+            Stage::Records { next } => {
+                let found = walk(next, &mut self.stand, &mut self.buffer, chunk);
+                if let Some(size) = found {
+                    self.stage = Stage::Done { size };
+                }
+            }
+            Stage::Footer { size } => {
+                self.stage = wait(
+                    *size,
+                    &mut self.kind,
+                    &mut self.stand,
+                    &mut self.buffer,
+                    chunk,
+                );
+            }
+            Stage::Done { .. } => {}
+        }
+    }
+
+    // Counts a chunk that ends before the next record begins, and returns whether it does. Most chunks of a large segment end
+    // there. For them this saves a walk, and the copies of the state that it begins with.
+    #[inline(always)]
+    fn pass_over(&mut self, chunk: &[u8]) -> bool
+        ensures told { told_of self.new ≡ told_of self.old }
+        ensures stays { result ≡ false → self.new ≡ self.old }
+        ensures open { result ≡ true → answer_of self.old ≡ None }
+        ensures none { result ≡ true → answer_of self.new ≡ None }
+        ensures goes_on { result ≡ true → (front : List ℕ) → Came self.old front → Came self.new (front ++ take (told_of self.old - length front) chunk.now) }
+        ensures complete { result ≡ true → (front : List ℕ) → Came self.old front
+            → RestsOnMore (front ++ take (told_of self.old - length front) chunk.now) (told_of self.old) }
+        ensures whole { result ≡ true → (front : List ℕ) → Came self.old front → told_of self.old ≤ length front + length chunk.now → ⊥ }
+    {
+        let more = front_of(chunk, self.stand.told - self.stand.passed);
+        match &self.stage {
+            Stage::Records { next } => pass_over(next, &mut self.stand, more.len() as u64),
+            _ => false,
+        }
     }
 
     // Skips the bytes that are not needed, up to the first one that is.
@@ -183,8 +215,10 @@ impl StreamProbe {
         ensures is { result ≡ answer_of self.now }
         ensures unstopped { IfSome result (λ answer. is_stopped answer.1 ≡ false) }
     {
+        // A size is not passed through a result that has room for an error: this saves three copies of 96 bytes.
         match self.stage {
-            Stage::Done { size } => Some((self.kind, stated(size))),
+            Stage::Done { size: Ok(size) } => Some((self.kind, Ok(size))),
+            Stage::Done { size: Err(halt) } => Some((self.kind, stated(Err(halt)))),
             _ => None,
         }
     }

@@ -1,10 +1,10 @@
 //! The stages of a push parser, and how each chunk continues them.
-ghost use Rattle.std.specs.Prelude.{◌≡◌, ℕ, ◌+◌, ◌-◌, ◌<◌, ◌≤◌, ◌++◌, List, Option, IfSome, length, take};
+ghost use Rattle.std.specs.Prelude.{◌≡◌, ℕ, ◌+◌, ◌-◌, ◌<◌, ◌≤◌, ◌++◌, List, Option, true, false, length, take};
 ghost use Rattle.imagesize.specs.declared.types.ImageType.{ImageType};
 ghost use Rattle.imagesize_source.specs.Input.{part};
 ghost use Rattle.imagesize_stream.specs.Given.{IsGiven, MayBeAt};
 ghost use Rattle.imagesize_stream.specs.Heard.{RestsOnMore};
-ghost use Rattle.imagesize_stream.specs.Probe.{CameTo, HoldsAt, IfAwaiting, IsAhead, RestsOnNext};
+ghost use Rattle.imagesize_stream.specs.Probe.{CameTo, HoldsAt, IfAwaiting, IsAhead, RestsOnNext, stage_after};
 ghost use Rattle.imagesize_stream.specs.Skips.{PassesOver};
 ghost use Rattle.imagesize_stream.specs.Steps.{IsSteady, is_text, reach_of};
 ghost use Rattle.imagesize_stream.specs.declared.stage.Stage.TheVariants as stage;
@@ -48,30 +48,53 @@ pub(crate) enum Stage {
     Done { size: Result<ImageSize, Halt> },
 }
 
-/// Continues the walk along the records with the next chunk.
-pub(crate) fn walk(next: Awaited, stand: &mut Stand, buffer: &mut [u8; ROOM], chunk: &[u8]) -> Stage
-    requires steady { IsSteady next stand.old.offset }
+/// Counts a chunk of so many bytes, if it ends before the next record begins, and returns whether it does. Most chunks of a large
+/// segment end there. This saves a walk that misses the record's first byte.
+#[inline(always)]
+pub(crate) fn pass_over(next: &Awaited, stand: &mut Stand, count: u64) -> bool
+    requires { stand.old.passed + count ≤ stand.old.told }
+    ensures stays { result ≡ false → stand.new ≡ stand.old }
+    ensures passes { result ≡ true → PassesOver next.now stand.old stand.new count }
+{
+    let passed = stand.passed + count;
+    if passed > stand.start || stand.start != stand.offset || stand.start >= stand.told {
+        return false;
+    }
+    let most = next.first_read();
+    if most == 0 {
+        return false;
+    }
+    stand.passed = passed;
+    stand.end = (stand.start + most).min(stand.told);
+    true
+}
+
+/// Continues the walk along the records with the next chunk, from the next record on. Returns the size or the error, once it is
+/// known. Otherwise `next` is the record that is next.
+pub(crate) fn walk(
+    next: &mut Awaited,
+    stand: &mut Stand,
+    buffer: &mut [u8; ROOM],
+    chunk: &[u8],
+) -> Option<Result<ImageSize, Halt>>
+    requires steady { IsSteady next.old stand.old.offset }
     requires few { stand.old.passed - stand.old.start ≤ 1023 }
     requires typed { 12 ≤ stand.old.passed }
     requires fits { stand.old.passed + length chunk.now ≤ stand.old.told }
     ensures told { stand.new.told ≡ stand.old.told }
-    ensures holds { HoldsAt result stand.new }
-    ensures ahead { IsAhead result stand.new }
-    ensures passed { IfAwaiting result (stand.new.passed ≡ stand.old.passed + length chunk.now) }
+    ensures holds { HoldsAt (stage_after next.new result) stand.new }
+    ensures ahead { IsAhead (stage_after next.new result) stand.new }
+    ensures passed { IfAwaiting (stage_after next.new result) (stand.new.passed ≡ stand.old.passed + length chunk.now) }
 
     // For each list of bytes that may have arrived before:
-    ensures goes_on { (kind : Option ImageType) (front : List ℕ) → CameTo (stage.Records next) kind stand.old buffer.old front
-        → CameTo result kind stand.new buffer.new (front ++ chunk.now) }
-    ensures complete { IfAwaiting result ((kind : Option ImageType) (front : List ℕ) → CameTo (stage.Records next) kind stand.old buffer.old front
+    ensures goes_on { (kind : Option ImageType) (front : List ℕ) → CameTo (stage.Records next.old) kind stand.old buffer.old front
+        → CameTo (stage_after next.new result) kind stand.new buffer.new (front ++ chunk.now) }
+    ensures complete { IfAwaiting (stage_after next.new result) ((kind : Option ImageType) (front : List ℕ) → CameTo (stage.Records next.old) kind stand.old buffer.old front
         → RestsOnMore (front ++ chunk.now) stand.old.told) }
-    ensures marked { (kind : Option ImageType) (front : List ℕ) → CameTo (stage.Records next) kind stand.old buffer.old front
-        → RestsOnNext result stand.new (front ++ chunk.now) stand.old.told }
-    ensures whole { IfAwaiting result (stand.old.told ≤ stand.old.passed + length chunk.now → ⊥) }
+    ensures marked { (kind : Option ImageType) (front : List ℕ) → CameTo (stage.Records next.old) kind stand.old buffer.old front
+        → RestsOnNext (stage_after next.new result) stand.new (front ++ chunk.now) stand.old.told }
+    ensures whole { IfAwaiting (stage_after next.new result) (stand.old.told ≤ stand.old.passed + length chunk.now → ⊥) }
 {
-    if let Some(further) = passed_over(&next, stand, chunk.len() as u64) {
-        *stand = further;
-        return Stage::Records { next };
-    }
     if next.is_text() {
         walk_over::<true>(next, stand, buffer, chunk)
     } else {
@@ -79,39 +102,9 @@ pub(crate) fn walk(next: Awaited, stand: &mut Stand, buffer: &mut [u8; ROOM], ch
     }
 }
 
-// The position after a chunk of so many bytes, if it ends before the next record begins. Most chunks of a large segment end
-// here, which saves a walk that misses the record's first byte.
-#[inline]
-fn passed_over(next: &Awaited, stand: &Stand, count: u64) -> Option<Stand>
-    requires { stand.now.passed + count ≤ stand.now.told }
-    ensures { IfSome result (λ further. PassesOver next.now stand.now further count) }
-{
-    let passed = stand.passed + count;
-    if passed > stand.start || stand.start != stand.offset || stand.start >= stand.told {
-        return None;
-    }
-    let most = next.first_read();
-    if most == 0 {
-        return None;
-    }
-    Some(Stand {
-        start: stand.start,
-        offset: stand.offset,
-        passed,
-        end: (stand.start + most).min(stand.told),
-        told: stand.told,
-    })
-}
-
-// Continues the walk with the next chunk. `TEXTS` says whether the records are texts.
-fn walk_over<const TEXTS: bool>(
-    next: Awaited,
-    stand: &mut Stand,
-    buffer: &mut [u8; ROOM],
-    chunk: &[u8],
-) -> Stage
+// Begins the walk at this record, and returns the stage after the chunk.
+fn walk_from(next: Awaited, stand: &mut Stand, buffer: &mut [u8; ROOM], chunk: &[u8]) -> Stage
     requires steady { IsSteady next stand.old.offset }
-    requires texts { is_text next ≡ TEXTS }
     requires few { stand.old.passed - stand.old.start ≤ 1023 }
     requires typed { 12 ≤ stand.old.passed }
     requires fits { stand.old.passed + length chunk.now ≤ stand.old.told }
@@ -129,12 +122,46 @@ fn walk_over<const TEXTS: bool>(
         → RestsOnNext result stand.new (front ++ chunk.now) stand.old.told }
     ensures whole { IfAwaiting result (stand.old.told ≤ stand.old.passed + length chunk.now → ⊥) }
 {
-    let mut sizes = Sizes::<TEXTS> { next };
-    match read_on(&mut sizes, stand, buffer, chunk) {
+    let mut next = next;
+    match walk(&mut next, stand, buffer, chunk) {
         Some(size) => Stage::Done { size },
+        None => Stage::Records { next },
+    }
+}
+
+// Continues the walk with the next chunk. `TEXTS` says whether the records are texts.
+fn walk_over<const TEXTS: bool>(
+    next: &mut Awaited,
+    stand: &mut Stand,
+    buffer: &mut [u8; ROOM],
+    chunk: &[u8],
+) -> Option<Result<ImageSize, Halt>>
+    requires steady { IsSteady next.old stand.old.offset }
+    requires texts { is_text next.old ≡ TEXTS }
+    requires few { stand.old.passed - stand.old.start ≤ 1023 }
+    requires typed { 12 ≤ stand.old.passed }
+    requires fits { stand.old.passed + length chunk.now ≤ stand.old.told }
+    ensures told { stand.new.told ≡ stand.old.told }
+    ensures holds { HoldsAt (stage_after next.new result) stand.new }
+    ensures ahead { IsAhead (stage_after next.new result) stand.new }
+    ensures passed { IfAwaiting (stage_after next.new result) (stand.new.passed ≡ stand.old.passed + length chunk.now) }
+
+    // For each list of bytes that may have arrived before:
+    ensures goes_on { (kind : Option ImageType) (front : List ℕ) → CameTo (stage.Records next.old) kind stand.old buffer.old front
+        → CameTo (stage_after next.new result) kind stand.new buffer.new (front ++ chunk.now) }
+    ensures complete { IfAwaiting (stage_after next.new result) ((kind : Option ImageType) (front : List ℕ) → CameTo (stage.Records next.old) kind stand.old buffer.old front
+        → RestsOnMore (front ++ chunk.now) stand.old.told) }
+    ensures marked { (kind : Option ImageType) (front : List ℕ) → CameTo (stage.Records next.old) kind stand.old buffer.old front
+        → RestsOnNext (stage_after next.new result) stand.new (front ++ chunk.now) stand.old.told }
+    ensures whole { IfAwaiting (stage_after next.new result) (stand.old.told ≤ stand.old.passed + length chunk.now → ⊥) }
+{
+    let mut sizes = Sizes::<TEXTS> { next: *next };
+    match read_on(&mut sizes, stand, buffer, chunk) {
+        Some(size) => Some(size),
         None => {
             stand.end = stand.end.min(stand.start + reach(TEXTS));
-            Stage::Records { next: sizes.next }
+            *next = sizes.next;
+            None
         }
     }
 }
@@ -261,7 +288,7 @@ fn begun(
         } => {
             *kind = Some(image);
             stand.offset = offset;
-            walk(next, stand, buffer, chunk)
+            walk_from(next, stand, buffer, chunk)
         }
         Heard::Footer { size } => {
             *kind = None;

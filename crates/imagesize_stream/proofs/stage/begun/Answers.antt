@@ -13,7 +13,7 @@ use Rattle.imagesize_stream.proofs.stage.begun.Goals as goal
 pub returns-in-Records-clause-goes_on : goal.returns-in-Records-clause-goes_on
 returns-in-Records-clause-goes_on c =
     let hears = c.in-Records.ensures.hears in
-    c.walk.ensures.goes_on (Some c.in-Records.image) (take c.args.stand.now.passed c.args.buffer.now) (
+    c.walk_from.ensures.goes_on (Some c.in-Records.image) (take c.args.stand.now.passed c.args.buffer.now) (
       type_is (take c.args.stand.now.passed c.args.buffer.now) c.args.stand.now.told _ hears.1,
       opened_came c.args.buffer.now c.args.stand.now.passed c.args.stand.now.start c.args.stand.now.told
           c.in-Records.offset c.in-Records.next c.in-Records.image
@@ -23,13 +23,13 @@ returns-in-Records-clause-goes_on c =
 pub returns-in-Records-clause-complete : goal.returns-in-Records-clause-complete
 returns-in-Records-clause-complete c =
     let hears = c.in-Records.ensures.hears in
-    awaiting_map c.walk.result
+    awaiting_map c.walk_from.result
     (λ rests. rests (Some c.in-Records.image) (take c.args.stand.now.passed c.args.buffer.now) (
       type_is (take c.args.stand.now.passed c.args.buffer.now) c.args.stand.now.told _ hears.1,
       opened_came c.args.buffer.now c.args.stand.now.passed c.args.stand.now.start c.args.stand.now.told
           c.in-Records.offset c.in-Records.next c.in-Records.image
           c.requires.first (omega (arith, c.requires.few)) hears.0 hears.1 hears.2 hears.4,
-    )) c.walk.ensures.complete
+    )) c.walk_from.ensures.complete
 
 pub returns-in-Footer-clause-goes_on : goal.returns-in-Footer-clause-goes_on
 returns-in-Footer-clause-goes_on c =
@@ -52,7 +52,7 @@ returns-in-Missing-clause-marked c = λ d begins as_long out.
 pub returns-in-Records-clause-marked : goal.returns-in-Records-clause-marked
 returns-in-Records-clause-marked c =
     let hears = c.in-Records.ensures.hears in
-    c.walk.ensures.marked (Some c.in-Records.image) (take c.args.stand.now.passed c.args.buffer.now) (
+    c.walk_from.ensures.marked (Some c.in-Records.image) (take c.args.stand.now.passed c.args.buffer.now) (
       type_is (take c.args.stand.now.passed c.args.buffer.now) c.args.stand.now.told _ hears.1,
       opened_came c.args.buffer.now c.args.stand.now.passed c.args.stand.now.start c.args.stand.now.told
           c.in-Records.offset c.in-Records.next c.in-Records.image

@@ -16,7 +16,7 @@ pub read_on-requires-clause-follows : goal.read_on-requires-clause-follows
 read_on-requires-clause-follows g c = awaited_advances
 
 pub read_on-requires-clause-keeps : goal.read_on-requires-clause-keeps
-read_on-requires-clause-keeps g c = (c.args.next ∷ [], (refl, c.requires.steady, c.requires.texts))
+read_on-requires-clause-keeps g c = (c.args.next.now ∷ [], (refl, c.requires.steady, c.requires.texts))
 
 pub read_on-requires-clause-reaches : goal.read_on-requires-clause-reaches
 read_on-requires-clause-reaches g c = λ held offset.

@@ -1,75 +1,76 @@
-use Rattle.std.proofs.Common.{ℕ, ◌-◌, ◌++◌, List, length, take, refl, sym, ap, ◌∙◌, arith}
+use Rattle.std.proofs.Common.{ℕ, ◌≡◌, ◌-◌, ◌++◌, List, length, take, refl, sym, ap, subst, ◌∙◌, arith}
 use Rattle.imagesize_stream.proofs.Coming.{awaiting_map}
-use Rattle.imagesize_stream.proofs.Ending.{as_many, awaiting_as, rests_cut}
+use Rattle.imagesize_stream.proofs.Ending.{as_many, rests_cut}
 use Rattle.imagesize_stream.proofs.Given.{cut_part, given_on}
-use Rattle.imagesize_stream.specs.Heard.{RestsOnMore}
-use Rattle.imagesize_stream.specs.Pushed.{Came, told_of}
-use Rattle.imagesize_stream.specs.declared.stage.Stage.TheVariants.{Done}
+use Rattle.imagesize_stream.specs.Probe.{CameTo}
+use Rattle.imagesize_stream.specs.Pushed.{told_of}
+use Rattle.imagesize_stream.specs.declared.stage.Stage.TheVariants.{Done, Records}
 use Rattle.imagesize_stream.proofs.probe.StreamProbe.take_in.Goals as goal
-use Rattle.imagesize_stream.proofs.probe.StreamProbe.take_in.Goals.{in-First, in-Records, in-Footer, in-Done}
 
-pub returns-clause-complete : goal.returns-clause-complete
-returns-clause-complete c =
-    let s = c.args.self.now in
-    let Rests : Type 0 = (front : List ℕ) → Came s front
-    → RestsOnMore (front ++ take (told_of s - length front) c.args.chunk.now) (told_of s) in
-    elim c.match-self.branch [
-      | in-First w ↦ awaiting_as Rests c.match-self.self2 w.begin-self.result w.self2-is
-          (awaiting_map w.begin-self.result (λ rests front came.
-          let here = rw w.in-First.is at came in
-          rests_cut front c.args.chunk.now c.front_of-chunk.result.now s.stand.passed s.stand.told
-          (as_many s.kind s.stage s.stand.start s.stand.offset s.stand.passed s.stand.told s.buffer front
-          (rw w.in-First.is refl) (omega arith) s.holds came)
-          c.front_of-chunk.ensures (rests front here)) w.begin-self.ensures.complete)
-      | in-Records w ↦ awaiting_as Rests c.match-self.self2 w.walk-self.result w.self2-is
-          (awaiting_map w.walk-self.result (λ rests front came.
-          let here = rw w.in-Records.is at came in
-          rests_cut front c.args.chunk.now c.front_of-chunk.result.now s.stand.passed s.stand.told
-          (as_many s.kind s.stage s.stand.start s.stand.offset s.stand.passed s.stand.told s.buffer front
-          (rw w.in-Records.is refl) (omega arith) s.holds came)
-          c.front_of-chunk.ensures (rests s.kind front here)) w.walk-self.ensures.complete)
-      | in-Footer w ↦ awaiting_as Rests c.match-self.self2 w.wait-self.result w.self2-is
-          (awaiting_map w.wait-self.result (λ rests front came.
-          let here = rw w.in-Footer.is at came in
-          rests_cut front c.args.chunk.now c.front_of-chunk.result.now s.stand.passed s.stand.told
-          (as_many s.kind s.stage s.stand.start s.stand.offset s.stand.passed s.stand.told s.buffer front
-          (rw w.in-Footer.is refl) (omega arith) s.holds came)
-          c.front_of-chunk.ensures (rests front here)) w.wait-self.ensures.complete)
-      | in-Done w ↦ awaiting_as Rests c.match-self.self2 s.stage w.self2-is
-          (awaiting_as Rests s.stage (Done w.in-Done.size) w.in-Done.is tt)
-    ]
-
-pub returns-clause-parts : goal.returns-clause-parts
-returns-clause-parts c = λ d given has.
+pub returns-in-First-clause-parts : goal.returns-in-First-clause-parts
+returns-in-First-clause-parts c = λ d given has.
     let s = c.args.self.now in
     let cut = c.front_of-chunk.result.now in
     let is = cut_part d cut s.stand.passed (length c.args.chunk.now)
     (c.front_of-chunk.ensures ∙ ap (λ k. take (k - s.stand.passed) c.args.chunk.now) (sym given.as_long) ∙ has) in
-    elim c.match-self.branch [
-      | in-First w ↦
-          let here = rw w.in-First.is at given in
-          let now = w.begin-self.new in
-          rw (w.self-is, w.self2-is)
-          (given_on w.begin-self.result now.kind now.stand now.buffer d cut s.stand.passed s.stand.told given.as_long is
-          w.begin-self.ensures.told w.begin-self.ensures.holds w.begin-self.ensures.passed
-          (w.begin-self.ensures.goes_on (take s.stand.passed d) here.known)
-          (awaiting_map w.begin-self.result (λ rests. rests (take s.stand.passed d) here.known)
-          w.begin-self.ensures.complete)
-          (w.begin-self.ensures.marked (take s.stand.passed d) here.known))
-      | in-Records w ↦
-          let here = rw w.in-Records.is at given in
-          let now = w.walk-self.new in
-          rw (w.self-is, w.self2-is)
-          (given_on w.walk-self.result s.kind now.stand now.buffer d cut s.stand.passed s.stand.told given.as_long is
-          w.walk-self.ensures.told w.walk-self.ensures.holds w.walk-self.ensures.passed
-          (w.walk-self.ensures.goes_on s.kind (take s.stand.passed d) here.known)
-          (awaiting_map w.walk-self.result (λ rests. rests s.kind (take s.stand.passed d) here.known)
-          w.walk-self.ensures.complete)
-          (w.walk-self.ensures.marked s.kind (take s.stand.passed d) here.known))
-      | in-Footer w ↦ rw (w.self-is, w.self2-is) (w.wait-self.ensures.parts d (rw w.in-Footer.is at given) is)
-      | in-Done w ↦ rw (w.self-is, w.self2-is) (record {
-        given = given;
-        depends = rw w.in-Done.is tt;
-        marked = rw w.in-Done.is tt;
-      })
-    ]
+    let here = rw c.in-First.is at given in
+    let now = c.begin-self.new in
+    given_on c.begin-self.result now.kind now.stand now.buffer d cut s.stand.passed s.stand.told given.as_long is
+    c.begin-self.ensures.told c.begin-self.ensures.holds c.begin-self.ensures.passed
+    (c.begin-self.ensures.goes_on (take s.stand.passed d) here.known)
+    (awaiting_map c.begin-self.result (λ rests. rests (take s.stand.passed d) here.known) c.begin-self.ensures.complete)
+    (c.begin-self.ensures.marked (take s.stand.passed d) here.known)
+
+pub returns-in-Some-clause-goes_on : goal.returns-in-Some-clause-goes_on
+returns-in-Some-clause-goes_on c = λ front came.
+    let s = c.args.self.now in
+    let here = rw c.in-Records.is at came in
+    let many : s.stand.passed ≡ length front =
+    as_many s.kind s.stage s.stand.start s.stand.offset s.stand.passed s.stand.told s.buffer front
+    (rw c.in-Records.is refl) (omega arith) s.holds came in
+    subst (λ bytes. CameTo (Done c.in-Some.size) s.kind c.walk-found.new.stand c.walk-found.new.buffer (front ++ bytes))
+    (c.front_of-chunk.ensures ∙ ap (λ n. take (s.stand.told - n) c.args.chunk.now) many)
+    (c.in-Some.ensures.goes_on s.kind front here)
+
+pub returns-in-Some-clause-parts : goal.returns-in-Some-clause-parts
+returns-in-Some-clause-parts c = λ d given has.
+    let s = c.args.self.now in
+    let cut = c.front_of-chunk.result.now in
+    let is = cut_part d cut s.stand.passed (length c.args.chunk.now)
+    (c.front_of-chunk.ensures ∙ ap (λ k. take (k - s.stand.passed) c.args.chunk.now) (sym given.as_long) ∙ has) in
+    let here = rw c.in-Records.is at given in
+    let now = c.walk-found.new in
+    given_on (Done c.in-Some.size) s.kind now.stand now.buffer d cut s.stand.passed s.stand.told given.as_long is
+    c.in-Some.ensures.told c.in-Some.ensures.holds tt (c.in-Some.ensures.goes_on s.kind (take s.stand.passed d) here.known)
+    tt (c.in-Some.ensures.marked s.kind (take s.stand.passed d) here.known)
+
+pub returns-in_default-clause-complete : goal.returns-in_default-clause-complete
+returns-in_default-clause-complete c = λ front came.
+    let s = c.args.self.now in
+    let here = rw c.in-Records.is at came in
+    rests_cut front c.args.chunk.now c.front_of-chunk.result.now s.stand.passed s.stand.told
+    (as_many s.kind s.stage s.stand.start s.stand.offset s.stand.passed s.stand.told s.buffer front
+    (rw c.in-Records.is refl) (omega arith) s.holds came)
+    c.front_of-chunk.ensures (c.in_default.ensures.complete s.kind front here)
+
+pub returns-in_default-clause-parts : goal.returns-in_default-clause-parts
+returns-in_default-clause-parts c = λ d given has.
+    let s = c.args.self.now in
+    let cut = c.front_of-chunk.result.now in
+    let is = cut_part d cut s.stand.passed (length c.args.chunk.now)
+    (c.front_of-chunk.ensures ∙ ap (λ k. take (k - s.stand.passed) c.args.chunk.now) (sym given.as_long) ∙ has) in
+    let here = rw c.in-Records.is at given in
+    let now = c.walk-found.new in
+    given_on (Records now.next) s.kind now.stand now.buffer d cut s.stand.passed s.stand.told given.as_long is
+    c.in_default.ensures.told c.in_default.ensures.holds c.in_default.ensures.passed
+    (c.in_default.ensures.goes_on s.kind (take s.stand.passed d) here.known)
+    (c.in_default.ensures.complete s.kind (take s.stand.passed d) here.known)
+    (c.in_default.ensures.marked s.kind (take s.stand.passed d) here.known)
+
+pub returns-in-Footer-clause-parts : goal.returns-in-Footer-clause-parts
+returns-in-Footer-clause-parts c = λ d given has.
+    let s = c.args.self.now in
+    let cut = c.front_of-chunk.result.now in
+    let is = cut_part d cut s.stand.passed (length c.args.chunk.now)
+    (c.front_of-chunk.ensures ∙ ap (λ k. take (k - s.stand.passed) c.args.chunk.now) (sym given.as_long) ∙ has) in
+    c.wait-self.ensures.parts d (rw c.in-Footer.is at given) is
