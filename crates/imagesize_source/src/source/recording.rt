@@ -99,6 +99,8 @@ impl Source for RecordingSource<'_, '_> {
         Ok(count)
     }
 
+    // Inlined, so that the sort of the text is known where it is read: an empty line takes a third fewer instructions.
+    #[inline(always)]
     fn read_text(&mut self, offset: u64, text: Text, buffer: &mut [u8]) -> Result<usize, Halt> {
         // The proof needs that the length is below 2^63.
         let _length = self.bytes.len();

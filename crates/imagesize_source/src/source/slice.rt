@@ -37,7 +37,8 @@ impl Source for SliceSource<'_> {
         Ok(copy_part(self.bytes, offset, buffer))
     }
 
-    #[inline]
+    // Inlined, so that the sort of the text is known where it is read.
+    #[inline(always)]
     fn read_text(&mut self, offset: u64, text: Text, buffer: &mut [u8]) -> Result<usize, Halt> {
         // The proof needs that the length is below 2^63.
         let _length = self.bytes.len();
