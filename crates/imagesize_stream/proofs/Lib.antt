@@ -7,6 +7,7 @@ pub mod Plain
 pub mod Reaches
 pub mod Far
 pub mod Opened
+pub mod Heads
 pub mod Hearing
 pub mod Saying
 pub mod Coming

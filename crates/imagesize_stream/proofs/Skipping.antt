@@ -44,7 +44,7 @@ first_any d offset n (reading (TextOf t k) p f) first P here = absurd first
 first_any d offset n (begin_record t) first P here = first_any d offset n t first P here
 
 -- the span of a read that begins within the input
-span_there : (d : List ℕ) (offset n : ℕ) → 0 < n → offset < length d
+pub span_there : (d : List ℕ) (offset n : ℕ) → 0 < n → offset < length d
     → span_of d offset n ≡ record { start = offset; len = min n (length d - offset) } ∷ []
 unfolding span_of
 span_there d offset n some below = span-some offset (min n (length d - offset)) (omega (arith, some, below))

@@ -18,6 +18,9 @@ use imagesize_pieces::walk::is_faulted;
 use imagesize_source::Halt;
 use imagesize_types::size::ImageSize;
 
+// How many first bytes the type is read from.
+const HEAD: usize = 12;
+
 /// What the first bytes say.
 #[derive(Drop)]
 pub(crate) enum Heard {
@@ -54,6 +57,13 @@ pub(crate) fn hear(bytes: &[u8], told: u64) -> Heard
     ensures whole { told ≤ length bytes.now → IfMissing result ⊥ }
     ensures unstopped { IfAnswer result (λ size. is_stopped size ≡ false) }
 {
+    // Fewer bytes than the type is read from need no read that fails: a probe over parts begins with none.
+    if bytes.len() < HEAD && told >= HEAD as u64 {
+        return Heard::Missing {
+            image: None,
+            end: HEAD as u64,
+        };
+    }
     let (found, end) = read_front(&FirstBytes, bytes, told);
     if is_faulted(&found) {
         return Heard::Missing { image: None, end };

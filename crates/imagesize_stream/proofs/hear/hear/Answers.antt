@@ -1,6 +1,7 @@
-use Rattle.std.proofs.Common.{Ok, sym, ◌∙◌, subst, false}
+use Rattle.std.proofs.Common.{◌<◌, length, Ok, sym, ◌∙◌, subst, false, arith}
 use Rattle.imagesize_pieces.specs.Stream.{Says}
 use Rattle.imagesize_source.specs.Layout.{layout_reads}
+use Rattle.imagesize_stream.proofs.Heads.{head_missing, head_needed}
 use Rattle.imagesize_stream.proofs.Hearing.{first_asked, first_missing, meaning_refused, size_of_said, type_is, type_refused, type_said}
 use Rattle.imagesize_stream.proofs.Plain.{first_plain}
 use Rattle.imagesize_stream.proofs.Reaches.{first_reaches}
@@ -35,4 +36,14 @@ returns-in-Err-clause-hears c =
     let refused = type_refused c.args.bytes.now c.args.told c.in-Err.halt (rw c.in-Err.is at says) in (
       type_is c.args.bytes.now c.args.told _ refused,
       size_of_said c.args.bytes.now c.args.told _ (meaning_refused c.args.bytes.now c.args.told c.in-Err.halt refused),
+    )
+
+pub returns-then-told-clause-hears : goal.returns-then-told-clause-hears
+returns-then-told-clause-hears c =
+    let few : length c.args.bytes.now < 12 = omega arith in (
+      first_missing c.args.bytes.now c.args.told
+          (λ d begins as_long below. head_missing d (length c.args.bytes.now) few (omega (arith, as_long)) below),
+      tt,
+      λ _. first_asked c.args.bytes.now c.args.told _ _
+          (λ d begins as_long. head_needed d (length c.args.bytes.now) few (omega (arith, as_long))),
     )
