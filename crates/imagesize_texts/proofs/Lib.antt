@@ -1,3 +1,4 @@
+pub mod Ascii
 pub mod Exr
 pub mod Hdr
 pub mod Pnm

@@ -5,7 +5,7 @@ use Rattle.std.specs.Prelude.{filter, ◌&&◌}
 use Rattle.std.proofs.lemmas.Bool.Decides.{nat_tests}
 use Rattle.std.proofs.lemmas.List.{append-nil}
 use Rattle.std.proofs.lemmas.List.Splits.{slice_split-cons_yes, slice_split-cons_no}
-use Rattle.std.proofs.lemmas.Str.{IsUtf8-from_is_utf8, is_utf8-from_IsUtf8, IsUtf8-past_char, chars_from_encodes, chars_past_char, chars-nil, encodes-append, encodes-chars}
+use Rattle.std.proofs.lemmas.Str.{IsUtf8-past_char, chars_from_encodes, chars_past_char, chars-nil, encodes-append, encodes-chars}
 use Rattle.std.proofs.lemmas.Str.Ascii.{trim_ascii_start_is}
 use Rattle.std.proofs.lemmas.Str.Parse.{IsNumeralModel, numerals_by_value, tells_all_ascii_digits}
 use Rattle.std.specs.Char.{is_ascii_whitespace, is_whitespace, is_not_whitespace, encode_utf8}
@@ -13,21 +13,9 @@ use Rattle.std.specs.List.{prefix_len, slice_split, onto_first}
 use Rattle.std.specs.Result.{result_ok}
 use Rattle.std.specs.Str.{IsUtf8, is_utf8, chars, encode_utf8_all, all_ascii_digits, NoCharPasses, NonePass, EmptyOrStartsWithPassing, IsTrimAsciiStart, trim_start, trim_end}
 use Rattle.std.specs.Str.Parse.{ParsesUnsigned, IsNumeral, digits_value, without_leading_plus}
-use Rattle.imagesize_source.specs.declared.halt.Halt.TheVariants.{NotUtf8}
 use Rattle.imagesize_source.proofs.Tests.{on_test}
 use Rattle.imagesize_texts.specs.Pnm.{is_comment}
 use Rattle.imagesize_texts.specs.Contents.{utf8, behind_space, is_number, number_text, char_words, words}
-
--- bytes that are text
-pub is_text : (bs : List ℕ) → IsUtf8 bs → utf8 bs ≡ Ok bs
-unfolding utf8
-is_text bs is = ap (λ b. cond b (Ok bs) (Err NotUtf8)) (is_utf8-from_IsUtf8 bs is)
-
--- and that are none
-pub no_text : (bs : List ℕ) → ¬ (IsUtf8 bs) → utf8 bs ≡ Err NotUtf8
-unfolding utf8
-no_text bs none = on_test (λ r. r ≡ Err NotUtf8) (is_utf8 bs) (Ok bs) (Err NotUtf8)
-    (λ is. absurd (none (IsUtf8-from_is_utf8 bs is))) (λ _. refl)
 
 -- no byte is a text, and so is a `#`
 no_bytes : utf8 [] ≡ Ok []

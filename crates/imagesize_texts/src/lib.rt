@@ -2,4 +2,5 @@
 #![tactic(auto)]
 
 pub mod formats;
+mod utf8;
 pub mod util;

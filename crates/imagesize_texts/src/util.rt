@@ -6,6 +6,7 @@ ghost use Rattle.imagesize_source.specs.State.{Runs};
 ghost use Rattle.imagesize_texts.specs.Contents.{ended_word, is_word_end, line_length, line_text, no_end, number_text, utf8, word_text};
 ghost use Rattle.imagesize_texts.specs.Texts.{length_read, line_read, read_word_of, word_read};
 
+use crate::utf8::is_utf8;
 use imagesize_source::readings::read_u32;
 use imagesize_source::source::Source;
 use imagesize_source::{Endian, Halt, Text};
@@ -244,14 +245,15 @@ fn text_of_line(bytes: &[u8]) -> Result<&str, Halt>
 
 // The bytes as text, if they are UTF-8.
 #[inline(always)]
-#[tactic(auto, using(crate::proofs::Words::is_text, crate::proofs::Words::no_text))]
+#[tactic(auto, unfolding(crate::specs::Contents::utf8))]
 fn text_of(bytes: &[u8]) -> Result<&str, Halt>
     ensures { map_answer (λ text. text.now) result ≡ utf8 bytes.now }
 {
-    match str::from_utf8(bytes) {
-        Ok(text) => Ok(text),
-        Err(_) => Err(Halt::NotUtf8),
+    if !is_utf8(bytes) {
+        return Err(Halt::NotUtf8);
     }
+    // The bytes are UTF-8, as tested.
+    Ok(unsafe { str::from_utf8_unchecked(bytes) })
 }
 
 /// The number that a text is: digits, with an optional `+` before them.
