@@ -1,20 +1,20 @@
 -- Text, words and numbers, as std reads them.
-use Rattle.std.proofs.Common.{◌≡◌, ℕ, suc, ◌+◌, ◌^◌, ◌<◌, Bool, true, false, cond, ltb, List, [], ◌∷◌, ◌++◌, map, length, drop, None, Some, Result, Ok, Err, refl, sym, ap, ◌∙◌, subst, append_assoc, arith}
+use Rattle.std.proofs.Common.{◌≡◌, ℕ, suc, ◌+◌, ◌^◌, ◌<◌, ◌≤◌, eqb, Bool, true, false, cond, ltb, List, [], ◌∷◌, ◌++◌, map, length, drop, None, Some, Result, Ok, Err, refl, sym, ap, ◌∙◌, subst, append_assoc, arith}
 use Rattle.std.proofs.lemmas.Bool.{and_parts}
-use Rattle.std.specs.Prelude.{filter, ◌&&◌}
+use Rattle.std.specs.Prelude.{filter, ◌&&◌, ◌==◌, slice_index}
 use Rattle.std.proofs.lemmas.Bool.Decides.{nat_tests}
 use Rattle.std.proofs.lemmas.List.{append-nil}
 use Rattle.std.proofs.lemmas.List.Splits.{slice_split-cons_yes, slice_split-cons_no}
-use Rattle.std.proofs.lemmas.Str.{IsUtf8-past_char, chars_from_encodes, chars_past_char, chars-nil, encodes-append, encodes-chars}
+use Rattle.std.proofs.lemmas.Str.{encode_ascii, IsUtf8-past_char, chars_from_encodes, chars_past_char, chars-nil, encodes-append, encodes-chars}
 use Rattle.std.proofs.lemmas.Str.Ascii.{trim_ascii_start_is}
 use Rattle.std.proofs.lemmas.Str.Parse.{IsNumeralModel, numerals_by_value, tells_all_ascii_digits}
-use Rattle.std.specs.Char.{is_ascii_whitespace, is_whitespace, is_not_whitespace, encode_utf8}
+use Rattle.std.specs.Char.{is_ascii_graphic, is_ascii_whitespace, is_whitespace, is_not_whitespace, encode_utf8}
 use Rattle.std.specs.List.{prefix_len, slice_split, onto_first}
 use Rattle.std.specs.Result.{result_ok}
-use Rattle.std.specs.Str.{IsUtf8, is_utf8, chars, encode_utf8_all, all_ascii_digits, NoCharPasses, NonePass, EmptyOrStartsWithPassing, IsTrimAsciiStart, trim_start, trim_end}
+use Rattle.std.specs.Str.{IsUtf8, is_utf8, chars, trim, skip_leading_whitespace, drop_trailing_whitespace, encode_utf8_all, all_ascii_digits, NoCharPasses, NonePass, EmptyOrStartsWithPassing, IsTrimAsciiStart, trim_start, trim_end}
 use Rattle.std.specs.Str.Parse.{ParsesUnsigned, IsNumeral, digits_value, without_leading_plus}
 use Rattle.imagesize_source.proofs.Tests.{on_test}
-use Rattle.imagesize_texts.specs.Pnm.{is_comment}
+use Rattle.imagesize_texts.specs.Pnm.{is_blank, is_comment}
 use Rattle.imagesize_texts.specs.Contents.{utf8, behind_space, is_number, number_text, char_words, words}
 
 -- no byte is a text, and so is a `#`
@@ -32,14 +32,6 @@ empty_text (b ∷ bs) none = absurd (omega (arith, none))
 
 pub hash_text : (bs : List ℕ) → bs ≡ 0x23 ∷ [] → utf8 bs ≡ Ok (0x23 ∷ [])
 hash_text bs is = ap utf8 is ∙ one_hash
-
--- which begins a comment
-comment_hash : is_comment (0x23 ∷ []) ≡ true
-unfolding is_comment trim_start trim_end chars encode_utf8
-comment_hash = refl
-
-pub hash_comment : (text : List ℕ) → text ≡ 0x23 ∷ [] → is_comment text ≡ true
-hash_comment text is = ap is_comment is ∙ comment_hash
 
 -- the white space before a word, as std trims it
 behind_space-prefix : (bs : List ℕ) → drop (prefix_len is_ascii_whitespace bs) bs ≡ behind_space bs
@@ -209,3 +201,31 @@ pub taken_end : {text : List ℕ} {ws : List (List ℕ)} {rest : List ℕ} → T
     → words text ≡ ws
 taken_end {text} {ws} {rest} taken none = taken.is ∙ ap (λ more. ws ++ more) (word_none rest taken.utf none)
     ∙ append-nil ws
+
+-- a text whose first character is a visible one of ASCII keeps it when it is trimmed
+visible_first : (b : ℕ) (bs : List ℕ) → IsUtf8 (b ∷ bs) → 33 ≤ b → b ≤ 126
+    → trim (b ∷ bs) ≡ b ∷ encode_utf8_all (drop_trailing_whitespace (chars bs))
+unfolding trim_start trim_end
+visible_first b bs utf low high =
+    let one : encode_utf8 b ≡ b ∷ [] = encode_ascii b (omega arith) in
+    let text : List ℕ = b ∷ bs in
+    let first : chars text ≡ b ∷ chars bs = chars_past_char text bs b utf (ap (λ e. e ++ bs) (sym one)) in
+    let dark : is_whitespace b ≡ false = grind (arith, nat_tests) in
+    let started : encode_utf8_all (skip_leading_whitespace (chars text)) ≡ text =
+    ap (λ cs. encode_utf8_all (skip_leading_whitespace cs)) first
+    ∙ ap (λ w. encode_utf8_all (cond w (skip_leading_whitespace (chars bs)) (b ∷ chars bs))) dark
+    ∙ ap encode_utf8_all (sym first) ∙ encodes-chars text utf in
+    let rest : List ℕ = drop_trailing_whitespace (chars bs) in
+    ap (λ t. encode_utf8_all (drop_trailing_whitespace (chars t))) started
+    ∙ ap (λ cs. encode_utf8_all (drop_trailing_whitespace cs)) first
+    ∙ ap (λ w. encode_utf8_all (cond (w && eqb (length rest) 0) [] (b ∷ rest))) dark
+    ∙ ap (λ e. e ++ encode_utf8_all rest) one
+
+-- so it is not blank, and begins a comment where it begins with a `#`
+pub visible_word : (text : List ℕ) → IsUtf8 text → 0 < length text → is_ascii_graphic (slice_index text 0) ≡ true
+    → (is_blank text ≡ false) × (is_comment text ≡ (slice_index text 0 == 0x23))
+unfolding is_blank is_comment
+visible_word [] utf some visible = absurd (omega (arith, some))
+visible_word (b ∷ bs) utf some visible =
+    let is = visible_first b bs utf (grind (arith, nat_tests)) (grind (arith, nat_tests)) in
+    (ap (λ t. length t == 0) is ∙ grind (arith, nat_tests), ap (λ t. slice_index t 0 == 0x23) is)

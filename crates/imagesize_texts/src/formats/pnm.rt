@@ -5,7 +5,7 @@ ghost use Rattle.imagesize_source.specs.declared.walk.Found.TheVariants as found
 ghost use Rattle.imagesize_texts.specs.Pnm.{is_blank, is_comment, is_pnm, pnm, pnm_word};
 ghost use Rattle.imagesize_texts.specs.Texts.{word};
 
-use crate::util::{WORD_ROOM, is_hash, number, pass_line_behind, read_word, read_word_behind};
+use crate::util::{WORD_ROOM, number, pass_line_behind, read_word, read_word_behind};
 use imagesize_source::Halt;
 use imagesize_source::source::Source;
 use imagesize_source::walk::{Found, Records, walk};
@@ -107,8 +107,11 @@ fn pass(taken: u64) -> Found<(), ImageSize>
 pub fn is_comment(text: &str) -> bool
     ensures { result ≡ is_comment text.now }
 {
-    // The most common case needs no trimming.
-    is_hash(text.as_bytes()) || matches!(text.trim().as_bytes(), [b'#', ..])
+    match text.as_bytes() {
+        // There is nothing to trim before a visible character. A trimming takes 60 instructions.
+        [first, ..] if first.is_ascii_graphic() => *first == b'#',
+        _ => matches!(text.trim().as_bytes(), [b'#', ..]),
+    }
 }
 
 /// Whether a word is white space only.
@@ -117,5 +120,9 @@ pub fn is_comment(text: &str) -> bool
 pub fn is_blank(text: &str) -> bool
     ensures { result ≡ is_blank text.now }
 {
-    text.trim().is_empty()
+    match text.as_bytes() {
+        // A visible character is not trimmed.
+        [first, ..] if first.is_ascii_graphic() => false,
+        _ => text.trim().is_empty(),
+    }
 }
