@@ -1,17 +1,18 @@
 -- Text, words and numbers, as std reads them.
-use Rattle.std.proofs.Common.{◌≡◌, ℕ, suc, ◌+◌, ◌^◌, ◌<◌, ◌≤◌, eqb, Bool, true, false, cond, ltb, List, [], ◌∷◌, ◌++◌, map, length, drop, None, Some, Result, Ok, Err, refl, sym, ap, ◌∙◌, subst, append_assoc, arith}
-use Rattle.std.proofs.lemmas.Bool.{and_parts}
+use Rattle.std.proofs.Common.{◌≡◌, ℕ, suc, ◌+◌, ◌^◌, ◌<◌, ◌≤◌, eqb, Bool, true, false, cond, ltb, List, [], ◌∷◌, ◌++◌, map, length, take, drop, inl, inr, None, Some, Result, Ok, Err, refl, sym, ap, ◌∙◌, subst, append_assoc, arith}
+use Rattle.std.proofs.lemmas.Bool.{and_parts, cases_lt}
 use Rattle.std.specs.Prelude.{filter, ◌&&◌, ◌==◌, slice_index}
 use Rattle.std.proofs.lemmas.Bool.Decides.{nat_tests}
-use Rattle.std.proofs.lemmas.List.{append-nil}
+use Rattle.std.proofs.lemmas.List.{append-nil, get_or-take, get_or_past, length-take, length-drop, take-append-drop}
+use Rattle.std.proofs.Math.Seq.{drop-cons}
 use Rattle.std.proofs.lemmas.List.Splits.{slice_split-cons_yes, slice_split-cons_no}
-use Rattle.std.proofs.lemmas.Str.{encode_ascii, IsUtf8-past_char, chars_from_encodes, chars_past_char, chars-nil, encodes-append, encodes-chars}
+use Rattle.std.proofs.lemmas.Str.{NoCharPasses-nil, encodes-IsAscii, encode_ascii, IsUtf8-past_char, chars_from_encodes, chars_past_char, chars-nil, encodes-append, encodes-chars}
 use Rattle.std.proofs.lemmas.Str.Ascii.{trim_ascii_start_is}
 use Rattle.std.proofs.lemmas.Str.Parse.{IsNumeralModel, numerals_by_value, tells_all_ascii_digits}
 use Rattle.std.specs.Char.{is_ascii_graphic, is_ascii_whitespace, is_whitespace, is_not_whitespace, encode_utf8}
 use Rattle.std.specs.List.{prefix_len, slice_split, onto_first}
 use Rattle.std.specs.Result.{result_ok}
-use Rattle.std.specs.Str.{IsUtf8, is_utf8, chars, trim, skip_leading_whitespace, drop_trailing_whitespace, encode_utf8_all, all_ascii_digits, NoCharPasses, NonePass, EmptyOrStartsWithPassing, IsTrimAsciiStart, trim_start, trim_end}
+use Rattle.std.specs.Str.{IsUtf8, IsAscii, is_utf8, chars, trim, skip_leading_whitespace, drop_trailing_whitespace, encode_utf8_all, all_ascii_digits, NoCharPasses, NonePass, EmptyOrStartsWithPassing, IsTrimAsciiStart, trim_start, trim_end}
 use Rattle.std.specs.Str.Parse.{ParsesUnsigned, IsNumeral, digits_value, without_leading_plus}
 use Rattle.imagesize_source.proofs.Tests.{on_test}
 use Rattle.imagesize_texts.specs.Pnm.{is_blank, is_comment}
@@ -229,3 +230,49 @@ visible_word [] utf some visible = absurd (omega (arith, some))
 visible_word (b ∷ bs) utf some visible =
     let is = visible_first b bs utf (grind (arith, nat_tests)) (grind (arith, nat_tests)) in
     (ap (λ t. length t == 0) is ∙ grind (arith, nat_tests), ap (λ t. slice_index t 0 == 0x23) is)
+
+-- a space before a text adds no word
+pub space_before : (text : List ℕ) → IsUtf8 text → 0 < length text → slice_index text 0 ≡ 32
+    → words (drop 1 text) ≡ words text
+unfolding words
+space_before [] utf some space = absurd (omega (arith, some))
+space_before (b ∷ bs) utf some space =
+    let one : encode_utf8 b ≡ b ∷ [] = encode_ascii b (omega (arith, space)) in
+    let first : chars (b ∷ bs) ≡ b ∷ chars bs = chars_past_char (b ∷ bs) bs b utf (ap (λ e. e ++ bs) (sym one)) in
+    let white : is_not_whitespace b ≡ false = ap is_not_whitespace space in
+    ap (λ cs. map encode_utf8_all cs) (sym (char_words_gap (b ∷ []) (chars bs) (white, tt)))
+    ∙ ap (λ cs. map encode_utf8_all (char_words cs)) (sym first)
+
+-- visible characters are no white space
+none_white : (bs : List ℕ) → ((i : ℕ) → i < length bs → is_ascii_graphic (slice_index bs i) ≡ true)
+    → NonePass is_whitespace bs
+none_white [] visible = tt
+none_white (b ∷ bs) visible =
+    let is = visible 0 (omega arith) in
+    (grind (arith, nat_tests), none_white bs (λ i there. visible (suc i) (omega (arith, there))))
+
+-- a word of visible characters at the front of a text, with a space or nothing behind it
+pub plain_front : (text : List ℕ) (end : ℕ) → IsUtf8 text → 0 < end → end ≤ length text
+    → ((i : ℕ) → i < end → is_ascii_graphic (slice_index text i) ≡ true)
+    → (end < length text → slice_index text end ≡ 32) → words text ≡ take end text ∷ words (drop end text)
+unfolding encode_utf8
+plain_front text end utf some there visible ended =
+    let word : List ℕ = take end text in
+    let seen : (i : ℕ) → i < length word → is_ascii_graphic (slice_index word i) ≡ true =
+    λ i inside. let at : i < end = omega (arith, inside, length-take end text) in
+    ap is_ascii_graphic (get_or-take end text i 0 at) ∙ visible i at in
+    let ascii : IsAscii word =
+    λ i. elim (cases_lt i (length word)) [
+      | inl inside ↦ let is = seen i inside in grind (arith, nat_tests)
+      | inr past ↦ subst (λ b. b < 128) (sym (get_or_past word i 0 past)) (omega arith)
+    ] in
+    (word_first text [] word (drop end text) (drop (suc end) text) utf (sym (take-append-drop end text))
+    (omega (arith, length-take end text)) (NoCharPasses-nil is_not_whitespace) (word, encodes-IsAscii word ascii, none_white word seen)
+    (λ more. let inside : end < length text = omega (arith, more, length-drop end text) in
+    (32, refl, drop-cons text end 0 inside ∙ ap (λ b. b ∷ drop (suc end) text) (ended inside), refl))).0
+
+-- no byte holds no word
+pub no_words : (text : List ℕ) → length text ≡ 0 → words text ≡ []
+unfolding words chars
+no_words [] none = refl
+no_words (b ∷ bs) none = absurd (omega (arith, none))

@@ -1,5 +1,5 @@
 //! Radiance RGBE: "Picture File Format" in the Radiance reference manual.
-ghost use Rattle.std.specs.Prelude.{◌≡◌, option_map};
+ghost use Rattle.std.specs.Prelude.{◌≡◌, ◌∷◌, option_map, IfSome, Some};
 ghost use Rattle.imagesize_source.specs.State.{Runs, Follows};
 ghost use Rattle.imagesize_texts.specs.Contents.{words};
 ghost use Rattle.imagesize_texts.specs.Hdr.{hdr, hdr_identifier, hdr_line, is_hdr, is_identifier, is_resolution, second_and_fourth};
@@ -153,8 +153,36 @@ fn is_resolution(text: &str) -> bool
     matches!(text.as_bytes(), [b'-' | b'+', b'X' | b'Y', ..])
 }
 
-// The second and the fourth word, if there are exactly four.
+// The second and the fourth word, if there are exactly four. It is inlined, as the result of a call is zeroed for each line.
+#[inline(always)]
 fn lengths(text: &str) -> Option<(&str, &str)>
+    ensures { option_map (λ lengths. (lengths.0.now, lengths.1.now)) result ≡ second_and_fourth (words text.now) }
+{
+    match plain_lengths(text) {
+        Some(lengths) => Some(lengths),
+        None => split_lengths(text),
+    }
+}
+
+// The same of four words of visible characters with one space between two, and `None` of any other text. Nearly every
+// resolution is written so, and `split_whitespace` takes 500 instructions for it.
+#[inline(always)]
+fn plain_lengths(text: &str) -> Option<(&str, &str)>
+    ensures { IfSome result (λ lengths. second_and_fourth (words text.now) ≡ Some (lengths.0.now, lengths.1.now)) }
+{
+    let (_, rest) = plain_word(text)?;
+    let (height, rest) = plain_word(rest)?;
+    let (_, rest) = plain_word(rest)?;
+    let (width, rest) = plain_word(rest)?;
+    if !rest.is_empty() {
+        return None;
+    }
+    Some((height, width))
+}
+
+// The same of any text.
+#[inline(never)]
+fn split_lengths(text: &str) -> Option<(&str, &str)>
     ensures { option_map (λ lengths. (lengths.0.now, lengths.1.now)) result ≡ second_and_fourth (words text.now) }
 {
     let mut words = text.split_whitespace();
@@ -165,5 +193,34 @@ fn lengths(text: &str) -> Option<(&str, &str)>
     match words.next() {
         Some(_) => None,
         None => Some((height, width)),
+    }
+}
+
+// The first word and the text behind it. `None` unless the word has visible characters only, nothing but one space before it,
+// and a space or nothing behind it.
+#[inline(always)]
+fn plain_word(text: &str) -> Option<(&str, &str)>
+    ensures { IfSome result (λ parts. words text.now ≡ parts.0.now ∷ words parts.1.now) }
+{
+    let text = behind_space(text);
+    let bytes = text.as_bytes();
+    let mut end = 0;
+    while end < bytes.len() && bytes[end].is_ascii_graphic() {
+        end += 1;
+    }
+    if end == 0 || (end < bytes.len() && bytes[end] != b' ') {
+        return None;
+    }
+    Some(text.split_at(end))
+}
+
+// The text behind its first character, if that is a space.
+#[inline(always)]
+fn behind_space(text: &str) -> &str
+    ensures { words result.now ≡ words text.now }
+{
+    match text.as_bytes() {
+        [first, ..] if *first == b' ' => &text[1..],
+        _ => text,
     }
 }

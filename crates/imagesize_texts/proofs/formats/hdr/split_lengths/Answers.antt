@@ -4,7 +4,7 @@ use Rattle.imagesize_texts.specs.Contents.{words}
 use Rattle.imagesize_texts.specs.Hdr.{second_and_fourth}
 use Rattle.imagesize_texts.proofs.Hdr.{other_words, four_words}
 use Rattle.imagesize_texts.proofs.Words.{Taken, TakesWord, taken_start, taken_next, taken_end}
-use Rattle.imagesize_texts.proofs.formats.hdr.lengths.Goals as goal
+use Rattle.imagesize_texts.proofs.formats.hdr.split_lengths.Goals as goal
 
 -- a text of fewer words than four
 few_words : (text : List ℕ) {ws : List (List ℕ)} → words text ≡ ws → length ws < 4
