@@ -3,6 +3,7 @@
 
 mod held;
 pub mod kept;
+pub mod memory;
 pub mod progress;
 pub mod reader;
 pub mod sized;

@@ -7,6 +7,7 @@ ghost use Rattle.std.specs.Io.Seek.{SeekMoves, IsAtOffset};
 ghost use Rattle.std.specs.declared.io.Error.{Error};
 ghost use Rattle.imagesize_io.specs.Held.{IsWhole};
 ghost use Rattle.imagesize_io.specs.Kept.{HeldOf};
+ghost use Rattle.imagesize_io.specs.Memory.{IsMemory};
 ghost use Rattle.imagesize_io.specs.Telling.{Telling, ReadTells, SeekTells, count_after, failure_after, failure_after_read};
 ghost use Rattle.imagesize_io.specs.StopOf.{stop_of};
 
@@ -71,6 +72,17 @@ pub trait Told: Drop {
         None
     }
 
+    /// All bytes of the reader, if they lie in memory: then no call fails or is interrupted, and the reader keeps no count and
+    /// no error. It may always return `None`.
+    #[inline(always)]
+    fn in_memory(&self) -> Option<&[u8]>
+        ensures told { IfSome result (λ bytes. IsMemory (telling self.now) bytes.now) }
+        ensures counts { IfSome result (λ _. count self.now ≡ None) }
+        ensures fails { IfSome result (λ _. failure self.now ≡ None) }
+    {
+        None
+    }
+
     /// Seeks, and returns the new offset in bytes from 0.
     fn seek_told(&mut self, to: SeekFrom) -> io::Result<u64>
         ensures told { SeekTells (telling self.old) (telling self.new) to result }
@@ -109,6 +121,12 @@ impl Told for Cursor<&[u8]> {
         let count = copy_text(text, &bytes[start..], buffer)?;
         self.set_position(offset + count as u64);
         Some(count)
+    }
+
+    // A call then reads the bytes where they lie, and makes no call of the cursor for each read.
+    #[inline(always)]
+    fn in_memory(&self) -> Option<&[u8]> {
+        Some(*self.get_ref())
     }
 
     #[inline(always)]
