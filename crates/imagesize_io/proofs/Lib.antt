@@ -1,4 +1,5 @@
 mod Buffered
+pub mod Counted
 mod Cursors
 pub mod Filling
 pub mod Fronts

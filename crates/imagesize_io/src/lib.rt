@@ -1,6 +1,7 @@
 //! Readers as sources: a reader's model and its offset, and how its bytes are read at offsets within a budget.
 #![tactic(auto)]
 
+pub mod counting;
 mod held;
 pub mod kept;
 pub mod memory;

@@ -1,0 +1,194 @@
+//! The bytes of a reader in memory, as a source that counts them.
+ghost use Rattle.std.specs.Prelude.{◌≡◌, ℕ, ◌+◌, ◌<◌, ◌≤◌, true, false, List, None, length, option_map, take};
+ghost use Rattle.imagesize_source.specs.Input.{part};
+ghost use Rattle.imagesize_source.specs.Limits.{allowance};
+ghost use Rattle.imagesize_source.specs.Reading.{text_part};
+ghost use Rattle.imagesize_io.specs.Memory.{IsMemory, IsPaid, IsSpent, counting_state};
+ghost use Rattle.imagesize_io.specs.Telling.{at_offset};
+
+use crate::Told;
+use crate::reader::ALLOWANCE;
+use crate::window::WINDOW;
+use imagesize_source::part::{copy_front, copy_part};
+use imagesize_source::source::Source;
+use imagesize_source::text::text_length;
+use imagesize_source::{Halt, ImageError, Reason, Text};
+use std::io::SeekFrom;
+
+/// The bytes of a reader in memory, read where they lie. It counts them as a source over the reader does, and keeps the offset
+/// that the reader would have.
+#[derive(Drop)]
+pub struct CountingSource<'a> {
+    bytes: &'a [u8],
+    // How many of the first bytes a source over the reader would hold. These are not counted again.
+    front: u64,
+    // How many bytes the budget still has.
+    left: u64,
+    // The offset that the reader would have after the last read.
+    position: u64,
+    ghost within: { left ≤ length bytes.now + allowance },
+    ghost there: { position ≤ length bytes.now },
+}
+
+impl<'a> CountingSource<'a> {
+    /// A source of the bytes of a reader that is at their end.
+    #[inline(always)]
+    pub fn new(bytes: &'a [u8]) -> Self
+        ensures bytes { result.bytes.now ≡ bytes.now }
+        ensures front { result.front ≡ 0 }
+        ensures left { result.left ≡ length bytes.now + allowance }
+    {
+        CountingSource {
+            bytes,
+            front: 0,
+            left: bytes.len() as u64 + ALLOWANCE,
+            position: bytes.len() as u64,
+        }
+    }
+
+    /// The offset that the reader would have after the last read.
+    #[inline(always)]
+    pub fn position(&self) -> u64
+        ensures { result ≤ length self.now.bytes.now }
+    {
+        self.position
+    }
+
+    // Counts the bytes of a read that asked for `most` bytes and got `count`. Returns whether the budget has them.
+    #[inline(always)]
+    fn pays(&mut self, offset: u64, count: usize, most: usize) -> bool
+        requires there { 0 < count → offset + count ≤ length self.old.bytes.now }
+        ensures bytes { self.new.bytes.now ≡ self.old.bytes.now }
+        ensures paid { result ≡ true → IsPaid self.old.front self.old.left self.new.front self.new.left offset count }
+        ensures spent { result ≡ false → IsSpent self.old.front self.old.left self.new.left offset count }
+    {
+        if count < most {
+            return self.pays_last(offset, count);
+        }
+        if offset <= self.front || self.left < count as u64 || count == 0 {
+            return self.pays_front(offset, count);
+        }
+        self.left -= count as u64;
+        self.position = offset + count as u64;
+        true
+    }
+
+    // The same of a read that got fewer bytes than it asked for. It saw the end of the bytes, if it began within them.
+    #[inline(never)]
+    fn pays_last(&mut self, offset: u64, count: usize) -> bool
+        requires there { 0 < count → offset + count ≤ length self.old.bytes.now }
+        ensures bytes { self.new.bytes.now ≡ self.old.bytes.now }
+        ensures paid { result ≡ true → IsPaid self.old.front self.old.left self.new.front self.new.left offset count }
+        ensures spent { result ≡ false → IsSpent self.old.front self.old.left self.new.left offset count }
+    {
+        if offset == self.bytes.len() as u64 {
+            self.position = offset;
+        }
+        self.pays_front(offset, count)
+    }
+
+    // The same of any read. A byte of the front is not counted again, and no read of the front alone moves the reader. Not
+    // inlined, since most reads lie past the front.
+    #[inline(never)]
+    fn pays_front(&mut self, offset: u64, count: usize) -> bool
+        requires there { 0 < count → offset + count ≤ length self.old.bytes.now }
+        ensures bytes { self.new.bytes.now ≡ self.old.bytes.now }
+        ensures paid { result ≡ true → IsPaid self.old.front self.old.left self.new.front self.new.left offset count }
+        ensures spent { result ≡ false → IsSpent self.old.front self.old.left self.new.left offset count }
+    {
+        let end = offset + count as u64;
+        let start = offset.max(self.front);
+        if end <= start {
+            return true;
+        }
+        if self.left < end - start {
+            self.left = 0;
+            return false;
+        }
+        self.left -= end - start;
+        self.position = end;
+        if offset <= self.front {
+            self.front = end.min(WINDOW as u64).max(self.front);
+        }
+        true
+    }
+}
+
+impl Source for CountingSource<'_> {
+    ghost state = { λ s. counting_state s.bytes.now s.front s.left };
+
+    #[inline(always)]
+    fn told(&self) -> u64 {
+        self.bytes.len() as u64
+    }
+
+    #[inline(always)]
+    fn taken(&self) -> u64 {
+        self.bytes.len() as u64 + ALLOWANCE - self.left
+    }
+
+    #[inline(always)]
+    fn refusal(&self, halt: Halt) -> ImageError {
+        halt.error(Reason::EndOfInput, self.bytes.len() as u64 + ALLOWANCE)
+    }
+
+    #[inline(always)]
+    fn read_at(&mut self, offset: u64, buffer: &mut [u8]) -> Result<usize, Halt> {
+        // The proof needs that the length is below 2^63.
+        let _length = self.bytes.len();
+        let count = copy_part(self.bytes, offset, buffer);
+        if self.pays(offset, count, buffer.len()) {
+            Ok(count)
+        } else {
+            Err(Halt::Spent)
+        }
+    }
+
+    #[inline]
+    fn read_text(&mut self, offset: u64, text: Text, buffer: &mut [u8]) -> Result<usize, Halt> {
+        // The proof needs that the length is below 2^63.
+        let _length = self.bytes.len();
+        let count = copy_text_at(self.bytes, offset, text, buffer);
+        if self.pays(offset, count, buffer.len()) {
+            Ok(count)
+        } else {
+            Err(Halt::Spent)
+        }
+    }
+}
+
+/// Moves a reader in memory to an offset within its bytes. Its seek cannot fail.
+#[inline(always)]
+pub fn leave<R: Told>(reader: &mut R, position: u64)
+    ensures told { (d : List ℕ) → IsMemory (R.telling reader.old) d → position ≤ length d
+        → R.telling reader.new ≡ option_map (λ t. at_offset t position) (R.telling reader.old) }
+    ensures counts { R.count reader.new ≡ R.count reader.old }
+    ensures fails { R.failure reader.old ≡ None → R.failure reader.new ≡ None }
+{
+    let _ = reader.seek_told(SeekFrom::Start(position));
+}
+
+// The bytes from an offset on, at most `most` of them; fewer if the slice ends earlier.
+#[inline]
+#[tactic(auto, using(imagesize_source::proofs::Slices::slice_part))]
+fn part_of(bytes: &[u8], offset: u64, most: u64) -> &[u8]
+    ensures { result.now ≡ part bytes.now offset most }
+{
+    let start = (offset as usize).min(bytes.len());
+    let rest = &bytes[start..];
+    &rest[..rest.len().min(most as usize)]
+}
+
+// Copies the text from an offset on into the buffer, as far as it fits, and returns how many bytes it has. The buffer after the
+// text may change.
+#[inline(always)]
+fn copy_text_at(bytes: &[u8], offset: u64, text: Text, buffer: &mut [u8]) -> usize
+    ensures text { take result buffer.new ≡ text_part bytes.now text offset (length buffer.new) }
+    ensures fits { result ≤ length buffer.new }
+    ensures there { 0 < result → offset + result ≤ length bytes.now }
+{
+    let part = part_of(bytes, offset, buffer.len() as u64);
+    let count = text_length(text, part);
+    copy_front(part, count, buffer);
+    count
+}
