@@ -6,6 +6,7 @@ mod file;
 #[doc(hidden)]
 pub mod formats;
 mod laws;
+mod memory;
 mod names;
 mod parts;
 mod queries;

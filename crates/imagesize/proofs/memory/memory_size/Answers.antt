@@ -3,7 +3,7 @@ use Rattle.imagesize.proofs.Endings.{never_stopped, slice_answer, slice_unstoppe
 use Rattle.imagesize_types.specs.declared.size.ImageSize.{ImageSize}
 use Rattle.imagesize_source.specs.Errors.{is_stopped}
 use Rattle.imagesize_source.specs.declared.error.ImageError.{ImageError}
-use Rattle.imagesize.proofs.calls.memory_size.Goals as goal
+use Rattle.imagesize.proofs.memory.memory_size.Goals as goal
 
 pub returns-clause-value : goal.returns-clause-value
 returns-clause-value c = c.with_error.ensures
