@@ -7,7 +7,7 @@ use imagesize_source::{Halt, ImageError, Text};
 
 /// The bytes of a reader in memory, read where they lie. It is a slice as a source, and keeps neither a count nor an offset.
 ///
-/// It is a type of its own, so that the compiler makes a copy of the formats for it, and inlines the one for slices as before.
+/// It is a type of its own: the compiler makes a copy of the formats for it, and still inlines the copy for slices.
 #[derive(Clone, Copy, Debug)]
 pub struct MemorySource<'a> {
     pub slice: SliceSource<'a>,
