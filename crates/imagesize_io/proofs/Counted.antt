@@ -12,11 +12,9 @@ use Rattle.imagesize_io.specs.ReaderState.{Opens, start_state}
 use Rattle.imagesize_io.specs.Telling.{SeekGives, SeekTells, Telling, at_offset, seek_target}
 use Rattle.imagesize_io.specs.declared.reader.Opened.{Opened}
 use Rattle.imagesize_source.proofs.Counts.{total-span_at}
-use Rattle.imagesize_source.proofs.Slices.{front_is}
-use Rattle.imagesize_source.specs.Input.{part, span_at, span_of}
+use Rattle.imagesize_source.specs.Input.{span_at, span_of}
 use Rattle.imagesize_source.specs.Reading.{Reads, part_read, text_part, text_read}
 use Rattle.imagesize_source.specs.State.{Runs, front_after, new_bytes, state_after, total}
-use Rattle.imagesize_source.specs.declared.halt.Halt.{Halt}
 use Rattle.imagesize_source.specs.declared.halt.Halt.TheVariants.{Spent}
 use Rattle.imagesize_source.specs.declared.text.Text.{Text}
 

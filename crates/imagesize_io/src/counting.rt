@@ -1,17 +1,14 @@
 //! The bytes of a reader in memory, as a source that counts them.
-ghost use Rattle.std.specs.Prelude.{◌≡◌, ℕ, ◌+◌, ◌<◌, ◌≤◌, true, false, List, None, length, option_map, take};
-ghost use Rattle.imagesize_source.specs.Input.{part};
+ghost use Rattle.std.specs.Prelude.{◌≡◌, ℕ, ◌+◌, ◌<◌, ◌≤◌, true, false, List, None, length, option_map};
 ghost use Rattle.imagesize_source.specs.Limits.{allowance};
-ghost use Rattle.imagesize_source.specs.Reading.{text_part};
 ghost use Rattle.imagesize_io.specs.Memory.{IsMemory, IsPaid, IsSpent, counting_state};
 ghost use Rattle.imagesize_io.specs.Telling.{at_offset};
 
 use crate::Told;
 use crate::reader::ALLOWANCE;
 use crate::window::WINDOW;
-use imagesize_source::part::{copy_front, copy_part};
+use imagesize_source::part::{copy_part, copy_text_at};
 use imagesize_source::source::Source;
-use imagesize_source::text::text_length;
 use imagesize_source::{Halt, ImageError, Reason, Text};
 use std::io::SeekFrom;
 
@@ -166,29 +163,4 @@ pub fn leave<R: Told>(reader: &mut R, position: u64)
     ensures fails { R.failure reader.old ≡ None → R.failure reader.new ≡ None }
 {
     let _ = reader.seek_told(SeekFrom::Start(position));
-}
-
-// The bytes from an offset on, at most `most` of them; fewer if the slice ends earlier.
-#[inline]
-#[tactic(auto, using(imagesize_source::proofs::Slices::slice_part))]
-fn part_of(bytes: &[u8], offset: u64, most: u64) -> &[u8]
-    ensures { result.now ≡ part bytes.now offset most }
-{
-    let start = (offset as usize).min(bytes.len());
-    let rest = &bytes[start..];
-    &rest[..rest.len().min(most as usize)]
-}
-
-// Copies the text from an offset on into the buffer, as far as it fits, and returns how many bytes it has. The buffer after the
-// text may change.
-#[inline(always)]
-fn copy_text_at(bytes: &[u8], offset: u64, text: Text, buffer: &mut [u8]) -> usize
-    ensures text { take result buffer.new ≡ text_part bytes.now text offset (length buffer.new) }
-    ensures fits { result ≤ length buffer.new }
-    ensures there { 0 < result → offset + result ≤ length bytes.now }
-{
-    let part = part_of(bytes, offset, buffer.len() as u64);
-    let count = text_length(text, part);
-    copy_front(part, count, buffer);
-    count
 }

@@ -1,5 +1,5 @@
 //! Parts of a slice from an offset on, as far as the slice goes.
-ghost use Rattle.std.specs.Prelude.{◌≡◌, ◌<◌, ◌≤◌, min, ◌-◌, ◌++◌, take, drop, length, true, IfSome};
+ghost use Rattle.std.specs.Prelude.{◌≡◌, ◌+◌, ◌<◌, ◌≤◌, min, ◌-◌, ◌++◌, take, drop, length, true, IfSome};
 ghost use Rattle.imagesize_source.specs.Input.{part};
 ghost use Rattle.imagesize_source.specs.Reading.{text_part};
 ghost use Rattle.imagesize_source.specs.Text.{is_ended, text_front};
@@ -42,10 +42,10 @@ pub(crate) fn part_of(bytes: &[u8], offset: u64, most: u64) -> &[u8]
 /// Copies the text from an offset on into the buffer, as far as it fits, and returns how many bytes it has. The buffer after the
 /// text may change.
 #[inline(always)]
-pub(crate) fn copy_text_at(bytes: &[u8], offset: u64, text: Text, buffer: &mut [u8]) -> usize
+pub fn copy_text_at(bytes: &[u8], offset: u64, text: Text, buffer: &mut [u8]) -> usize
     ensures text { take result buffer.new ≡ text_part bytes.now text offset (length buffer.new) }
     ensures fits { result ≤ length buffer.new }
-    ensures there { 0 < result → offset < length bytes.now }
+    ensures there { 0 < result → offset + result ≤ length bytes.now }
 {
     let part = part_of(bytes, offset, buffer.len() as u64);
     let count = text_length(text, part);

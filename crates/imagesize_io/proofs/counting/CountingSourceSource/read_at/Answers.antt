@@ -1,10 +1,7 @@
-use Rattle.std.proofs.Common.{List, ℕ, Ok, Err, length, take, sym, ap, subst, arith}
+use Rattle.std.proofs.Common.{Ok, length, take, sym, ap, arith}
 use Rattle.imagesize_io.proofs.Counted.{paid_runs, part_marks, spent_runs}
-use Rattle.imagesize_io.specs.Memory.{counting_state}
 use Rattle.imagesize_source.proofs.Slices.{front_is}
 use Rattle.imagesize_source.specs.Reading.{part_read}
-use Rattle.imagesize_source.specs.State.{Runs}
-use Rattle.imagesize_source.specs.declared.halt.Halt.TheVariants.{Spent}
 use Rattle.imagesize_io.proofs.counting.CountingSourceSource.read_at.Goals as goal
 
 pub returns-then-pays-clause-runs : goal.returns-then-pays-clause-runs
