@@ -9,7 +9,6 @@ use Rattle.imagesize_source.specs.Agreement.{has_offset}
 use Rattle.imagesize_source.specs.Input.{span_of}
 use Rattle.imagesize_source.specs.Layout.{layout_reads}
 use Rattle.imagesize_source.specs.Reading.{bytes_at}
-use Rattle.imagesize_source.specs.declared.span.Span.{Span}
 use Rattle.imagesize_stream.proofs.Skipping.{span_there}
 use Rattle.imagesize_stream.specs.Streamed.{first_by, first_layout}
 

@@ -8,12 +8,15 @@ use imagesize_source::walk::{Found, Records};
 use imagesize_types::size::ImageSize;
 
 /// The records from the next one on. `TEXTS` says whether they are texts.
+///
+/// The words of a portable bitmap are read into `buffer`, which has `WORDS` bytes. It is zeroed once a walk, and not once a word.
 #[derive(Clone, Copy)]
-pub(crate) struct Sizes<const TEXTS: bool> {
+pub(crate) struct Sizes<const TEXTS: bool, const WORDS: usize> {
     pub(crate) next: Awaited,
+    pub(crate) buffer: [u8; WORDS],
 }
 
-impl<const TEXTS: bool> Records for Sizes<TEXTS> {
+impl<const TEXTS: bool, const WORDS: usize> Records for Sizes<TEXTS, WORDS> {
     type Held = Awaited;
 
     type Answer = ImageSize;
@@ -28,7 +31,10 @@ impl<const TEXTS: bool> Records for Sizes<TEXTS> {
         source: &mut S,
         offset: u64,
     ) -> Result<Found<Awaited, ImageSize>, Halt> {
-        match self.next.advance::<S, TEXTS>(source, offset)? {
+        match self
+            .next
+            .advance::<S, TEXTS>(source, offset, &mut self.buffer)?
+        {
             Found::Answer(size) => Ok(Found::Answer(size)),
             Found::Other { length, .. } => Ok(Found::Other {
                 held: self.next,

@@ -18,6 +18,7 @@ use imagesize_pieces::buffer::{bytes_behind, front_of, keep_behind};
 use imagesize_pieces::stand::Stand;
 use imagesize_pieces::walk::read_on;
 use imagesize_source::Halt;
+use imagesize_texts::util::WORD_ROOM;
 use imagesize_types::size::ImageSize;
 
 /// The most bytes that are kept.
@@ -96,9 +97,9 @@ pub(crate) fn walk(
     ensures whole { IfAwaiting (stage_after next.new result) (stand.old.told ≤ stand.old.passed + length chunk.now → ⊥) }
 {
     if next.is_text() {
-        walk_over::<true>(next, stand, buffer, chunk)
+        walk_over::<true, WORD_ROOM>(next, stand, buffer, chunk)
     } else {
-        walk_over::<false>(next, stand, buffer, chunk)
+        walk_over::<false, 0>(next, stand, buffer, chunk)
     }
 }
 
@@ -129,8 +130,9 @@ fn walk_from(next: Awaited, stand: &mut Stand, buffer: &mut [u8; ROOM], chunk: &
     }
 }
 
-// Continues the walk with the next chunk. `TEXTS` says whether the records are texts.
-fn walk_over<const TEXTS: bool>(
+// Continues the walk with the next chunk. `TEXTS` says whether the records are texts. The buffer for
+// their words has `WORDS` bytes.
+fn walk_over<const TEXTS: bool, const WORDS: usize>(
     next: &mut Awaited,
     stand: &mut Stand,
     buffer: &mut [u8; ROOM],
@@ -138,6 +140,7 @@ fn walk_over<const TEXTS: bool>(
 ) -> Option<Result<ImageSize, Halt>>
     requires steady { IsSteady next.old stand.old.offset }
     requires texts { is_text next.old ≡ TEXTS }
+    requires words { WORDS ≤ 1024 }
     requires few { stand.old.passed - stand.old.start ≤ 1023 }
     requires typed { 12 ≤ stand.old.passed }
     requires fits { stand.old.passed + length chunk.now ≤ stand.old.told }
@@ -155,7 +158,10 @@ fn walk_over<const TEXTS: bool>(
         → RestsOnNext (stage_after next.new result) stand.new (front ++ chunk.now) stand.old.told }
     ensures whole { IfAwaiting (stage_after next.new result) (stand.old.told ≤ stand.old.passed + length chunk.now → ⊥) }
 {
-    let mut sizes = Sizes::<TEXTS> { next: *next };
+    let mut sizes = Sizes::<TEXTS, WORDS> {
+        next: *next,
+        buffer: [0; WORDS],
+    };
     match read_on(&mut sizes, stand, buffer, chunk) {
         Some(size) => Some(size),
         None => {

@@ -1,4 +1,4 @@
-use Rattle.std.proofs.Common.{ℕ, ◌≡◌, ◌-◌, length, take, refl, ap, ◌∙◌, arith}
+use Rattle.std.proofs.Common.{refl, arith}
 use Rattle.imagesize_stream.proofs.Ending.{as_many, rests_cut}
 use Rattle.imagesize_stream.proofs.Skipping.{many, over_needs}
 use Rattle.imagesize_stream.proofs.probe.StreamProbe.pass_over.Goals as goal

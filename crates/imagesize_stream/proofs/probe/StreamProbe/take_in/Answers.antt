@@ -1,9 +1,8 @@
-use Rattle.std.proofs.Common.{ℕ, ◌≡◌, ◌-◌, ◌++◌, List, length, take, refl, sym, ap, subst, ◌∙◌, arith}
+use Rattle.std.proofs.Common.{◌≡◌, ◌-◌, ◌++◌, length, take, refl, sym, ap, subst, ◌∙◌, arith}
 use Rattle.imagesize_stream.proofs.Coming.{awaiting_map}
 use Rattle.imagesize_stream.proofs.Ending.{as_many, rests_cut}
 use Rattle.imagesize_stream.proofs.Given.{cut_part, given_on}
 use Rattle.imagesize_stream.specs.Probe.{CameTo}
-use Rattle.imagesize_stream.specs.Pushed.{told_of}
 use Rattle.imagesize_stream.specs.declared.stage.Stage.TheVariants.{Done, Records}
 use Rattle.imagesize_stream.proofs.probe.StreamProbe.take_in.Goals as goal
 
