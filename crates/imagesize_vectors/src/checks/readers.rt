@@ -130,6 +130,36 @@ pub fn check_offsets(alloc: Global, row: &Row<'_>) -> Result<(), Wrong> {
     holds(greatest <= row.bytes.len() as u64, "a seek behind the end")
 }
 
+// A cursor at an offset of a row's bytes.
+fn cursor_at<'a>(row: &'a Row<'_>, offset: u64) -> Cursor<&'a [u8]> {
+    let mut cursor = Cursor::new(row.bytes.as_slice());
+    cursor.set_position(offset);
+    cursor
+}
+
+/// A cursor tells that its bytes lie in memory. The calls over it do what they do over a reader that does not tell: they have
+/// the same results, and leave the reader at the same offset.
+pub fn check_memory(alloc: Global, row: &Row<'_>) -> Result<(), Wrong> {
+    let length = row.bytes.len() as u64;
+    for offset in [0, 1, 7, length / 2, length, length.saturating_add(9)] {
+        let mut cursor = cursor_at(row, offset);
+        let mut reader = Cutting::one_byte(cursor_at(row, offset));
+        let probed = reader_probe(&mut cursor);
+        let other = reader_probe(&mut reader);
+        let same = format!(in alloc; "{probed:?}")? == format!(in alloc; "{other:?}")?;
+        holds(same, "a probe in memory")?;
+        holds(cursor.position() == reader.reader.position(), "an offset")?;
+        for kind in [probed.kind.unwrap_or(ImageType::Gif), ImageType::Jpeg] {
+            let size = kind.reader_size(&mut cursor);
+            let other = kind.reader_size(&mut reader);
+            let same = format!(in alloc; "{size:?}")? == format!(in alloc; "{other:?}")?;
+            holds(same, "a size in memory")?;
+            holds(cursor.position() == reader.reader.position(), "an offset")?;
+        }
+    }
+    Ok(())
+}
+
 /// The type reads the size, whatever the reader's offset is.
 pub fn check_size_as(alloc: Global, row: &Row<'_>, kind: ImageType) -> Result<(), Wrong> {
     for offset in [0, 4, 1000] {
