@@ -1,15 +1,13 @@
 -- What a call over bytes in memory answers to their reader.
-use Rattle.std.proofs.Common.{◌≡◌, ℕ, ◌≤◌, List, true, false, Option, None, Some, Result, Ok, Err, IfErr, IfSome, refl, sym, ap, ◌∙◌, subst}
+use Rattle.std.proofs.Common.{◌≡◌, ℕ, List, true, false, Option, None, Some, Result, Ok, sym, ap, ◌∙◌, subst}
 use Rattle.imagesize_io.specs.Answers.{Answers}
 use Rattle.imagesize_io.specs.Memory.{IsMemory}
 use Rattle.imagesize_io.specs.ReaderState.{Opens}
 use Rattle.imagesize_io.specs.Telling.{Telling}
 use Rattle.imagesize_io.specs.declared.reader.Opened.{Opened}
-use Rattle.imagesize_source.specs.Errors.{budget_spent, is_memory, is_stopped}
+use Rattle.imagesize_source.specs.Errors.{is_stopped}
 use Rattle.imagesize_source.specs.Outcome.{Outcome}
 use Rattle.imagesize_source.specs.declared.error.ImageError.{ImageError}
-use Rattle.imagesize_source.specs.declared.error.ImageError.TheVariants.{NotSupported, CorruptedImage, IoError}
-use Rattle.imagesize_source.specs.declared.error.Reason.TheVariants.{BudgetSpent, Memory}
 
 -- the answer for the bytes is the one for the reader, at its offset
 pub memory_answers : {X : Type 0} (telling mid : Option Telling) (opened : Opened) (d : List ℕ)
@@ -22,19 +20,3 @@ memory_answers (Some t) mid opened d reads_of r opens memory is goes_on = λ hon
       answer = λ _. ap (λ k. (reads_of k t.offset).answer) there.0 ∙ ap (λ p. (reads_of d p).answer) (sym opens.1) ∙ sym is;
       fault = λ stops. absurd (let no : true ≡ false = sym stops ∙ goes_on in cc);
     }
-
--- a call that nothing stopped wants no memory, and has spent no budget
-pub unstopped_memory : {X : Type 0} (r : Result X ImageError) → is_stopped r ≡ false → IfErr r (λ e. is_memory e ≡ false)
-unstopped_memory (Ok x) goes_on = tt
-unstopped_memory (Err NotSupported) goes_on = refl
-unstopped_memory (Err CorruptedImage) goes_on = refl
-unstopped_memory (Err (IoError Memory)) goes_on = absurd cc
-unstopped_memory (Err (IoError _)) goes_on = refl
-
-pub unstopped_budget : {X : Type 0} (r : Result X ImageError) → is_stopped r ≡ false
-    → IfErr r (λ e. IfSome (budget_spent e) (λ budget. 64 ≤ budget))
-unstopped_budget (Ok x) goes_on = tt
-unstopped_budget (Err NotSupported) goes_on = tt
-unstopped_budget (Err CorruptedImage) goes_on = tt
-unstopped_budget (Err (IoError (BudgetSpent n))) goes_on = absurd cc
-unstopped_budget (Err (IoError _)) goes_on = tt

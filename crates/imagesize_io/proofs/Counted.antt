@@ -1,12 +1,11 @@
 -- What a read of bytes in memory does to their count.
-use Rattle.std.proofs.Common.{◌≡◌, ℕ, ◌+◌, ◌-◌, ◌^◌, ◌<◌, ◌≤◌, min, max, true, false, List, length, take, leb, ltb, eqb, Option, None, Some, Result, Ok, Err, refl, sym, ap, ◌∙◌, subst, arith}
-use Rattle.std.specs.Prelude.{IsSomeAnd, option_map}
+use Rattle.std.proofs.Common.{◌≡◌, ℕ, ◌+◌, ◌-◌, ◌^◌, ◌<◌, ◌≤◌, min, true, false, List, length, take, leb, ltb, eqb, Option, None, Some, Result, Ok, Err, refl, sym, ap, ◌∙◌, subst, arith}
+use Rattle.std.specs.Prelude.{option_map}
 use Rattle.std.specs.declared.io.Error.{Error}
 use Rattle.std.specs.declared.io.traits.SeekFrom.TheVariants.{Start}
 use Rattle.std.proofs.lemmas.List.{length-take}
 use Rattle.std.proofs.lemmas.Bool.Decides.{nat_tests}
 use Rattle.imagesize_io.proofs.Windows.{past-span}
-use Rattle.imagesize_io.specs.Answers.{LeftAs, Leaves}
 use Rattle.imagesize_io.specs.Memory.{IsMemory, IsPaid, IsSpent, counting_state}
 use Rattle.imagesize_io.specs.ReaderState.{Opens, start_state}
 use Rattle.imagesize_io.specs.Telling.{SeekGives, SeekTells, Telling, at_offset, seek_target}
@@ -14,23 +13,9 @@ use Rattle.imagesize_io.specs.declared.reader.Opened.{Opened}
 use Rattle.imagesize_source.proofs.Counts.{total-span_at}
 use Rattle.imagesize_source.specs.Input.{span_at, span_of}
 use Rattle.imagesize_source.specs.Reading.{Reads, part_read, text_part, text_read}
-use Rattle.imagesize_source.specs.State.{Runs, front_after, new_bytes, state_after, total}
+use Rattle.imagesize_source.specs.State.{Runs, new_bytes, state_after, total}
 use Rattle.imagesize_source.specs.declared.halt.Halt.TheVariants.{Spent}
 use Rattle.imagesize_source.specs.declared.text.Text.{Text}
-
--- the front after a read that adds nothing to it
-pub front_kept : (front offset n : ℕ) → offset + n ≤ front → front_after front offset n ≡ front
-front_kept front offset n within = grind (arith, nat_tests)
-
-pub front_passed : (front offset n : ℕ) → front < offset → front_after front offset n ≡ front
-front_passed front offset n past = grind (arith, nat_tests)
-
-pub front_none : (front offset : ℕ) → front_after front offset 0 ≡ front
-front_none front offset = grind (arith, nat_tests)
-
-pub front_joined : (front offset n joined : ℕ) → offset ≤ front → joined ≡ max front (min 32 (offset + n))
-    → joined ≡ front_after front offset n
-front_joined front offset n joined before is = grind (arith, nat_tests)
 
 paid_state : (d : List ℕ) (front left front' left' offset n : ℕ) → left ≤ length d + 64 → IsPaid front left front' left' offset n
     → counting_state d front' left' ≡ state_after (counting_state d front left) (span_at offset n)
@@ -133,14 +118,3 @@ counting_starts (Some t) mid opened d short opens memory =
     ∙ ap (λ n. start_state (Some (record { bytes = d; offset = length d; can_fail = false; interruptions = 0 })) None 0 n)
     (opens.2 ∙ long)
     ∙ counted_start d short)
-
--- and a call leaves the reader as it was, but for its offset
-pub memory_leaves : (telling mid new : Option Telling) (opened : Opened) (position : ℕ) → Opens telling mid (Ok opened)
-    → new ≡ option_map (λ t. at_offset t position) mid → Leaves telling new
-memory_leaves None mid new opened position opens is = is ∙ ap (λ m. option_map (λ t. at_offset t position) m) opens
-memory_leaves (Some t) mid new opened position opens is =
-    subst (λ u. IsSomeAnd u (LeftAs t)) (sym (is ∙ ap (λ m. option_map (λ t. at_offset t position) m) opens.0)) (record {
-      bytes = refl;
-      can_fail = refl;
-      interruptions = λ honest never. omega arith;
-    })
