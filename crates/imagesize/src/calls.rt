@@ -260,7 +260,7 @@ fn read_type<R: Told>(reader: &mut R, opened: Opened) -> ImageResult<ImageType>
     }
 }
 
-// The same of the size.
+// The size of the image in the bytes of a reader that was opened, and is not used again.
 #[inline(always)]
 fn read_size<R: Told>(reader: &mut R, opened: Opened) -> ImageResult<ImageSize>
     ensures answers { (telling : Option Telling) → Opens telling (R.telling reader.old) (Ok opened)
@@ -276,7 +276,7 @@ fn read_size<R: Told>(reader: &mut R, opened: Opened) -> ImageResult<ImageSize>
 }
 
 // Type and size of the image in the bytes of a reader that was opened, and is used again. Bytes in memory are read where they
-// lie, and are counted without a call of the reader: that saves a sixth of the instructions of a call over a cursor.
+// lie, and are counted. No read calls the reader: that saves a sixth of the instructions over a cursor.
 #[inline(always)]
 fn probe_by<R: Told>(reader: &mut R, opened: Opened) -> Probed
     ensures probes { (telling : Option Telling) → Opens telling (R.telling reader.old) (Ok opened) → Probes telling result }
@@ -296,7 +296,7 @@ fn probe_by<R: Told>(reader: &mut R, opened: Opened) -> Probed
     probed
 }
 
-// The same of the size, read as a type.
+// The size, read as this type, in the bytes of a reader that was opened, and is used again.
 #[inline(always)]
 fn size_by<R: Told>(kind: ImageType, reader: &mut R, opened: Opened) -> ImageResult<ImageSize>
     ensures answers { (telling : Option Telling) → Opens telling (R.telling reader.old) (Ok opened)

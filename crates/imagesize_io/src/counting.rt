@@ -65,12 +65,13 @@ impl<'a> CountingSource<'a> {
         if offset <= self.front || self.left < count as u64 || count == 0 {
             return self.pays_front(offset, count);
         }
+        // Most reads lie past the front, and cost two tests and two stores here.
         self.left -= count as u64;
         self.position = offset + count as u64;
         true
     }
 
-    // The same of a read that got fewer bytes than it asked for. It saw the end of the bytes, if it began within them.
+    // Counts the bytes of a read that got fewer than it asked for. It saw the end of the bytes, if it began within them.
     #[inline(never)]
     fn pays_last(&mut self, offset: u64, count: usize) -> bool
         requires there { 0 < count → offset + count ≤ length self.old.bytes.now }
@@ -84,8 +85,8 @@ impl<'a> CountingSource<'a> {
         self.pays_front(offset, count)
     }
 
-    // The same of any read. A byte of the front is not counted again, and no read of the front alone moves the reader. Not
-    // inlined, since most reads lie past the front.
+    // Counts the bytes of any read. A byte of the front is not counted again, and a read of the front alone does not move the
+    // reader. Not inlined, since most reads lie past the front.
     #[inline(never)]
     fn pays_front(&mut self, offset: u64, count: usize) -> bool
         requires there { 0 < count → offset + count ≤ length self.old.bytes.now }

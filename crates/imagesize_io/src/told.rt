@@ -72,8 +72,8 @@ pub trait Told: Drop {
         None
     }
 
-    /// All bytes of the reader, if they lie in memory: then no call fails or is interrupted, and the reader keeps no count and
-    /// no error. It may always return `None`.
+    /// All bytes of the reader, if they lie in memory. No call of such a reader fails or is interrupted, and it keeps no count
+    /// and no error. This call may always return `None`.
     #[inline(always)]
     fn in_memory(&self) -> Option<&[u8]>
         ensures told { IfSome result (λ bytes. IsMemory (telling self.now) bytes.now) }

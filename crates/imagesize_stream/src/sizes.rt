@@ -9,7 +9,8 @@ use imagesize_types::size::ImageSize;
 
 /// The records from the next one on. `TEXTS` says whether they are texts.
 ///
-/// The words of a portable bitmap are read into `buffer`, which has `WORDS` bytes. It is zeroed once a walk, and not once a word.
+/// The words of a portable bitmap are read into `buffer`, which has `WORDS` bytes: 1,024 for texts, and none for other records. It is
+/// zeroed once a walk, and not once a word.
 #[derive(Clone, Copy)]
 pub(crate) struct Sizes<const TEXTS: bool, const WORDS: usize> {
     pub(crate) next: Awaited,

@@ -17,8 +17,8 @@ pub(crate) fn is_utf8(bytes: &[u8]) -> bool
     is_ascii(bytes) || str::from_utf8(bytes).is_ok()
 }
 
-// Whether all the bytes are ASCII. A load of the last bytes may reach back over bytes that were tested before, which costs
-// less than to test these few one at a time.
+// Whether all the bytes are ASCII. The load of the last bytes may reach back over bytes that were tested. That costs less than
+// a test of the last bytes one at a time.
 #[inline(always)]
 fn is_ascii(bytes: &[u8]) -> bool
     ensures { IsTrue result → IsAscii bytes.now }

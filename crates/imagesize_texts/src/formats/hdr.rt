@@ -164,8 +164,8 @@ fn lengths(text: &str) -> Option<(&str, &str)>
     }
 }
 
-// The same of four words of visible characters with one space between two, and `None` of any other text. Nearly every
-// resolution is written so, and `split_whitespace` takes 500 instructions for it.
+// The second and the fourth of four words of visible characters, with one space between two. `None` for any other text.
+// Nearly every resolution is written so, and `split_whitespace` takes 500 instructions for it.
 #[inline(always)]
 fn plain_lengths(text: &str) -> Option<(&str, &str)>
     ensures { IfSome result (λ lengths. second_and_fourth (words text.now) ≡ Some (lengths.0.now, lengths.1.now)) }
@@ -180,7 +180,7 @@ fn plain_lengths(text: &str) -> Option<(&str, &str)>
     Some((height, width))
 }
 
-// The same of any text.
+// The second and the fourth word of any text, if there are exactly four.
 #[inline(never)]
 fn split_lengths(text: &str) -> Option<(&str, &str)>
     ensures { option_map (λ lengths. (lengths.0.now, lengths.1.now)) result ≡ second_and_fourth (words text.now) }
@@ -196,13 +196,13 @@ fn split_lengths(text: &str) -> Option<(&str, &str)>
     }
 }
 
-// The first word and the text behind it. `None` unless the word has visible characters only, nothing but one space before it,
-// and a space or nothing behind it.
+// The first word and the text after it. `None` unless the word has visible characters only. Before it may be one space, and
+// after it a space or nothing.
 #[inline(always)]
 fn plain_word(text: &str) -> Option<(&str, &str)>
     ensures { IfSome result (λ parts. words text.now ≡ parts.0.now ∷ words parts.1.now) }
 {
-    let text = behind_space(text);
+    let text = after_space(text);
     let bytes = text.as_bytes();
     let mut end = 0;
     while end < bytes.len() && bytes[end].is_ascii_graphic() {
@@ -214,9 +214,9 @@ fn plain_word(text: &str) -> Option<(&str, &str)>
     Some(text.split_at(end))
 }
 
-// The text behind its first character, if that is a space.
+// The text after its first character, if that is a space.
 #[inline(always)]
-fn behind_space(text: &str) -> &str
+fn after_space(text: &str) -> &str
     ensures { words result.now ≡ words text.now }
 {
     match text.as_bytes() {

@@ -11,7 +11,7 @@ a_space b is = grind (arith, nat_tests)
 
 pub returns : goal.returns
 returns c =
-    let text : List ℕ = c.behind_space-text.result.now in
+    let text : List ℕ = c.after_space-text.result.now in
     let bytes : List ℕ = c.as_bytes-bytes.result.now in
     let end : ℕ = c.loop-end.end in
     let ended : end < length bytes → slice_index bytes end ≡ 32 =
@@ -19,7 +19,7 @@ returns c =
       | then-end-bytes w ↦ a_space _ (sym w.value-is ∙ c.if-bytes-end-ne32.false)
       | else-end-bytes w ↦ absurd (omega (arith, inside, w.if-end-bytes.false))
     ] in
-    sym c.behind_space-text.ensures
+    sym c.after_space-text.ensures
     ∙ ap words (sym c.as_bytes-bytes.ensures.value)
     ∙ plain_front bytes end c.as_bytes-bytes.ensures.utf8 (omega (arith, c.if-end-eq0.false)) c.loop-end.invariant.0
     c.loop-end.invariant.1 ended

@@ -3,7 +3,7 @@ use Rattle.std.proofs.lemmas.Str.{IsCharBoundary-after_ascii}
 use Rattle.std.specs.Prelude.{slice_index}
 use Rattle.imagesize_texts.specs.Contents.{words}
 use Rattle.imagesize_texts.proofs.Words.{space_before}
-use Rattle.imagesize_texts.proofs.formats.hdr.behind_space.Goals as goal
+use Rattle.imagesize_texts.proofs.formats.hdr.after_space.Goals as goal
 
 pub range_from-requires : goal.range_from-requires
 range_from-requires c = λ _.
