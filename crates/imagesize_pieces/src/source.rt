@@ -1,5 +1,5 @@
 //! The bytes of an input that arrived so far, from an offset on, as a source. A read of a missing byte fails.
-ghost use Rattle.std.specs.Prelude.{◌≡◌, ℕ, ◌+◌, ◌-◌, ◌<◌, ◌≤◌, ◌++◌, [], ◌∷◌, min, take, length, slice_index, is_some, true, false, None, Some, IfOk, IfSome};
+ghost use Rattle.std.specs.Prelude.{◌≡◌, ℕ, ◌+◌, ◌-◌, ◌<◌, ◌≤◌, ◌++◌, [], ◌∷◌, min, take, length, slice_index, is_some, true, false, None, Some, IfSome, ok_or};
 ghost use Rattle.std.specs.Option.{ForSome};
 ghost use Rattle.imagesize_source.specs.Agreement.{has_offset};
 ghost use Rattle.imagesize_source.specs.Input.{part, span_at};
@@ -100,7 +100,7 @@ impl<'a> StreamSource<'a> {
     }
 
     // Records a read whose first `count` bytes are known and whose next byte is missing.
-    fn miss(&mut self, start: u64, count: usize, sure: usize, most: usize) -> Halt
+    fn miss(&mut self, start: u64, count: usize, sure: usize, most: usize)
         requires known { (i : ℕ) → i < count → is_some (byte_at self.old.told self.old.start self.old.kept.now self.old.chunk.now (start + i)) ≡ true }
         requires some { 0 < sure }
         requires among { sure ≤ most }
@@ -112,7 +112,6 @@ impl<'a> StreamSource<'a> {
         ensures told { self.new.told ≡ self.old.told }
         ensures seen { self.new.log.spans ≡ self.old.log.spans ++ span_at start count }
         ensures missed { self.new.missed ≡ Some (record { start = start + count; sure = sure; most = most }) }
-        ensures halts { result ≡ Halt.Failed }
     {
         self.see(start, count);
         self.missed = Some(Missing {
@@ -120,7 +119,6 @@ impl<'a> StreamSource<'a> {
             sure: sure as u64,
             most: most as u64,
         });
-        Halt::Failed
     }
 
     // Copies the known bytes of a read into the buffer, up to the first missing byte. Returns how many it copied, and how many
@@ -189,44 +187,47 @@ impl<'a> StreamSource<'a> {
         Some(&run[..count])
     }
 
-    // A read that no slice contains as a whole.
+    // A read that no slice contains as a whole. `None` means that a byte is missing. A number passes in a register, where a
+    // `Halt` is written to memory in parts and read whole.
     #[cold]
     #[inline(never)]
-    fn gather_at(&mut self, offset: u64, buffer: &mut [u8]) -> Result<usize, Halt>
-        ensures bound { IfOk result (λ n. n ≤ length buffer.new) }
-        ensures there { IfOk result (λ n. n ≤ self.old.told - offset) }
+    fn gather_at(&mut self, offset: u64, buffer: &mut [u8]) -> Option<usize>
+        ensures bound { IfSome result (λ n. n ≤ length buffer.new) }
+        ensures there { IfSome result (λ n. n ≤ self.old.told - offset) }
         ensures runs { Runs (stream_state self.old.told self.old.start self.old.kept.now self.old.chunk.now self.old.log.spans self.old.missed)
             (stream_state self.new.told self.new.start self.new.kept.now self.new.chunk.now self.new.log.spans self.new.missed)
-            (map_answer (λ n. take n buffer.new) result)
+            (map_answer (λ n. take n buffer.new) (ok_or result Halt.Failed))
             (part_read (stream_input self.old.told self.old.start self.old.kept.now self.old.chunk.now) offset (length buffer.new)) }
     {
         let (found, wanted) = self.fill_known(offset, buffer);
         if found < wanted {
             let missing = wanted - found;
-            return Err(self.miss(offset, found, missing, missing));
+            self.miss(offset, found, missing, missing);
+            return None;
         }
         self.see(offset, found);
-        Ok(found)
+        Some(found)
     }
 
-    // A text that no slice contains as a whole.
+    // A text that no slice contains as a whole. `None` means that a byte is missing.
     #[cold]
     #[inline(never)]
-    fn gather_text(&mut self, offset: u64, text: Text, buffer: &mut [u8]) -> Result<usize, Halt>
-        ensures bound { IfOk result (λ n. n ≤ length buffer.new) }
-        ensures there { IfOk result (λ n. n ≤ self.old.told - offset) }
+    fn gather_text(&mut self, offset: u64, text: Text, buffer: &mut [u8]) -> Option<usize>
+        ensures bound { IfSome result (λ n. n ≤ length buffer.new) }
+        ensures there { IfSome result (λ n. n ≤ self.old.told - offset) }
         ensures runs { Runs (stream_state self.old.told self.old.start self.old.kept.now self.old.chunk.now self.old.log.spans self.old.missed)
             (stream_state self.new.told self.new.start self.new.kept.now self.new.chunk.now self.new.log.spans self.new.missed)
-            (map_answer (λ n. take n buffer.new) result)
+            (map_answer (λ n. take n buffer.new) (ok_or result Halt.Failed))
             (text_read (stream_input self.old.told self.old.start self.old.kept.now self.old.chunk.now) text offset (length buffer.new)) }
     {
         let (found, wanted) = self.fill_known(offset, buffer);
         if is_cut(text, &buffer[..found], wanted) {
-            return Err(self.miss(offset, found, 1, wanted - found));
+            self.miss(offset, found, 1, wanted - found);
+            return None;
         }
         let count = text_length(text, &buffer[..found]);
         self.see(offset, count);
-        Ok(count)
+        Some(count)
     }
 }
 
@@ -248,7 +249,7 @@ impl Source for StreamSource<'_> {
     #[inline(always)]
     fn read_at(&mut self, offset: u64, buffer: &mut [u8]) -> Result<usize, Halt> {
         let Some(found) = self.whole_from(offset, buffer.len()) else {
-            return self.gather_at(offset, buffer);
+            return self.gather_at(offset, buffer).ok_or(Halt::Failed);
         };
         buffer.copy_from_slice(found);
         self.see(offset, found.len());
@@ -258,7 +259,7 @@ impl Source for StreamSource<'_> {
     #[inline(always)]
     fn read_text(&mut self, offset: u64, text: Text, buffer: &mut [u8]) -> Result<usize, Halt> {
         let Some(count) = copy_ended(self.known_from(offset), text, buffer) else {
-            return self.gather_text(offset, text, buffer);
+            return self.gather_text(offset, text, buffer).ok_or(Halt::Failed);
         };
         self.see(offset, count);
         Ok(count)

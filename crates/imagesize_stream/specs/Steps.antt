@@ -123,13 +123,6 @@ is_text Comment = true
 is_text (Height width) = true
 is_text _ = false
 
--- whether a record is a word of a portable bitmap, or the rest of a comment
-abbrev pub is_word : Awaited → Bool
-is_word Word = true
-is_word Comment = true
-is_word (Height width) = true
-is_word _ = false
-
 -- how many bytes from its offset on a record is read at most, by whether it is a text
 abbrev pub reach_of : Bool → ℕ
 reach_of texts = if texts then 1024 else 132

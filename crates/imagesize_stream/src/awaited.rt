@@ -6,7 +6,7 @@ ghost use Rattle.imagesize_source.specs.Reading.{is_stopped, map_answer, number_
 ghost use Rattle.imagesize_source.specs.State.{Follows, Runs};
 ghost use Rattle.imagesize_source.specs.Walk.{said_at};
 ghost use Rattle.imagesize_stream.specs.Skips.{ReadsFirst};
-ghost use Rattle.imagesize_stream.specs.Steps.{IsSmall, IsSteady, StaysSteady, after, decides, ends_with, is_text, is_word, kept_of, leading_to, names_of, step, word_leads};
+ghost use Rattle.imagesize_stream.specs.Steps.{IsSmall, IsSteady, StaysSteady, after, decides, ends_with, is_text, kept_of, leading_to, names_of, step, word_leads};
 ghost use Rattle.imagesize_texts.specs.Texts.{read_word_of};
 ghost use Rattle.imagesize_walked.specs.Tiff.{head_bytes, value_bytes};
 ghost use Rattle.imagesize_stream.specs.declared.awaited.Awaited.TheVariants as awaited;
@@ -127,35 +127,13 @@ impl Awaited {
         }
     }
 
-    // Reads the record at an offset. Then this is the record after it. `TEXTS` says whether the records are texts. A word is read
-    // into the buffer.
+    // Reads the record at an offset, which is a text. Then this is the record after it. A word is read into the buffer.
     #[inline(always)]
-    pub(crate) fn advance<S: Source, const TEXTS: bool>(
+    pub(crate) fn advance_text<S: Source>(
         &mut self,
         source: &mut S,
         offset: u64,
-        buffer: &mut [u8],
-    ) -> Result<Found<(), ImageSize>, Halt>
-        requires steady { IsSteady self.old offset }
-        requires texts { is_text self.old ≡ TEXTS }
-        ensures nears { IfOk (leading_to self.new result) (λ found. Nears (S.state source.old) (S.state source.new) offset (said_at offset found)) }
-        ensures steady { IfOk (leading_to self.new result) (λ found. StaysSteady TEXTS (said_at offset found)) }
-        ensures stays { IfErr result (λ _. self.new ≡ self.old) }
-        ensures runs { Follows (S.state source.old) (S.state source.new) (map_answer (said_at offset) (leading_to self.new result)) (step self.old offset) }
-    {
-        if TEXTS {
-            self.advance_text(source, offset, buffer)
-        } else {
-            self.advance_other(source, offset)
-        }
-    }
-
-    // Reads a record that is a text.
-    fn advance_text<S: Source>(
-        &mut self,
-        source: &mut S,
-        offset: u64,
-        buffer: &mut [u8],
+        buffer: &mut [u8; WORD_ROOM],
     ) -> Result<Found<(), ImageSize>, Halt>
         requires { is_text self.old ≡ true }
         ensures nears { IfOk (leading_to self.new result) (λ found. Nears (S.state source.old) (S.state source.new) offset (said_at offset found)) }
@@ -166,48 +144,6 @@ impl Awaited {
         match *self {
             Awaited::Attribute { long } => read_attribute(source, offset, long),
             Awaited::Line => read_line(source, offset),
-            Awaited::Word | Awaited::Comment | Awaited::Height { .. } => {
-                self.advance_word(source, offset, buffer)
-            }
-            _ => unreachable!(),
-        }
-    }
-
-    // Reads a record of a portable bitmap. The caller has a buffer for its words, which is not zeroed for each of them.
-    #[inline(always)]
-    fn advance_word<S: Source>(
-        &mut self,
-        source: &mut S,
-        offset: u64,
-        buffer: &mut [u8],
-    ) -> Result<Found<(), ImageSize>, Halt>
-        requires { is_word self.old ≡ true }
-        ensures nears { IfOk (leading_to self.new result) (λ found. Nears (S.state source.old) (S.state source.new) offset (said_at offset found)) }
-        ensures steady { IfOk (leading_to self.new result) (λ found. StaysSteady true (said_at offset found)) }
-        ensures stays { IfErr result (λ _. self.new ≡ self.old) }
-        ensures runs { Follows (S.state source.old) (S.state source.new) (map_answer (said_at offset) (leading_to self.new result)) (step self.old offset) }
-    {
-        match buffer.first_chunk_mut::<WORD_ROOM>() {
-            Some(buffer) => self.advance_word_in(source, offset, buffer),
-            None => self.advance_word_in(source, offset, &mut [0; WORD_ROOM]),
-        }
-    }
-
-    // Reads a record of a portable bitmap into a buffer.
-    #[inline(always)]
-    fn advance_word_in<S: Source>(
-        &mut self,
-        source: &mut S,
-        offset: u64,
-        buffer: &mut [u8; WORD_ROOM],
-    ) -> Result<Found<(), ImageSize>, Halt>
-        requires { is_word self.old ≡ true }
-        ensures nears { IfOk (leading_to self.new result) (λ found. Nears (S.state source.old) (S.state source.new) offset (said_at offset found)) }
-        ensures steady { IfOk (leading_to self.new result) (λ found. StaysSteady true (said_at offset found)) }
-        ensures stays { IfErr result (λ _. self.new ≡ self.old) }
-        ensures runs { Follows (S.state source.old) (S.state source.new) (map_answer (said_at offset) (leading_to self.new result)) (step self.old offset) }
-    {
-        match *self {
             Awaited::Word => read_word(self, source, offset, buffer),
             Awaited::Comment => read_comment(self, source, offset, buffer),
             Awaited::Height { width } => read_height(source, offset, width, buffer),
@@ -215,8 +151,9 @@ impl Awaited {
         }
     }
 
-    // Reads a record that is no text.
-    fn advance_other<S: Source>(
+    // Reads the record at an offset, which is no text. Then this is the record after it.
+    #[inline(always)]
+    pub(crate) fn advance_other<S: Source>(
         &mut self,
         source: &mut S,
         offset: u64,
@@ -248,7 +185,7 @@ impl Awaited {
     }
 
     // The result at the end of the input.
-    pub(crate) fn at_end(self) -> Result<ImageSize, Halt>
+    pub(crate) fn ending(self) -> Result<ImageSize, Halt>
         ensures goes_on { is_stopped result ≡ false }
         ensures is { result ≡ ends_with self }
     {

@@ -7,7 +7,7 @@ mod hear;
 mod laws;
 mod parts;
 mod probe;
-mod sizes;
+mod records;
 mod stage;
 
 pub use laws::probe_two;

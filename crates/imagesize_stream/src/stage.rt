@@ -6,12 +6,12 @@ ghost use Rattle.imagesize_stream.specs.Given.{IsGiven, MayBeAt};
 ghost use Rattle.imagesize_stream.specs.Heard.{RestsOnMore};
 ghost use Rattle.imagesize_stream.specs.Probe.{CameTo, HoldsAt, IfAwaiting, IsAhead, RestsOnNext, stage_after};
 ghost use Rattle.imagesize_stream.specs.Skips.{PassesOver};
-ghost use Rattle.imagesize_stream.specs.Steps.{IsSteady, is_text, reach_of};
+ghost use Rattle.imagesize_stream.specs.Steps.{IsSteady, is_text};
 ghost use Rattle.imagesize_stream.specs.declared.stage.Stage.TheVariants as stage;
 
 use crate::awaited::Awaited;
 use crate::hear::{Heard, hear};
-use crate::sizes::Sizes;
+use crate::records::Texts;
 use imagesize::ImageType;
 use imagesize_fixed::formats::tga::is_footer;
 use imagesize_pieces::buffer::{bytes_behind, front_of, keep_behind};
@@ -97,9 +97,14 @@ pub(crate) fn walk(
     ensures whole { IfAwaiting (stage_after next.new result) (stand.old.told ≤ stand.old.passed + length chunk.now → ⊥) }
 {
     if next.is_text() {
-        walk_over::<true, WORD_ROOM>(next, stand, buffer, chunk)
-    } else {
-        walk_over::<false, 0>(next, stand, buffer, chunk)
+        return walk_texts(next, stand, buffer, chunk);
+    }
+    match read_on(next, stand, buffer, chunk) {
+        Some(size) => Some(size),
+        None => {
+            stand.end = stand.end.min(stand.start + RECORD);
+            None
+        }
     }
 }
 
@@ -130,17 +135,15 @@ fn walk_from(next: Awaited, stand: &mut Stand, buffer: &mut [u8; ROOM], chunk: &
     }
 }
 
-// Continues the walk with the next chunk. `TEXTS` says whether the records are texts. The buffer for
-// their words has `WORDS` bytes.
-fn walk_over<const TEXTS: bool, const WORDS: usize>(
+// Continues the walk along records that are texts with the next chunk.
+fn walk_texts(
     next: &mut Awaited,
     stand: &mut Stand,
     buffer: &mut [u8; ROOM],
     chunk: &[u8],
 ) -> Option<Result<ImageSize, Halt>>
     requires steady { IsSteady next.old stand.old.offset }
-    requires texts { is_text next.old ≡ TEXTS }
-    requires words { WORDS ≤ 1024 }
+    requires text { is_text next.old ≡ true }
     requires few { stand.old.passed - stand.old.start ≤ 1023 }
     requires typed { 12 ≤ stand.old.passed }
     requires fits { stand.old.passed + length chunk.now ≤ stand.old.told }
@@ -158,25 +161,18 @@ fn walk_over<const TEXTS: bool, const WORDS: usize>(
         → RestsOnNext (stage_after next.new result) stand.new (front ++ chunk.now) stand.old.told }
     ensures whole { IfAwaiting (stage_after next.new result) (stand.old.told ≤ stand.old.passed + length chunk.now → ⊥) }
 {
-    let mut sizes = Sizes::<TEXTS, WORDS> {
+    let mut texts = Texts {
         next: *next,
-        buffer: [0; WORDS],
+        buffer: [0; WORD_ROOM],
     };
-    match read_on(&mut sizes, stand, buffer, chunk) {
+    match read_on(&mut texts, stand, buffer, chunk) {
         Some(size) => Some(size),
         None => {
-            stand.end = stand.end.min(stand.start + reach(TEXTS));
-            *next = sizes.next;
+            stand.end = stand.end.min(stand.start + TEXT);
+            *next = texts.next;
             None
         }
     }
-}
-
-// How many bytes of a record are read at most.
-fn reach(text: bool) -> u64
-    ensures { result ≡ reach_of text }
-{
-    if text { TEXT } else { RECORD }
 }
 
 /// Waits for the last bytes. Once all bytes arrived, these decide whether it is a TGA.

@@ -8,7 +8,6 @@ pub returns-then-found-wanted-clause-runs : goal.returns-then-found-wanted-claus
 returns-then-found-wanted-clause-runs c =
     let s = c.args.self.now in
     let f = c.fill_known-found in
-    rw c.miss.ensures.halts
     (parts_missing s.told (came s.start s.kept.now s.chunk.now)
     (s.kept.now ++ s.chunk.now) s.log.spans s.missed _ _ c.args.offset
     f.result.1 f.result.0

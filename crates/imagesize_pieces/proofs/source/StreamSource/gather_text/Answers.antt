@@ -8,7 +8,6 @@ pub returns-then-is_cut-clause-runs : goal.returns-then-is_cut-clause-runs
 returns-then-is_cut-clause-runs c =
     let s = c.args.self.now in
     let f = c.fill_known-found in
-    rw c.miss.ensures.halts
     (parts_text_missing s.told (came s.start s.kept.now s.chunk.now) (s.kept.now ++ s.chunk.now) s.log.spans s.missed _
     c.args.text f.new.buffer c.args.offset _ f.result.1 f.result.0
     (record { start = c.args.offset + f.result.0; sure = 1; most = f.result.1 - f.result.0 })
