@@ -152,7 +152,13 @@ impl StreamProbe {
         let chunk = front_of(chunk, self.stand.told - self.stand.passed);
         match &mut self.stage {
             Stage::First => {
-                self.stage = begin(&mut self.kind, &mut self.stand, &mut self.buffer, chunk);
+                begin(
+                    &mut self.stage,
+                    &mut self.kind,
+                    &mut self.stand,
+                    &mut self.buffer,
+                    chunk,
+                );
             }
             Stage::Records { next } => {
                 let found = walk(next, &mut self.stand, &mut self.buffer, chunk);

@@ -222,66 +222,69 @@ pub(crate) fn wait(
     }
 }
 
-/// Continues with the next chunk while the first bytes do not suffice. The buffer holds all bytes so far.
+/// Continues with the next chunk while the first bytes do not suffice. The buffer holds all bytes so far. `into` becomes the stage
+/// after the chunk: a stage that is returned is copied once more.
 pub(crate) fn begin(
+    into: &mut Stage,
     kind: &mut Option<ImageType>,
     stand: &mut Stand,
     buffer: &mut [u8; ROOM],
     chunk: &[u8],
-) -> Stage
+)
     requires first { stand.old.start ≡ 0 }
     requires few { stand.old.passed < 132 }
     requires fits { stand.old.passed + length chunk.now ≤ stand.old.told }
     ensures told { stand.new.told ≡ stand.old.told }
-    ensures holds { HoldsAt result stand.new }
-    ensures ahead { IsAhead result stand.new }
-    ensures passed { IfAwaiting result (stand.new.passed ≡ stand.old.passed + length chunk.now) }
+    ensures holds { HoldsAt into.new stand.new }
+    ensures ahead { IsAhead into.new stand.new }
+    ensures passed { IfAwaiting into.new (stand.new.passed ≡ stand.old.passed + length chunk.now) }
     ensures goes_on { (front : List ℕ) → CameTo stage.First kind.old stand.old buffer.old front
-        → CameTo result kind.new stand.new buffer.new (front ++ chunk.now) }
-    ensures complete { IfAwaiting result ((front : List ℕ) → CameTo stage.First kind.old stand.old buffer.old front
+        → CameTo into.new kind.new stand.new buffer.new (front ++ chunk.now) }
+    ensures complete { IfAwaiting into.new ((front : List ℕ) → CameTo stage.First kind.old stand.old buffer.old front
         → RestsOnMore (front ++ chunk.now) stand.old.told) }
     ensures marked { (front : List ℕ) → CameTo stage.First kind.old stand.old buffer.old front
-        → RestsOnNext result stand.new (front ++ chunk.now) stand.old.told }
-    ensures whole { IfAwaiting result (stand.old.told ≤ stand.old.passed + length chunk.now → ⊥) }
+        → RestsOnNext into.new stand.new (front ++ chunk.now) stand.old.told }
+    ensures whole { IfAwaiting into.new (stand.old.told ≤ stand.old.passed + length chunk.now → ⊥) }
 {
     let left = FIRST - stand.passed;
     let more = front_of(chunk, left);
     let rest = bytes_behind(chunk, left);
     keep_behind(buffer, stand.passed as usize, more, 0);
     stand.passed += more.len() as u64;
-    begun(kind, stand, buffer, rest)
+    begun(into, kind, stand, buffer, rest);
 }
 
-// Continues from the first bytes, which are all in the buffer, with the rest of the chunk.
+// Continues from the first bytes, which are all in the buffer, with the rest of the chunk. `into` becomes the stage after it.
 fn begun(
+    into: &mut Stage,
     kind: &mut Option<ImageType>,
     stand: &mut Stand,
     buffer: &mut [u8; ROOM],
     chunk: &[u8],
-) -> Stage
+)
     requires first { stand.old.start ≡ 0 }
     requires few { stand.old.passed ≤ 132 }
     requires all { stand.old.passed < 132 → length chunk.now ≡ 0 }
     requires fits { stand.old.passed + length chunk.now ≤ stand.old.told }
     ensures told { stand.new.told ≡ stand.old.told }
-    ensures holds { HoldsAt result stand.new }
-    ensures ahead { IsAhead result stand.new }
-    ensures passed { IfAwaiting result (stand.new.passed ≡ stand.old.passed + length chunk.now) }
-    ensures goes_on { CameTo result kind.new stand.new buffer.new (take stand.old.passed buffer.old ++ chunk.now) }
-    ensures complete { IfAwaiting result (RestsOnMore (take stand.old.passed buffer.old ++ chunk.now) stand.old.told) }
-    ensures marked { RestsOnNext result stand.new (take stand.old.passed buffer.old ++ chunk.now) stand.old.told }
-    ensures whole { IfAwaiting result (stand.old.told ≤ stand.old.passed + length chunk.now → ⊥) }
+    ensures holds { HoldsAt into.new stand.new }
+    ensures ahead { IsAhead into.new stand.new }
+    ensures passed { IfAwaiting into.new (stand.new.passed ≡ stand.old.passed + length chunk.now) }
+    ensures goes_on { CameTo into.new kind.new stand.new buffer.new (take stand.old.passed buffer.old ++ chunk.now) }
+    ensures complete { IfAwaiting into.new (RestsOnMore (take stand.old.passed buffer.old ++ chunk.now) stand.old.told) }
+    ensures marked { RestsOnNext into.new stand.new (take stand.old.passed buffer.old ++ chunk.now) stand.old.told }
+    ensures whole { IfAwaiting into.new (stand.old.told ≤ stand.old.passed + length chunk.now → ⊥) }
 {
     let passed = stand.passed as usize;
     match hear(&buffer[..passed], stand.told) {
         Heard::Missing { image, end } => {
             *kind = image;
             stand.end = end.min(FIRST).max(HEADER).min(stand.told);
-            Stage::First
+            *into = Stage::First;
         }
         Heard::Answer { image, size } => {
             *kind = image;
-            Stage::Done { size }
+            *into = Stage::Done { size };
         }
         Heard::Records {
             image,
@@ -290,12 +293,12 @@ fn begun(
         } => {
             *kind = Some(image);
             stand.offset = offset;
-            walk_from(next, stand, buffer, chunk)
+            *into = walk_from(next, stand, buffer, chunk);
         }
         Heard::Footer { size } => {
             *kind = None;
             keep_behind(buffer, passed, &[], stand.passed - 18);
-            wait(size, kind, stand, buffer, chunk)
+            *into = wait(size, kind, stand, buffer, chunk);
         }
     }
 }

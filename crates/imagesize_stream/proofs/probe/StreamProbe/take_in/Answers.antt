@@ -13,12 +13,12 @@ returns-in-First-clause-parts c = λ d given has.
     let is = cut_part d cut s.stand.passed (length c.args.chunk.now)
     (c.front_of-chunk.ensures ∙ ap (λ k. take (k - s.stand.passed) c.args.chunk.now) (sym given.as_long) ∙ has) in
     let here = rw c.in-First.is at given in
-    let now = c.begin-self.new in
-    given_on c.begin-self.result now.kind now.stand now.buffer d cut s.stand.passed s.stand.told given.as_long is
-    c.begin-self.ensures.told c.begin-self.ensures.holds c.begin-self.ensures.passed
-    (c.begin-self.ensures.goes_on (take s.stand.passed d) here.known)
-    (awaiting_map c.begin-self.result (λ rests. rests (take s.stand.passed d) here.known) c.begin-self.ensures.complete)
-    (c.begin-self.ensures.marked (take s.stand.passed d) here.known)
+    let now = c.begin.new in
+    given_on c.begin.new.into now.kind now.stand now.buffer d cut s.stand.passed s.stand.told given.as_long is
+    c.begin.ensures.told c.begin.ensures.holds c.begin.ensures.passed
+    (c.begin.ensures.goes_on (take s.stand.passed d) here.known)
+    (awaiting_map c.begin.new.into (λ rests. rests (take s.stand.passed d) here.known) c.begin.ensures.complete)
+    (c.begin.ensures.marked (take s.stand.passed d) here.known)
 
 pub returns-in-Some-clause-goes_on : goal.returns-in-Some-clause-goes_on
 returns-in-Some-clause-goes_on c = λ front came.
