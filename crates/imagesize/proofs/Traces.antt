@@ -34,7 +34,7 @@ spans_of e = let same = ap (λ (a : State). a.recorded) e in (cc)
 -- A probe over a slice d that records.
 module _ (d after : List ℕ) (spans : List Span) (home there : ℕ) (r : Result ImageSize Halt)
     (h : Runs (recording_state d [] home) (recording_state after spans there) r (meaning_reads d 0)) where
-  goes_on : is_stopped r ≡ false
+  pub goes_on : is_stopped r ≡ false
   goes_on = never_stopped r (meaning_reads d 0) refl refl refl h
 
   -- the spans are the marks
@@ -57,15 +57,12 @@ module _ (d after : List ℕ) (spans : List Span) (home there : ℕ) (r : Result
       ∙ ap (λ xs. take (length buffer) xs) recorded_marks
       ∙ ap (λ xs. take (length xs) (meaning d 0).marks) (sym same)
 
-  -- type and answer are those of the layouts
+  -- type and size are those of the layouts
   pub recorded_kind : (kind : Option ImageType) → FindsKind (recording_state d [] home) 0 kind r → kind ≡ result_ok (kind_of d 0).answer
   recorded_kind kind finds = finds.whole refl goes_on ∙ same_kind (kind_reads d 0).answer
 
-  pub recorded_answer : (failure : ImageError) (budget : ℕ) → with_error failure budget r ≡ (meaning d 0).answer
-  recorded_answer failure budget = slice_answer failure budget r (meaning_reads d 0) refl goes_on h
-
-  pub recorded_goes : (failure : ImageError) (budget : ℕ) → is_stopped_error (with_error failure budget r) ≡ false
-  recorded_goes failure budget = slice_unstopped failure budget r goes_on
+  pub recorded_found : r ≡ (meaning_reads d 0).answer
+  recorded_found = sym (h.answer refl goes_on)
 
 -- Spans that are the marks of d.
 module _ (d : List ℕ) (items : List Span) (are : items ≡ (meaning d 0).marks) where

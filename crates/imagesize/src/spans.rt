@@ -1,15 +1,15 @@
 //! The bytes that a result depends on, in the caller's buffer.
 ghost use Rattle.std.specs.Prelude.{◌≡◌, ◌+◌, ◌<◌, ◌≤◌, ◌++◌, false, length, take, drop};
 ghost use Rattle.std.specs.Result.{result_ok};
-ghost use Rattle.imagesize.specs.Meaning.{kind_of, meaning};
+ghost use Rattle.imagesize.specs.Meaning.{kind_of, meaning, meaning_reads};
 ghost use Rattle.imagesize.specs.Traced.{AreWithin};
-ghost use Rattle.imagesize_source.specs.Errors.{is_stopped};
 ghost use Rattle.imagesize_source.specs.Limits.{allowance};
+ghost use Rattle.imagesize_source.specs.Reading.{is_stopped};
 
 use crate::calls::probe;
 use crate::types::ImageType;
-use crate::{ImageResult, Span};
-use imagesize_source::halt::with_error;
+use crate::Span;
+use imagesize_source::Halt;
 use imagesize_source::source::recording::RecordingSource;
 use imagesize_types::size::ImageSize;
 
@@ -59,11 +59,12 @@ pub(crate) fn fill_spans(data: &[u8], first: &[Span], buffer: &mut [Span])
     }
 }
 
-// What a slice holds, and how many spans its reads have.
+// What a slice holds, and how many spans its reads have. The error of a `Halt` is left to the caller: a size in a result that
+// has room for it is copied in parts, each of which waits for the part before.
 #[derive(Drop)]
 pub(crate) struct Recorded {
     pub(crate) kind: Option<ImageType>,
-    pub(crate) answer: ImageResult<ImageSize>,
+    pub(crate) found: Result<ImageSize, Halt>,
     // How many spans the reads have.
     pub(crate) count: usize,
 }
@@ -71,8 +72,8 @@ pub(crate) struct Recorded {
 // Probes a slice and records the spans of the reads in the buffer, as many as fit.
 pub(crate) fn record(data: &[u8], buffer: &mut [Span]) -> Recorded
     ensures kind { result.kind ≡ result_ok (kind_of «data».now 0).answer }
-    ensures answer { result.answer ≡ (meaning «data».now 0).answer }
-    ensures goes { is_stopped result.answer ≡ false }
+    ensures found { result.found ≡ (meaning_reads «data».now 0).answer }
+    ensures goes { is_stopped result.found ≡ false }
     ensures count { result.count ≡ length (meaning «data».now 0).marks }
     ensures spans { take result.count buffer.new ≡ take (length buffer.new) (meaning «data».now 0).marks }
 {
@@ -82,7 +83,7 @@ pub(crate) fn record(data: &[u8], buffer: &mut [Span]) -> Recorded
     let (kind, found) = probe(&mut source, 0);
     Recorded {
         kind,
-        answer: with_error(found, &source),
+        found,
         count: source.count,
     }
 }

@@ -10,6 +10,8 @@ ghost use Rattle.imagesize_source.specs.State.{total};
 use crate::spans::{FEW, Recorded, fill_spans, record};
 use crate::types::ImageType;
 use crate::{ImageResult, Span};
+use imagesize_source::halt::with_error;
+use imagesize_source::source::slice::SliceSource;
 use imagesize_types::size::ImageSize;
 use std::alloc::{AllocError, Allocator};
 
@@ -56,16 +58,12 @@ pub fn blob_trace<A: Allocator>(alloc: A, data: &[u8]) -> Result<Trace<A>, Alloc
         (x : List ℕ) → (meaning («data».now ++ x) 0).answer ≡ Ok size)) }
 {
     let mut first = [Span { start: 0, len: 0 }; FEW];
-    let Recorded {
-        kind,
-        answer,
-        count,
-    } = record(data, &mut first);
+    let Recorded { kind, found, count } = record(data, &mut first);
     let mut spans = empty_spans(alloc, count)?;
     fill_spans(data, &first, &mut spans);
     Ok(Trace {
         kind,
-        answer,
+        answer: with_error(found, &SliceSource { bytes: data }),
         spans,
     })
 }

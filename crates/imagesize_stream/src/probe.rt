@@ -222,15 +222,17 @@ impl StreamProbe {
         ensures unstopped { IfSome result (λ answer. is_stopped answer.1 ≡ false) }
     {
         // A size is not passed through a result that has room for an error: this saves three copies of 96 bytes.
-        match self.stage {
-            Stage::Done { size: Ok(size) } => Some((self.kind, Ok(size))),
-            Stage::Done { size: Err(halt) } => Some((self.kind, stated(Err(halt)))),
+        match &self.stage {
+            Stage::Done { size: Ok(size) } => Some((self.kind, Ok(*size))),
+            Stage::Done { size: Err(halt) } => Some((self.kind, stated(Err(*halt)))),
             _ => None,
         }
     }
 }
 
-// A result of reads, with the error of its `Halt`.
+// A result of reads, with the error of its `Halt`. Not inlined: else a size is copied in the parts that a `Halt` has.
+#[cold]
+#[inline(never)]
 fn stated(size: Result<ImageSize, Halt>) -> ImageResult<ImageSize>
     ensures { result ≡ stated size }
 {

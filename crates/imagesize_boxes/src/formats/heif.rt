@@ -10,7 +10,7 @@ ghost use Rattle.imagesize_source.specs.Reading.{bytes_read, map_answer};
 ghost use Rattle.imagesize_source.specs.State.{Follows, Runs, IsSound};
 
 use imagesize_source::readings::{
-    read_bytes, read_bytes_behind, read_if_there, read_u32, read_whole_behind,
+    read_bytes_behind, read_exact_at, read_u32, read_whole_at, read_whole_behind,
 };
 use imagesize_source::source::Source;
 use imagesize_source::walk::{Found, Records, walk};
@@ -194,7 +194,8 @@ pub fn read_box<S: Source>(
     ensures nears { IfOk result (λ found. Nears (S.state source.old) (S.state source.new) offset (said_at offset found)) }
     ensures runs { Follows (S.state source.old) (S.state source.new) (map_answer (said_at offset) result) (searched_box name.now offset) }
 {
-    let head = read_bytes::<S, 8>(source, offset)?;
+    let mut head = [0u8; 8];
+    read_exact_at(source, offset, &mut head)?;
     let size = box_size(&head);
     if is_named(&head, name) {
         return Ok(Found::Answer(FoundBox { offset, size }));
@@ -334,9 +335,10 @@ pub fn read_property<S: Source>(
     ensures fits { IfOk result (λ found. IsLeftFor left found) }
     ensures runs { Follows (S.state source.old) (S.state source.new) result (property_at left offset) }
 {
-    let Some(head) = read_if_there::<S, 8>(source, offset)? else {
+    let mut head = [0u8; 8];
+    if !read_whole_at(source, offset, &mut head)? {
         return Ok(None);
-    };
+    }
     let size = box_size(&head);
     if size < 8 {
         return if is_named(&head, b"mdat") {

@@ -3,7 +3,7 @@ ghost use Rattle.imagesize_source.specs.State.{Runs};
 ghost use Rattle.std.specs.Prelude.{◌≡◌};
 ghost use Rattle.imagesize_walked.specs.Ilbm.{chunk_bytes, chunk_length, ilbm, ilbm_chunk, is_bitmap_header, is_body, is_ilbm};
 
-use imagesize_source::readings::{read_bytes, read_u16_behind};
+use imagesize_source::readings::{read_exact_at, read_u16_behind};
 use imagesize_source::source::Source;
 use imagesize_source::walk::{Found, Records, walk};
 use imagesize_source::{Endian, Halt};
@@ -49,7 +49,8 @@ impl Records for Chunks {
         source: &mut S,
         offset: u64,
     ) -> Result<Found<(), ImageSize>, Halt> {
-        let head = read_bytes::<S, 8>(source, offset)?;
+        let mut head = [0u8; 8];
+        read_exact_at(source, offset, &mut head)?;
         if is_bitmap_header(&head) {
             let width = read_u16_behind(source, offset, 8, Endian::Big)? as usize;
             let height = read_u16_behind(source, offset, 10, Endian::Big)? as usize;

@@ -1,5 +1,5 @@
 use Rattle.std.proofs.Common.{rules, arith, ap, ◌∙◌}
-use Rattle.imagesize.proofs.Traces.{recorded_answer, recorded_count, recorded_goes, recorded_kind, recorded_spans}
+use Rattle.imagesize.proofs.Traces.{goes_on, recorded_count, recorded_found, recorded_kind, recorded_spans}
 use Rattle.imagesize_source.specs.State.{home_of}
 use Rattle.imagesize.proofs.spans.record.Goals as goal
 
@@ -8,13 +8,13 @@ returns-clause-kind c =
     recorded_kind _ _ _ _ _ _ (rw (c.new-source.ensures.bytes, c.new-source.ensures.spans) at c.probe-kind.ensures.runs) _
     (rw (c.new-source.ensures.bytes, c.new-source.ensures.spans) at c.probe-kind.ensures.kind)
 
-pub returns-clause-answer : goal.returns-clause-answer
-returns-clause-answer c = rw c.with_error.ensures
-    (recorded_answer _ _ _ _ _ _ (rw (c.new-source.ensures.bytes, c.new-source.ensures.spans) at c.probe-kind.ensures.runs) _ _)
+pub returns-clause-found : goal.returns-clause-found
+returns-clause-found c =
+    recorded_found _ _ _ _ _ _ (rw (c.new-source.ensures.bytes, c.new-source.ensures.spans) at c.probe-kind.ensures.runs)
 
 pub returns-clause-goes : goal.returns-clause-goes
-returns-clause-goes c = rw c.with_error.ensures
-    (recorded_goes _ _ _ _ _ _ (rw (c.new-source.ensures.bytes, c.new-source.ensures.spans) at c.probe-kind.ensures.runs) _ _)
+returns-clause-goes c =
+    goes_on _ _ _ _ _ _ (rw (c.new-source.ensures.bytes, c.new-source.ensures.spans) at c.probe-kind.ensures.runs)
 
 pub returns-clause-count : goal.returns-clause-count
 returns-clause-count c =

@@ -1,7 +1,9 @@
-use Rattle.std.proofs.Common.{rules, arith, ◌≡◌}
+use Rattle.std.proofs.Common.{rules, arith, ap, ◌≡◌, ◌∙◌}
 use Rattle.imagesize.specs.Meaning.{meaning}
 use Rattle.imagesize.proofs.Traces.{answer_lasts, no_marks, same, spans_cut, spans_few, spans_stated, spans_within}
 use Rattle.imagesize.proofs.Within.{front_is}
+use Rattle.imagesize_source.proofs.Halts.{stated_same}
+use Rattle.imagesize_source.specs.Outcome.{stated}
 use Rattle.imagesize.proofs.trace.blob_trace.Goals as goal
 
 pub returns-in_err-spans-clause-empty : goal.returns-in_err-spans-clause-empty
@@ -32,4 +34,4 @@ returns-clause-few g c =
     spans_few c.args.«data».now _ (front_is _ c.fill_spans.new.buffer _ _ c.fill_spans.ensures (omega (arith, c.in_ok-spans.ensures.many, c.record-kind.ensures.count)))
 
 pub returns-clause-lasts : goal.returns-clause-lasts
-returns-clause-lasts g c = answer_lasts c.args.«data».now _ c.record-kind.ensures.answer
+returns-clause-lasts g c = answer_lasts c.args.«data».now _ (c.with_error.ensures ∙ stated_same _ _ _ c.record-kind.ensures.goes ∙ ap stated c.record-kind.ensures.found)

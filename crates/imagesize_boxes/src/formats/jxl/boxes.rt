@@ -13,7 +13,7 @@ ghost use Rattle.imagesize_source.specs.Walk.{said_at};
 ghost use Rattle.imagesize_source.specs.declared.endian.Endian.TheVariants as endian;
 
 use super::front::{Front, MOST};
-use imagesize_source::readings::{read_bytes, read_bytes_behind, read_u64};
+use imagesize_source::readings::{read_bytes_behind, read_exact_at, read_u64};
 use imagesize_source::source::Source;
 use imagesize_source::walk::{Found, Records, walk};
 use imagesize_source::{Endian, Halt};
@@ -102,7 +102,8 @@ fn read_head<S: Source>(source: &mut S, offset: u64) -> Result<BoxHead, Halt>
     ensures is { IfOk result (λ head. IsHead offset head) }
     ensures runs { Follows (S.state source.old) (S.state source.new) result (box_head offset) }
 {
-    let head = read_bytes::<S, 8>(source, offset)?;
+    let mut head = [0u8; 8];
+    read_exact_at(source, offset, &mut head)?;
     let tag = tag(&head);
     match short_size(&head) {
         1 => {
