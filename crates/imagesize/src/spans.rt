@@ -6,9 +6,9 @@ ghost use Rattle.imagesize.specs.Traced.{AreWithin};
 ghost use Rattle.imagesize_source.specs.Limits.{allowance};
 ghost use Rattle.imagesize_source.specs.Reading.{is_stopped};
 
+use crate::Span;
 use crate::calls::probe;
 use crate::types::ImageType;
-use crate::Span;
 use imagesize_source::Halt;
 use imagesize_source::source::recording::RecordingSource;
 use imagesize_types::size::ImageSize;
