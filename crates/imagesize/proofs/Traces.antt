@@ -1,6 +1,5 @@
 -- What a recording slice shows of an answer.
-use Rattle.std.proofs.Common.{◌≡◌, ℕ, ◌+◌, ◌-◌, ◌^◌, ◌<◌, ◌≤◌, min, false, List, [], ◌∷◌, ◌++◌, length, take, drop, Result, Ok, IfOk, IsTrue, refl, sym, ap, ◌∙◌, subst, arith}
-use Rattle.std.proofs.lemmas.List.{take_all, take-append-le}
+use Rattle.std.proofs.Common.{◌≡◌, ℕ, ◌+◌, ◌-◌, ◌^◌, ◌<◌, ◌≤◌, min, false, List, [], ◌∷◌, ◌++◌, length, take, Result, Ok, IfOk, IsTrue, refl, sym, ap, ◌∙◌, subst, arith}
 use Rattle.std.specs.Prelude.{Option}
 use Rattle.std.specs.Result.{result_ok}
 use Rattle.imagesize.specs.Counts.{lasts_as, stated_bytes}
@@ -10,7 +9,7 @@ use Rattle.imagesize.specs.Traced.{AreWithin, IsSame}
 use Rattle.imagesize.specs.declared.types.ImageType.{ImageType}
 use Rattle.imagesize_types.specs.declared.size.ImageSize.{ImageSize}
 use Rattle.imagesize.proofs.Counts.{cost_stated, cost_within}
-use Rattle.imagesize.proofs.Endings.{never_stopped, slice_answer, slice_unstopped}
+use Rattle.imagesize.proofs.Endings.{never_stopped}
 use Rattle.imagesize.proofs.Extension.{size_lasts}
 use Rattle.imagesize.proofs.Meanings.{same_kind}
 use Rattle.imagesize.proofs.Locality.{local_kind, local_meaning}
@@ -18,8 +17,6 @@ use Rattle.imagesize.proofs.Within.{marks_few, meaning_within}
 use Rattle.imagesize_source.proofs.Agreement.{agrees_first, same_by_local}
 use Rattle.imagesize_source.proofs.Recordings.{past-recording}
 use Rattle.imagesize_source.specs.Agreement.{Agrees}
-use Rattle.imagesize_source.specs.Errors.{is_stopped as is_stopped_error}
-use Rattle.imagesize_source.specs.Halts.{with_error}
 use Rattle.imagesize_source.specs.Outcome.{outcome_of}
 use Rattle.imagesize_source.specs.Reading.{is_stopped}
 use Rattle.imagesize_source.specs.State.{State, Runs, recording_state, total}

@@ -59,8 +59,8 @@ pub(crate) fn fill_spans(data: &[u8], first: &[Span], buffer: &mut [Span])
     }
 }
 
-// What a slice holds, and how many spans its reads have. The error of a `Halt` is left to the caller: a size in a result that
-// has room for it is copied in parts, each of which waits for the part before.
+// What a slice holds, and how many spans its reads have. The caller makes the error of a `Halt`: in a result with room for an
+// error, a size is copied in parts, and a load of the whole waits for all of them.
 #[derive(Drop)]
 pub(crate) struct Recorded {
     pub(crate) kind: Option<ImageType>,

@@ -180,6 +180,7 @@ impl<R: Read + Seek + Drop> Told for BufReader<R> {
         Some(count)
     }
 
+    // Inlined, so that no result with room for an error is built.
     #[inline(always)]
     fn seek_told(&mut self, to: SeekFrom) -> io::Result<u64>
         ensures seeks { SeekMoves (reader_position R.stream_position self.old) (reader_position R.stream_position self.new)

@@ -112,10 +112,6 @@ pub rests_below : (front chunk : List ℕ) (told : ℕ) → RestsOnMore (front +
 rests_below front chunk told rests d begins as_long below =
     rests d begins as_long (λ p here. omega (arith, below p here, length-append front chunk))
 
--- the same of a later stage
-pub awaiting_as : (P : Type 0) (stage other : Stage) → stage ≡ other → IfAwaiting other P → IfAwaiting stage P
-awaiting_as P stage other is p = subst (λ s. IfAwaiting s P) (sym is) p
-
 -- whether or not there is an answer
 pub tells_all : (kind : Option ImageType) (stage : Stage) (start offset passed told was : ℕ) (buffer front : List ℕ)
     (answer : Option (Option ImageType × Result ImageSize ImageError)) → answer ≡ stage_answer kind stage → told ≡ was

@@ -230,7 +230,8 @@ impl StreamProbe {
     }
 }
 
-// A result of reads, with the error of its `Halt`. Not inlined: else a size is copied in the parts that a `Halt` has.
+// A result of reads, with the error of its `Halt`. Few pushes end in an error. Not inlined: else a size is copied in the parts
+// that a `Halt` has, and a load of the whole waits for all of them.
 #[cold]
 #[inline(never)]
 fn stated(size: Result<ImageSize, Halt>) -> ImageResult<ImageSize>

@@ -194,6 +194,7 @@ pub fn read_box<S: Source>(
     ensures nears { IfOk result (λ found. Nears (S.state source.old) (S.state source.new) offset (said_at offset found)) }
     ensures runs { Follows (S.state source.old) (S.state source.new) (map_answer (said_at offset) result) (searched_box name.now offset) }
 {
+    // Read into a buffer: bytes returned in a result are copied in parts, and a load of the whole waits for all of them.
     let mut head = [0u8; 8];
     read_exact_at(source, offset, &mut head)?;
     let size = box_size(&head);
@@ -335,6 +336,7 @@ pub fn read_property<S: Source>(
     ensures fits { IfOk result (λ found. IsLeftFor left found) }
     ensures runs { Follows (S.state source.old) (S.state source.new) result (property_at left offset) }
 {
+    // Read into a buffer, as in `read_box`.
     let mut head = [0u8; 8];
     if !read_whole_at(source, offset, &mut head)? {
         return Ok(None);

@@ -49,6 +49,7 @@ impl Records for Chunks {
         source: &mut S,
         offset: u64,
     ) -> Result<Found<(), ImageSize>, Halt> {
+        // Read into a buffer: bytes returned in a result are copied in parts, and a load of the whole waits for all of them.
         let mut head = [0u8; 8];
         read_exact_at(source, offset, &mut head)?;
         if is_bitmap_header(&head) {

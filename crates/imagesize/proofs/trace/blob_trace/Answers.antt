@@ -1,5 +1,4 @@
 use Rattle.std.proofs.Common.{rules, arith, ap, ◌≡◌, ◌∙◌}
-use Rattle.imagesize.specs.Meaning.{meaning}
 use Rattle.imagesize.proofs.Traces.{answer_lasts, no_marks, same, spans_cut, spans_few, spans_stated, spans_within}
 use Rattle.imagesize.proofs.Within.{front_is}
 use Rattle.imagesize_source.proofs.Halts.{stated_same}

@@ -102,6 +102,7 @@ fn read_head<S: Source>(source: &mut S, offset: u64) -> Result<BoxHead, Halt>
     ensures is { IfOk result (λ head. IsHead offset head) }
     ensures runs { Follows (S.state source.old) (S.state source.new) result (box_head offset) }
 {
+    // Read into a buffer: bytes returned in a result are copied in parts, and a load of the whole waits for all of them.
     let mut head = [0u8; 8];
     read_exact_at(source, offset, &mut head)?;
     let tag = tag(&head);
