@@ -166,21 +166,24 @@ impl Awaited {
         ensures stays { IfErr result (λ _. self.new ≡ self.old) }
         ensures runs { Follows (S.state source.old) (S.state source.new) (map_answer (said_at offset) (leading_to self.new result)) (step self.old offset) }
     {
-        match *self {
-            Awaited::Segment { depth } => read_segment(self, source, offset, depth),
+        match self {
+            Awaited::Segment { depth } => read_segment(depth, source, offset),
             Awaited::Chunk => read_same(&mut Chunks, source, offset),
             Awaited::Icon {
                 count,
                 seen,
                 largest,
-            } => read_icon(self, source, offset, count, seen, largest),
-            Awaited::Directory { header } => read_directory(self, source, offset, header),
-            Awaited::Entry(listed) => read_entry(self, source, offset, listed),
+            } => read_icon(*count, seen, largest, source, offset),
+            Awaited::Directory { header } => {
+                let header = *header;
+                read_directory(self, source, offset, header)
+            }
+            Awaited::Entry(listed) => read_entry(listed, source, offset),
             Awaited::Meta => read_meta(self, source, offset),
             Awaited::Iprp => read_iprp(self, source, offset),
             Awaited::Ipco => read_ipco(self, source, offset),
-            Awaited::Property(gathered) => read_listed(self, source, offset, gathered),
-            Awaited::Box(kept) => read_jxl_box(self, source, offset, kept),
+            Awaited::Property(gathered) => read_listed(gathered, source, offset),
+            Awaited::Box(kept) => read_jxl_box(kept, source, offset),
             _ => unreachable!(),
         }
     }
@@ -215,24 +218,21 @@ fn read_same<R: Records<Held = (), Answer = ImageSize>, S: Source>(
 }
 
 fn read_segment<S: Source>(
-    next: &mut Awaited,
+    depth: &mut u64,
     source: &mut S,
     offset: u64,
-    depth: u64,
 ) -> Result<Found<(), ImageSize>, Halt>
-    requires { depth < offset }
-    ensures nears { IfOk (leading_to next.new result) (λ found. Nears (S.state source.old) (S.state source.new) offset (said_at offset found)) }
-    ensures steady { IfOk (leading_to next.new result) (λ found. StaysSteady false (said_at offset found)) }
-    ensures stays { IfErr result (λ _. next.new ≡ next.old) }
-    ensures runs { Follows (S.state source.old) (S.state source.new) (map_answer (said_at offset) (leading_to next.new result)) (step (awaited.Segment depth) offset) }
+    requires { depth.old < offset }
+    ensures nears { IfOk (leading_to (awaited.Segment depth.new) result) (λ found. Nears (S.state source.old) (S.state source.new) offset (said_at offset found)) }
+    ensures steady { IfOk (leading_to (awaited.Segment depth.new) result) (λ found. StaysSteady false (said_at offset found)) }
+    ensures stays { IfErr result (λ _. depth.new ≡ depth.old) }
+    ensures runs { Follows (S.state source.old) (S.state source.new) (map_answer (said_at offset) (leading_to (awaited.Segment depth.new) result)) (step (awaited.Segment depth.old) offset) }
 {
-    let mut segments = Segments { depth };
+    let mut segments = Segments { depth: *depth };
     match segments.read_segment(source, offset)? {
         Found::Answer(size) => Ok(Found::Answer(size)),
         Found::Other { length, .. } => {
-            *next = Awaited::Segment {
-                depth: segments.depth,
-            };
+            *depth = segments.depth;
             Ok(Found::Other { held: (), length })
         }
     }
@@ -350,33 +350,29 @@ fn read_height<S: Source>(
 }
 
 fn read_icon<S: Source>(
-    next: &mut Awaited,
+    count: u16,
+    seen: &mut u16,
+    largest: &mut Option<ImageSize>,
     source: &mut S,
     offset: u64,
-    count: u16,
-    seen: u16,
-    largest: Option<ImageSize>,
 ) -> Result<Found<(), ImageSize>, Halt>
-    requires seen { seen ≤ count }
-    requires small { IsSmall largest }
-    ensures nears { IfOk (leading_to next.new result) (λ found. Nears (S.state source.old) (S.state source.new) offset (said_at offset found)) }
-    ensures steady { IfOk (leading_to next.new result) (λ found. StaysSteady false (said_at offset found)) }
-    ensures stays { IfErr result (λ _. next.new ≡ next.old) }
-    ensures runs { Follows (S.state source.old) (S.state source.new) (map_answer (said_at offset) (leading_to next.new result)) (step (awaited.Icon count seen largest) offset) }
+    requires seen { seen.old ≤ count }
+    requires small { IsSmall largest.old }
+    ensures nears { IfOk (leading_to (awaited.Icon count seen.new largest.new) result) (λ found. Nears (S.state source.old) (S.state source.new) offset (said_at offset found)) }
+    ensures steady { IfOk (leading_to (awaited.Icon count seen.new largest.new) result) (λ found. StaysSteady false (said_at offset found)) }
+    ensures stays { IfErr result (λ _. (seen.new ≡ seen.old) × (largest.new ≡ largest.old)) }
+    ensures runs { Follows (S.state source.old) (S.state source.new) (map_answer (said_at offset) (leading_to (awaited.Icon count seen.new largest.new) result)) (step (awaited.Icon count seen.old largest.old) offset) }
 {
     let mut icons = Icons {
         count,
-        seen,
-        largest,
+        seen: *seen,
+        largest: *largest,
     };
     match icons.read_icon(source, offset)? {
         Found::Answer(size) => Ok(Found::Answer(size)),
         Found::Other { length, .. } => {
-            *next = Awaited::Icon {
-                count,
-                seen: icons.seen,
-                largest: icons.largest,
-            };
+            *seen = icons.seen;
+            *largest = icons.largest;
             Ok(Found::Other { held: (), length })
         }
     }
@@ -432,62 +428,49 @@ fn read_long<S: Source>(source: &mut S, offset: u64, order: Endian) -> Result<u6
 }
 
 fn read_entry<S: Source>(
-    next: &mut Awaited,
+    listed: &mut Listed,
     source: &mut S,
     offset: u64,
-    listed: Listed,
 ) -> Result<Found<(), ImageSize>, Halt>
-    requires { listed.seen ≤ listed.count }
-    ensures nears { IfOk (leading_to next.new result) (λ found. Nears (S.state source.old) (S.state source.new) offset (said_at offset found)) }
-    ensures steady { IfOk (leading_to next.new result) (λ found. StaysSteady false (said_at offset found)) }
-    ensures stays { IfErr result (λ _. next.new ≡ next.old) }
-    ensures runs { Follows (S.state source.old) (S.state source.new) (map_answer (said_at offset) (leading_to next.new result)) (step (awaited.Entry listed) offset) }
+    requires { listed.old.seen ≤ listed.old.count }
+    ensures nears { IfOk (leading_to (awaited.Entry listed.new) result) (λ found. Nears (S.state source.old) (S.state source.new) offset (said_at offset found)) }
+    ensures steady { IfOk (leading_to (awaited.Entry listed.new) result) (λ found. StaysSteady false (said_at offset found)) }
+    ensures stays { IfErr result (λ _. listed.new ≡ listed.old) }
+    ensures runs { Follows (S.state source.old) (S.state source.new) (map_answer (said_at offset) (leading_to (awaited.Entry listed.new) result)) (step (awaited.Entry listed.old) offset) }
 {
     match listed.header.version {
-        Version::Tiff => read_entry_of::<S, 8, 4>(next, source, offset, listed),
-        Version::BigTiff => read_entry_of::<S, 12, 8>(next, source, offset, listed),
+        Version::Tiff => read_entry_of::<S, 8, 4>(listed, source, offset),
+        Version::BigTiff => read_entry_of::<S, 12, 8>(listed, source, offset),
     }
 }
 
 // Reads an entry with a head of `HEAD` bytes and a value of `VALUE` bytes.
 fn read_entry_of<S: Source, const HEAD: usize, const VALUE: usize>(
-    next: &mut Awaited,
+    listed: &mut Listed,
     source: &mut S,
     offset: u64,
-    listed: Listed,
 ) -> Result<Found<(), ImageSize>, Halt>
-    requires few { listed.seen ≤ listed.count }
-    requires head { HEAD ≡ head_bytes listed.header.version }
-    requires value { VALUE ≡ value_bytes listed.header.version }
-    ensures nears { IfOk (leading_to next.new result) (λ found. Nears (S.state source.old) (S.state source.new) offset (said_at offset found)) }
-    ensures steady { IfOk (leading_to next.new result) (λ found. StaysSteady false (said_at offset found)) }
-    ensures stays { IfErr result (λ _. next.new ≡ next.old) }
-    ensures runs { Follows (S.state source.old) (S.state source.new) (map_answer (said_at offset) (leading_to next.new result)) (step (awaited.Entry listed) offset) }
+    requires few { listed.old.seen ≤ listed.old.count }
+    requires head { HEAD ≡ head_bytes listed.old.header.version }
+    requires value { VALUE ≡ value_bytes listed.old.header.version }
+    ensures nears { IfOk (leading_to (awaited.Entry listed.new) result) (λ found. Nears (S.state source.old) (S.state source.new) offset (said_at offset found)) }
+    ensures steady { IfOk (leading_to (awaited.Entry listed.new) result) (λ found. StaysSteady false (said_at offset found)) }
+    ensures stays { IfErr result (λ _. listed.new ≡ listed.old) }
+    ensures runs { Follows (S.state source.old) (S.state source.new) (map_answer (said_at offset) (leading_to (awaited.Entry listed.new) result)) (step (awaited.Entry listed.old) offset) }
 {
-    let Listed {
-        header,
-        count,
-        seen,
-        width,
-        height,
-    } = listed;
     let mut entries = Entries::<HEAD, VALUE> {
-        header,
-        count,
-        seen,
-        width,
-        height,
+        header: listed.header,
+        count: listed.count,
+        seen: listed.seen,
+        width: listed.width,
+        height: listed.height,
     };
     match entries.read_next(source, offset)? {
         Found::Answer(size) => Ok(Found::Answer(size)),
         Found::Other { length, .. } => {
-            *next = Awaited::Entry(Listed {
-                header,
-                count,
-                seen: entries.seen,
-                width: entries.width,
-                height: entries.height,
-            });
+            listed.seen = entries.seen;
+            listed.width = entries.width;
+            listed.height = entries.height;
             Ok(Found::Other { held: (), length })
         }
     }
@@ -579,20 +562,19 @@ fn read_ipco<S: Source>(
 
 #[tactic(auto, using(imagesize_source::proofs::Runs::steps, imagesize_source::proofs::Layouts::binding))]
 fn read_listed<S: Source>(
-    next: &mut Awaited,
+    gathered: &mut Gathered,
     source: &mut S,
     offset: u64,
-    gathered: Gathered,
 ) -> Result<Found<(), ImageSize>, Halt>
-    ensures nears { IfOk (leading_to next.new result) (λ found. Nears (S.state source.old) (S.state source.new) offset (said_at offset found)) }
-    ensures steady { IfOk (leading_to next.new result) (λ found. StaysSteady false (said_at offset found)) }
-    ensures stays { IfErr result (λ _. next.new ≡ next.old) }
-    ensures runs { Follows (S.state source.old) (S.state source.new) (map_answer (said_at offset) (leading_to next.new result)) (step (awaited.Property gathered) offset) }
+    ensures nears { IfOk (leading_to (awaited.Property gathered.new) result) (λ found. Nears (S.state source.old) (S.state source.new) offset (said_at offset found)) }
+    ensures steady { IfOk (leading_to (awaited.Property gathered.new) result) (λ found. StaysSteady false (said_at offset found)) }
+    ensures stays { IfErr result (λ _. gathered.new ≡ gathered.old) }
+    ensures runs { Follows (S.state source.old) (S.state source.new) (map_answer (said_at offset) (leading_to (awaited.Property gathered.new) result)) (step (awaited.Property gathered.old) offset) }
 {
     let Some(property) = heif::read_property(source, offset, gathered.left)? else {
-        return Ok(Found::Answer(heif::answer(gathered)?));
+        return Ok(Found::Answer(heif::answer(*gathered)?));
     };
-    *next = Awaited::Property(heif::gather(gathered, property));
+    *gathered = heif::gather(*gathered, property);
     Ok(Found::Other {
         held: (),
         length: heif::property_bytes(property),
@@ -611,16 +593,15 @@ pub(crate) fn keep(front: &Front) -> Kept
 }
 
 fn read_jxl_box<S: Source>(
-    next: &mut Awaited,
+    kept: &mut Kept,
     source: &mut S,
     offset: u64,
-    kept: Kept,
 ) -> Result<Found<(), ImageSize>, Halt>
-    requires { kept.len ≤ 16 }
-    ensures nears { IfOk (leading_to next.new result) (λ found. Nears (S.state source.old) (S.state source.new) offset (said_at offset found)) }
-    ensures steady { IfOk (leading_to next.new result) (λ found. StaysSteady false (said_at offset found)) }
-    ensures stays { IfErr result (λ _. next.new ≡ next.old) }
-    ensures runs { Follows (S.state source.old) (S.state source.new) (map_answer (said_at offset) (leading_to next.new result)) (step (awaited.Box kept) offset) }
+    requires { kept.old.len ≤ 16 }
+    ensures nears { IfOk (leading_to (awaited.Box kept.new) result) (λ found. Nears (S.state source.old) (S.state source.new) offset (said_at offset found)) }
+    ensures steady { IfOk (leading_to (awaited.Box kept.new) result) (λ found. StaysSteady false (said_at offset found)) }
+    ensures stays { IfErr result (λ _. kept.new ≡ kept.old) }
+    ensures runs { Follows (S.state source.old) (S.state source.new) (map_answer (said_at offset) (leading_to (awaited.Box kept.new) result)) (step (awaited.Box kept.old) offset) }
 {
     let mut front = Front::of(kept.bytes, kept.len);
     match jxl::boxes::read_box(source, offset, &front)? {
@@ -630,7 +611,7 @@ fn read_jxl_box<S: Source>(
         }
         Found::Other { held, length } => {
             front.extend(held.as_slice());
-            *next = Awaited::Box(keep(&front));
+            *kept = keep(&front);
             Ok(Found::Other { held: (), length })
         }
     }

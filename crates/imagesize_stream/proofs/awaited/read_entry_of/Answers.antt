@@ -9,21 +9,21 @@ use Rattle.imagesize_stream.proofs.awaited.read_entry_of.Goals as goal
 
 pub returns-in_err-size-clause-runs : goal.returns-in_err-size-clause-runs
 returns-in_err-size-clause-runs g c =
-    let l = c.args.listed in
+    let l = c.args.listed.now in
     let h = runs_off (entry_behind l.header l.count l.seen l.width l.height c.args.offset)
     (after (λ entry. Entry (listed_with l entry)) decides) _ c.in_err-size.ensures.runs in
     search (rules, h)
 
 pub returns-in-Answer-clause-runs : goal.returns-in-Answer-clause-runs
 returns-in-Answer-clause-runs g c =
-    let l = c.args.listed in
+    let l = c.args.listed.now in
     runs_on (entry_behind l.header l.count l.seen l.width l.height c.args.offset)
     (after (λ entry. Entry (listed_with l entry)) decides) (Decided c.in-Answer.size) _ refl
     (rw c.in-Answer.is at c.in_ok-size.ensures.runs)
 
 pub returns-in-Other-clause-runs : goal.returns-in-Other-clause-runs
 returns-in-Other-clause-runs g c =
-    let l = c.args.listed in let new = c.read_next.new.self in
+    let l = c.args.listed.now in let new = c.read_next.new.self in
     let on = rw c.in-Other.is at c.in_ok-size.ensures.on in
     runs_on (entry_behind l.header l.count l.seen l.width l.height c.args.offset)
     (after (λ entry. Entry (listed_with l entry)) decides)

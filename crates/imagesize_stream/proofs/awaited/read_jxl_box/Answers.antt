@@ -9,7 +9,7 @@ use Rattle.imagesize_stream.proofs.awaited.read_jxl_box.Goals as goal
 
 pub returns-in_err-whole-clause-runs : goal.returns-in_err-whole-clause-runs
 returns-in_err-whole-clause-runs g c =
-    let k = c.args.kept in
+    let k = c.args.kept.now in
     let run = rw c.of-front.ensures at c.in_err-whole.ensures.runs in
     let h = runs_off (jxl_box (kept_front k) c.args.offset)
     (after (λ piece. Box (kept_of (kept_front k ++ piece))) jxl_verdict) _ run in
@@ -17,7 +17,7 @@ returns-in_err-whole-clause-runs g c =
 
 pub returns-in_err-size-in-Answer-clause-runs : goal.returns-in_err-size-in-Answer-clause-runs
 returns-in_err-size-in-Answer-clause-runs g c =
-    let k = c.args.kept in
+    let k = c.args.kept.now in
     let run = rw (c.in-Answer.is, c.of-front.ensures) at c.in_ok-whole.ensures.runs in
     let h = runs_sized (jxl_box (kept_front k) c.args.offset)
     (after (λ piece. Box (kept_of (kept_front k ++ piece))) jxl_verdict)
@@ -27,7 +27,7 @@ returns-in_err-size-in-Answer-clause-runs g c =
 
 pub returns-in_ok-size-in-Answer-clause-runs : goal.returns-in_ok-size-in-Answer-clause-runs
 returns-in_ok-size-in-Answer-clause-runs g c =
-    let k = c.args.kept in
+    let k = c.args.kept.now in
     let run = rw (c.in-Answer.is, c.of-front.ensures) at c.in_ok-whole.ensures.runs in
     runs_sized (jxl_box (kept_front k) c.args.offset)
     (after (λ piece. Box (kept_of (kept_front k ++ piece))) jxl_verdict)
@@ -36,7 +36,7 @@ returns-in_ok-size-in-Answer-clause-runs g c =
 
 pub returns-in-Other-clause-runs : goal.returns-in-Other-clause-runs
 returns-in-Other-clause-runs g c =
-    let k = c.args.kept in
+    let k = c.args.kept.now in
     let run = rw (c.in-Other.is, c.of-front.ensures) at c.in_ok-whole.ensures.runs in
     let same : c.keep.result ≡ kept_of (kept_front k ++ c.in-Other.held) =
     c.keep.ensures.is ∙ ap kept_of (c.extend.ensures ∙ ap (λ f. f ++ c.as_slice.result.now) c.of-front.ensures
