@@ -41,7 +41,7 @@ ended_more : (t : Text) (xs ys : List ℕ) → is_ended t xs ≡ true → is_end
 ended_more t xs ys is = sym (front_any t (xs ++ ys)) ∙ ap (is_ended t) (front_more t xs ys is) ∙ front_any t xs ∙ is
 
 -- one that is not ended goes on behind its bytes
-goes_behind : (t : Text) (xs ys : List ℕ) → is_ended t xs ≡ false → 0 < length ys
+pub goes_behind : (t : Text) (xs ys : List ℕ) → is_ended t xs ≡ false → 0 < length ys
     → length xs < length (text_front t (xs ++ ys))
 goes_behind t xs ys still some = by_length (cases_lt (length xs) m) where
   m : ℕ

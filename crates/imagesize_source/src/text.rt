@@ -86,16 +86,6 @@ fn first_white(bytes: &[u8]) -> Option<usize>
     bytes.iter().position(|byte| byte.is_ascii_whitespace())
 }
 
-/// Whether one of the bytes ends the text at their front.
-pub(crate) fn is_closed(text: Text, bytes: &[u8]) -> bool
-    ensures { result ≡ is_ended text bytes.now }
-{
-    match ended_length(text, bytes) {
-        Some(_) => true,
-        None => false,
-    }
-}
-
 /// Whether a byte ends the text. `begun` says whether a byte other than white space came before it.
 pub fn is_end(text: Text, begun: bool, byte: u8) -> bool
     ensures { result ≡ ends text begun byte }

@@ -7,12 +7,12 @@ ghost use Rattle.imagesize_source.specs.Input.{part, span_at};
 ghost use Rattle.imagesize_source.specs.Known.{AllKnown, Lacks, filled_input, byte_in_parts, parts_state, length_within};
 ghost use Rattle.imagesize_source.specs.Reading.{part_read, text_read, map_answer};
 ghost use Rattle.imagesize_source.specs.State.{Runs};
-ghost use Rattle.imagesize_source.specs.Text.{is_ended};
+ghost use Rattle.imagesize_source.specs.Text.{is_ended, text_front};
 
 use super::Source;
 use super::log::SpanLog;
 use crate::part::{copy_ended, part_of};
-use crate::text::{is_closed, text_length};
+use crate::text::ended_length;
 use crate::{Halt, ImageError, Reason, Span, Text};
 
 /// What a read misses, from its first unknown byte on.
@@ -188,10 +188,9 @@ impl<'a> PartsSource<'a> {
             (text_read (filled_input self.old.told self.old.spans.now self.old.bytes.now) text offset (length buffer.new)) }
     {
         let (found, wanted) = self.fill_known(offset, buffer);
-        if is_cut(text, &buffer[..found], wanted) {
+        let Some(count) = uncut_length(text, &buffer[..found], wanted) else {
             return Err(self.miss(offset, found, 1, wanted - found));
-        }
-        let count = text_length(text, &buffer[..found]);
+        };
         self.see(offset, count);
         Ok(count)
     }
@@ -262,11 +261,20 @@ pub fn count_there(told: u64, offset: u64, buffer: usize) -> usize
     }
 }
 
-/// Whether the text may go on after these bytes, within the input.
-pub fn is_cut(text: Text, bytes: &[u8], wanted: usize) -> bool
-    ensures { result ≡ (nat_lt (length bytes.now) wanted && not (is_ended text bytes.now)) }
+/// How many bytes the text at the front of the bytes has. `None` if it may go on after them: none of them ends it, and the read
+/// requests more.
+#[tactic(auto, using(crate::proofs::Texts::fronts))]
+pub fn uncut_length(text: Text, bytes: &[u8], wanted: usize) -> Option<usize>
+    ensures within { IfSome result (λ n. n ≤ length bytes.now) }
+    ensures length { IfSome result (λ n. n ≡ length (text_front text bytes.now)) }
+    ensures uncut { IfSome result (λ _. (nat_lt (length bytes.now) wanted && not (is_ended text bytes.now)) ≡ false) }
+    ensures cut { result ≡ None → (nat_lt (length bytes.now) wanted && not (is_ended text bytes.now)) ≡ true }
 {
-    bytes.len() < wanted && !is_closed(text, bytes)
+    match ended_length(text, bytes) {
+        Some(length) => Some(length),
+        None if bytes.len() < wanted => None,
+        None => Some(bytes.len()),
+    }
 }
 
 // Copies the known bytes of a read into the buffer, up to the first missing byte, and returns how many it copied.
