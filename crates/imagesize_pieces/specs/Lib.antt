@@ -1,2 +1,3 @@
+pub mod Pending
 pub mod Standing
 pub mod Stream

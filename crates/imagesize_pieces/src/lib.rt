@@ -3,6 +3,7 @@
 
 pub mod buffer;
 pub mod front;
+pub mod pending;
 pub mod source;
 pub mod stand;
 pub mod walk;

@@ -12,8 +12,7 @@ use crate::buffer::bytes_behind;
 use imagesize_source::part::copy_ended;
 use imagesize_source::source::Source;
 use imagesize_source::source::log::SpanLog;
-use imagesize_source::source::parts::{Missing, count_there, is_cut, put};
-use imagesize_source::text::text_length;
+use imagesize_source::source::parts::{Missing, count_there, put, uncut_length};
 use imagesize_source::{Halt, ImageError, Reason, Span, Text};
 
 /// The bytes from an offset on: the kept ones, and those of the next chunk after them. The input may have more.
@@ -221,11 +220,10 @@ impl<'a> StreamSource<'a> {
             (text_read (stream_input self.old.told self.old.start self.old.kept.now self.old.chunk.now) text offset (length buffer.new)) }
     {
         let (found, wanted) = self.fill_known(offset, buffer);
-        if is_cut(text, &buffer[..found], wanted) {
+        let Some(count) = uncut_length(text, &buffer[..found], wanted) else {
             self.miss(offset, found, 1, wanted - found);
             return None;
-        }
-        let count = text_length(text, &buffer[..found]);
+        };
         self.see(offset, count);
         Some(count)
     }

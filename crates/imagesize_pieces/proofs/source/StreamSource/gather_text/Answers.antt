@@ -1,18 +1,18 @@
-use Rattle.std.proofs.Common.{◌-◌, ◌+◌, ◌∙◌, refl, ◌++◌}
+use Rattle.std.proofs.Common.{◌-◌, ◌+◌, refl, sym, ◌++◌}
 use Rattle.imagesize_pieces.specs.Stream.{came}
 use Rattle.imagesize_pieces.proofs.Streaming.{run_is, both_bytes}
 use Rattle.imagesize_source.proofs.KnownReadings.{cut_is, parts_text, parts_text_missing, state_is}
 use Rattle.imagesize_pieces.proofs.source.StreamSource.gather_text.Goals as goal
 
-pub returns-then-is_cut-clause-runs : goal.returns-then-is_cut-clause-runs
-returns-then-is_cut-clause-runs c =
+pub returns-in_default-clause-runs : goal.returns-in_default-clause-runs
+returns-in_default-clause-runs c =
     let s = c.args.self.now in
     let f = c.fill_known-found in
     (parts_text_missing s.told (came s.start s.kept.now s.chunk.now) (s.kept.now ++ s.chunk.now) s.log.spans s.missed _
     c.args.text f.new.buffer c.args.offset _ f.result.1 f.result.0
     (record { start = c.args.offset + f.result.0; sure = 1; most = f.result.1 - f.result.0 })
     f.ensures.wanted f.ensures.within f.ensures.copied (cut_is f.new.buffer f.result.0 f.result.1 c.args.offset s.told _ _
-    f.ensures.wanted f.ensures.within c.is_cut.ensures ∙ c.if-is_cut.true) refl refl refl
+    f.ensures.wanted f.ensures.within (sym (c.in_default.ensures.cut refl))) refl refl refl
     (state_is _ _ _ _ _ _ _ _ _ _ c.miss.ensures.told
     (run_is c.miss.ensures.start c.miss.ensures.kept c.miss.ensures.chunk)
     (both_bytes c.miss.ensures.kept c.miss.ensures.chunk) c.miss.ensures.seen c.miss.ensures.missed))
@@ -23,9 +23,9 @@ returns-clause-runs c =
     let f = c.fill_known-found in
     parts_text s.told (came s.start s.kept.now s.chunk.now)
     (s.kept.now ++ s.chunk.now) s.log.spans s.missed _ c.args.text f.new.buffer c.args.offset
-    f.result.1 f.result.0 c.text_length-count.result f.ensures.wanted f.ensures.within f.ensures.copied
-    (cut_is f.new.buffer f.result.0 f.result.1 c.args.offset s.told _ _ f.ensures.wanted f.ensures.within c.is_cut.ensures
-    ∙ c.if-is_cut.false)
-    c.text_length-count.ensures.length
+    f.result.1 f.result.0 c.in-Some.count f.ensures.wanted f.ensures.within f.ensures.copied
+    (cut_is f.new.buffer f.result.0 f.result.1 c.args.offset s.told _ _ f.ensures.wanted f.ensures.within
+    (sym c.in-Some.ensures.uncut))
+    c.in-Some.ensures.length
     (state_is _ _ _ _ _ _ _ _ _ _ c.see.ensures.told (run_is c.see.ensures.start c.see.ensures.kept c.see.ensures.chunk)
     (both_bytes c.see.ensures.kept c.see.ensures.chunk) c.see.ensures.seen c.see.ensures.missed)
