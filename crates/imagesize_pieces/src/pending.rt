@@ -43,11 +43,23 @@ pub fn keep_pending(
     if !is_pending(text, *searched, &buffer[..kept], more) {
         return false;
     }
-    buffer[kept..count].copy_from_slice(more);
+    append(buffer, kept, more);
     stand.passed = passed;
     stand.end = (stand.start + most as u64).min(stand.told);
     *searched = count;
     true
+}
+
+// Stores the bytes in the buffer from an index on. A single byte is stored without a call.
+#[inline(always)]
+fn append(buffer: &mut [u8], index: usize, more: &[u8])
+    requires { index + length more.now ≤ length buffer.old }
+    ensures { take (index + length more.now) buffer.new ≡ take index buffer.old ++ more.now }
+{
+    match more {
+        [byte] => buffer[index] = *byte,
+        _ => buffer[index..index + more.len()].copy_from_slice(more),
+    }
 }
 
 // Whether neither the kept bytes nor the chunk after them end the text. The first `searched` bytes do not.

@@ -101,7 +101,7 @@ pub word_front : (b : ℕ) (bs : List ℕ)
 unfolding text_front cut_at
 word_front b bs = skip-cons is_ascii_whitespace b bs
 
-word_ended : (b : ℕ) (bs : List ℕ) → is_ended Word (b ∷ bs) ≡ cond (is_ascii_whitespace b) (is_ended Word bs)
+pub word_ended : (b : ℕ) (bs : List ℕ) → is_ended Word (b ∷ bs) ≡ cond (is_ascii_whitespace b) (is_ended Word bs)
     (list_any is_ascii_whitespace bs)
 unfolding is_ended
 word_ended b bs = any-cons is_ascii_whitespace b bs
@@ -110,7 +110,7 @@ pub no_front : text_front Word [] ≡ []
 unfolding text_front
 no_front = refl
 
-no_end : is_ended Word [] ≡ false
+pub no_end : is_ended Word [] ≡ false
 unfolding is_ended
 no_end = refl
 

@@ -52,6 +52,17 @@ begins_less d e told p q less begins =
     begins_left (take p d) (take (q - p) (drop p d)) told e
     (subst (λ xs. Begins xs told e) (ap (λ k. take k d) (sym more) ∙ take-add p (q - p) d) begins)
 
+-- what is left of the first bytes
+pub dropped : (n k : ℕ) (xs : List ℕ) → drop k (take n xs) ≡ take (n - k) (drop k xs)
+dropped n k xs = by_cases (cases_lt n k) where
+  by_cases : (n < k) ⊎ (k ≤ n) → drop k (take n xs) ≡ take (n - k) (drop k xs)
+  by_cases (inr some) =
+      let all : k + (n - k) ≡ n = omega (arith, some) in
+      ap (λ m. drop k (take m xs)) (sym all) ∙ drop-take k (n - k) xs
+  by_cases (inl few) =
+      let none : n - k ≡ 0 = omega (arith, few) in
+      drop_all k (take n xs) (omega (arith, few, length-take n xs)) ∙ ap (λ m. take m (drop k xs)) (sym none)
+
 -- bytes that were given from an earlier offset on
 pub given_later : (d bytes : List ℕ) (offset p : ℕ) → offset ≤ p → p ≤ length d → HasPart d offset bytes
     → HasPart d p (drop (p - offset) bytes)
@@ -67,16 +78,6 @@ given_later d bytes offset p before within has =
     ∙ dropped (length bytes) k (drop offset d)
     ∙ ap (λ n. take n (drop k (drop offset d))) (sym many)
     ∙ ap (take (length (drop k bytes))) (drop-drop k offset d ∙ ap (λ n. drop n d) back)
-  where
-    dropped : (n k : ℕ) (xs : List ℕ) → drop k (take n xs) ≡ take (n - k) (drop k xs)
-    dropped n k xs = by_cases (cases_lt n k) where
-      by_cases : (n < k) ⊎ (k ≤ n) → drop k (take n xs) ≡ take (n - k) (drop k xs)
-      by_cases (inr some) =
-          let all : k + (n - k) ≡ n = omega (arith, some) in
-          ap (λ m. drop k (take m xs)) (sym all) ∙ drop-take k (n - k) xs
-      by_cases (inl few) =
-          let none : n - k ≡ 0 = omega (arith, few) in
-          drop_all k (take n xs) (omega (arith, few, length-take n xs)) ∙ ap (λ m. take m (drop k xs)) (sym none)
 
 -- those of the last bytes that came, where the last that came are kept
 pub footer_left : (d buffer : List ℕ) (passed told : ℕ) → length d ≡ told → 18 ≤ passed → passed ≤ told

@@ -1,5 +1,6 @@
 pub mod Behind
 pub mod Skipping
+pub mod Unfinished
 pub mod Steps
 pub mod Running
 pub mod Firsts

@@ -1,9 +1,10 @@
 -- What a probe that is given parts requests next.
-use Rattle.std.proofs.Common.{◌≡◌, ℕ, ◌+◌, ◌-◌, ◌<◌, ◌≤◌, min, Option, None, Some, Result, IfSome, refl, sym, ◌∙◌, arith}
+use Rattle.std.proofs.Common.{◌≡◌, ℕ, ◌+◌, ◌-◌, ◌<◌, ◌≤◌, min, Option, None, Some, Result, IfSome, refl, sym, ap, ◌∙◌, arith}
 use Rattle.imagesize.specs.declared.types.ImageType.{ImageType}
 use Rattle.imagesize_pieces.specs.declared.stand.Stand.{Stand}
 use Rattle.imagesize_source.specs.declared.error.ImageError.{ImageError}
-use Rattle.imagesize.specs.Parted.{IfWanted}
+use Rattle.imagesize.specs.Parted.{IfFound, IfWanted}
+use Rattle.imagesize.specs.declared.parts.PartsAnswer.TheVariants.{Found}
 use Rattle.imagesize_stream.specs.Parts.{found_or_next}
 use Rattle.imagesize_types.specs.declared.size.ImageSize.{ImageSize}
 
@@ -15,6 +16,12 @@ pub no_gap : (P : Type 0) (found : Option Both) (stand : Stand) (offset : ℕ) �
     → IfWanted (found_or_next found stand) (λ w. w.start < offset → P)
 no_gap P None stand offset before = λ late. absurd (omega (arith, late, before))
 no_gap P (Some found) stand offset before = tt
+
+-- an answer stays
+pub keeps_found : (found mid later : Option Both) (stand next : Stand) → IfSome found (λ answer. mid ≡ Some answer)
+    → later ≡ mid → IfFound (found_or_next found stand) (λ answer. found_or_next later next ≡ Found answer)
+keeps_found None mid later stand next keeps same = tt
+keeps_found (Some answer) mid later stand next keeps same = ap (λ a. found_or_next a next) (same ∙ keeps)
 
 -- where there is no answer there was none
 pub none_before : (found later : Option Both) → IfSome found (λ answer. later ≡ Some answer) → later ≡ None

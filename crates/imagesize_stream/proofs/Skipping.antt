@@ -62,18 +62,18 @@ span_needs texts d offset n some below =
       λ none. rw ends refl,
     )
 
--- a walk that goes on from a record needs that record's first read
-pub walk_needs : (texts : Bool) (d : List ℕ) (held : List Awaited) (offset n : ℕ) → 0 < n → offset < length d
-    → ReadsFirst offset n (awaited_said held offset)
-    → Needs texts offset (min (offset + n) (length d))
-    (chain_from awaited_chain d (record { held = held; offset = offset })).marks
-walk_needs texts d held offset n some below first =
+-- what is needed of some spans of a record is needed by a walk that goes on from it
+pub walk_needs : (texts : Bool) (d : List ℕ) (held : List Awaited) (offset low high : ℕ) (spans : List Span)
+    → ((P : Span → Bool) → list_any P spans ≡ true → list_any P (layout_reads d (awaited_said held offset)).marks ≡ true)
+    → Needs texts low high spans
+    → Needs texts low high (chain_from awaited_chain d (record { held = held; offset = offset })).marks
+walk_needs texts d held offset low high spans any needs =
     let t : Along Awaited = record { held = held; offset = offset } in
-    needs_any texts offset (min (offset + n) (length d)) (span_of d offset n) _
+    needs_any texts low high spans _
     (λ P here. subst (λ w. list_any P w.marks ≡ true) (sym (chain_unfolds awaited_chain d t (awaited_advances d)))
     (onward_any (next_record awaited_chain d t).marks (next_record awaited_chain d t).answer (follows awaited_chain d held) P
-    (first_any d offset n (awaited_said held offset) first P here)))
-    (span_needs texts d offset n some below)
+    (any P here)))
+    needs
 
 module _ (next : Awaited) (old new : Stand) (kind : Option ImageType) (buffer front chunk : List ℕ)
     (over : PassesOver next old new (length chunk)) (came : CameTo (Records next) kind old buffer front) where
@@ -82,19 +82,18 @@ module _ (next : Awaited) (old new : Stand) (kind : Option ImageType) (buffer fr
 
   -- each input that begins so depends on the record's first read
   pub over_needs : (d : List ℕ) → Begins (front ++ chunk) old.told d → length d ≡ old.told
-      → Needs (texts_of d) (max new.passed new.start) new.end (meaning_reads d 0).marks
+      → Needs (texts_of d) (max new.passed new.start) (min (old.offset + over.most) (length d)) (meaning_reads d 0).marks
   over_needs d begins as_long =
       let streams = came.1 in
       let resumes = streams.resumes d (begins_left front chunk old.told d begins) in
       let first : ReadsFirst old.offset over.most (awaited_said streams.held old.offset) =
       subst (λ a. ReadsFirst old.offset over.most (step a old.offset)) (sym streams.known.0) over.first in
-      let needs = walk_needs (texts_of d) d streams.held old.offset over.most over.some
-      (omega (arith, as_long, over.here, over.within)) first in
+      let needs = walk_needs (texts_of d) d streams.held old.offset old.offset (min (old.offset + over.most) (length d))
+      (span_of d old.offset over.most)
+      (first_any d old.offset over.most (awaited_said streams.held old.offset) first)
+      (span_needs (texts_of d) d old.offset over.most over.some (omega (arith, as_long, over.here, over.within))) in
       needs_behind (texts_of d) _ _ streams.before _ (meaning_reads d 0).marks
       (ap (λ (w : Reads _). w.marks) resumes)
-      (subst (λ high. Needs (texts_of d) (max new.passed new.start) high
-      (chain_from awaited_chain d (record { held = streams.held; offset = old.offset })).marks)
-      (omega (arith, over.end, over.here, as_long))
       (subst (λ low. Needs (texts_of d) low (min (old.offset + over.most) (length d))
       (chain_from awaited_chain d (record { held = streams.held; offset = old.offset })).marks)
-      (omega (arith, over.passed, over.start, over.before, over.here)) needs))
+      (omega (arith, over.passed, over.start, over.before, over.here)) needs)

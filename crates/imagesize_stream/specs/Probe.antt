@@ -8,10 +8,11 @@ use Rattle.imagesize.specs.declared.types.ImageType.{ImageType}
 use Rattle.imagesize_pieces.specs.Stream.{Begins, Needs, Streams}
 use Rattle.imagesize_pieces.specs.declared.stand.Stand.{Stand}
 use Rattle.imagesize_source.specs.Reading.{is_stopped}
+use Rattle.imagesize_source.specs.Text.{is_ended}
 use Rattle.imagesize_source.specs.declared.halt.Halt.{Halt}
 use Rattle.imagesize_source.specs.declared.span.Span.{Span}
 use Rattle.imagesize_stream.specs.Heard.{IsByFooter, OutOfHeader, SizeIs, TypeIs}
-use Rattle.imagesize_stream.specs.Steps.{Awaits, IsSteady, awaited_said, is_text, reach_of, steady_prop}
+use Rattle.imagesize_stream.specs.Steps.{Awaits, IsSteady, awaited_said, first_text, is_text, reach_of, steady_prop}
 use Rattle.imagesize_stream.specs.declared.awaited.Awaited.{Awaited}
 use Rattle.imagesize_stream.specs.declared.stage.Stage.{Stage}
 use Rattle.imagesize_stream.specs.declared.stage.Stage.TheVariants.{Done, First, Footer, Records}
@@ -56,6 +57,20 @@ holds_prop (Done size) start offset passed = ≡_prop coded_bool (is_stopped siz
 
 abbrev pub HoldsAt : Stage → Stand → Type 0
 HoldsAt stage stand = HoldsBy stage stand.start stand.offset stand.passed
+
+-- So many of the kept bytes were searched for the end of the text that is next, and do not have it.
+abbrev pub SearchedBy : Stage → ℕ → ℕ → List ℕ → Type 0
+SearchedBy First searched kept buffer = Unit {0}
+SearchedBy (Records next) searched kept buffer = (searched ≤ kept) × (is_ended (first_text next) (take searched buffer) ≡ false)
+SearchedBy (Footer size) searched kept buffer = Unit {0}
+SearchedBy (Done size) searched kept buffer = Unit {0}
+
+pub searched_prop : (stage : Stage) (searched kept : ℕ) (buffer : List ℕ) → IsProp (SearchedBy stage searched kept buffer)
+searched_prop First searched kept buffer = Unit-prop
+searched_prop (Records next) searched kept buffer =
+    ×_prop le_prop (≡_prop coded_bool (is_ended (first_text next) (take searched buffer)) false)
+searched_prop (Footer size) searched kept buffer = Unit-prop
+searched_prop (Done size) searched kept buffer = Unit-prop
 
 -- P, if there is no result yet
 abbrev pub IfAwaiting : Stage → Type 0 → Type 0

@@ -1,9 +1,10 @@
 -- Chunks that end before the next record begins.
-use Rattle.std.specs.Prelude.{◌≡◌, ℕ, ◌+◌, ◌<◌, ◌≤◌, min}
+use Rattle.std.specs.Prelude.{◌≡◌, ℕ, ◌+◌, ◌<◌, ◌≤◌}
 use Rattle.imagesize_pieces.specs.declared.stand.Stand.{Stand}
 use Rattle.imagesize_source.specs.Layout.{Layout, begin_record, field, reading}
 use Rattle.imagesize_source.specs.Layout.Layout.{«done», refuse}
 use Rattle.imagesize_source.specs.Reading.{AllOf, PartOf, TextOf}
+use Rattle.imagesize_source.specs.declared.text.Text.{Text}
 use Rattle.imagesize_stream.specs.Steps.{step}
 use Rattle.imagesize_stream.specs.declared.awaited.Awaited.{Awaited}
 
@@ -16,6 +17,16 @@ ReadsFirst offset n (reading (AllOf k) p f) = (p ≡ offset) × (k ≡ n)
 ReadsFirst offset n (reading (PartOf k) p f) = (p ≡ offset) × (k ≡ n)
 ReadsFirst offset n (reading (TextOf t k) p f) = ⊥
 ReadsFirst offset n (begin_record t) = ReadsFirst offset n t
+
+-- the first read of the layout is this text, of at most n bytes, at an offset
+abbrev pub ReadsText : {X : Type 0} → ℕ → Text → ℕ → Layout X → Type 0
+ReadsText offset text n (done x) = ⊥
+ReadsText offset text n (refuse e) = ⊥
+ReadsText offset text n (field order p k f) = ⊥
+ReadsText offset text n (reading (AllOf k) p f) = ⊥
+ReadsText offset text n (reading (PartOf k) p f) = ⊥
+ReadsText offset text n (reading (TextOf t k) p f) = (p ≡ offset) × ((t ≡ text) × (k ≡ n))
+ReadsText offset text n (begin_record t) = ReadsText offset text n t
 
 -- So many more bytes came, all before the next record, which begins within the input. Its first read is the one that misses
 -- bytes.
@@ -31,4 +42,3 @@ pub record PassesOver (next : Awaited) (old new : Stand) (count : ℕ) : Type 0 
   pub some : 0 < most
   pub few : most ≤ 132
   pub first : ReadsFirst old.offset most (step next old.offset)
-  pub end : new.end ≡ min (old.start + most) old.told

@@ -10,6 +10,8 @@ use Rattle.imagesize_source.specs.declared.halt.Halt.{Halt}
 use Rattle.imagesize_source.specs.declared.halt.Halt.TheVariants.{Corrupted, Ended, NoDimensionsInIfd}
 use Rattle.imagesize_source.specs.Reading.{map_answer}
 use Rattle.imagesize_source.specs.Walk.{chain_of}
+use Rattle.imagesize_source.specs.declared.text.Text.{Text}
+use Rattle.imagesize_source.specs.declared.text.Text.TheVariants as text
 use Rattle.imagesize_source.specs.declared.walk.Found.{Found}
 use Rattle.imagesize_source.specs.declared.walk.Found.TheVariants as found
 use Rattle.imagesize_stream.specs.declared.awaited.Awaited.{Awaited}
@@ -122,6 +124,13 @@ is_text Word = true
 is_text Comment = true
 is_text (Height width) = true
 is_text _ = false
+
+-- the text that a record begins with, if it is a text
+abbrev pub first_text : Awaited → Text
+first_text (Attribute long) = text.Line 0
+first_text Line = text.Line 0x0A
+first_text Comment = text.Line 0x0A
+first_text _ = text.Word
 
 -- how many bytes from its offset on a record is read at most, by whether it is a text
 abbrev pub reach_of : Bool → ℕ

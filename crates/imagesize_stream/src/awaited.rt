@@ -1,12 +1,12 @@
 //! The record that a stream waits for, in each format whose size is in records.
-ghost use Rattle.std.specs.Prelude.{◌≡◌, ℕ, ◌<◌, ◌≤◌, length, [], true, false, IfErr, IfOk};
+ghost use Rattle.std.specs.Prelude.{◌≡◌, ℕ, ◌<◌, ◌≤◌, length, [], true, false, IfErr, IfOk, IfSome};
 ghost use Rattle.imagesize_source.specs.Layout.{bind};
 ghost use Rattle.imagesize_source.specs.Paying.{Nears, Paid};
 ghost use Rattle.imagesize_source.specs.Reading.{is_stopped, map_answer, number_read};
 ghost use Rattle.imagesize_source.specs.State.{Follows, Runs};
 ghost use Rattle.imagesize_source.specs.Walk.{said_at};
-ghost use Rattle.imagesize_stream.specs.Skips.{ReadsFirst};
-ghost use Rattle.imagesize_stream.specs.Steps.{IsSmall, IsSteady, StaysSteady, after, decides, ends_with, is_text, kept_of, leading_to, names_of, step, word_leads};
+ghost use Rattle.imagesize_stream.specs.Skips.{ReadsFirst, ReadsText};
+ghost use Rattle.imagesize_stream.specs.Steps.{IsSmall, IsSteady, StaysSteady, after, decides, ends_with, first_text, is_text, kept_of, leading_to, names_of, reach_of, step, word_leads};
 ghost use Rattle.imagesize_texts.specs.Texts.{read_word_of};
 ghost use Rattle.imagesize_walked.specs.Tiff.{head_bytes, value_bytes};
 ghost use Rattle.imagesize_stream.specs.declared.awaited.Awaited.TheVariants as awaited;
@@ -17,10 +17,9 @@ use imagesize_boxes::formats::jxl::front::Front;
 use imagesize_source::readings::read_bytes;
 use imagesize_source::source::Source;
 use imagesize_source::walk::{Found, Records};
-use imagesize_source::{Endian, Halt};
-use imagesize_texts::formats::exr::Attributes;
-use imagesize_texts::formats::hdr::{LINE_ROOM, Lines};
-use imagesize_texts::formats::pnm;
+use imagesize_source::{Endian, Halt, Text};
+use imagesize_texts::formats::hdr::LINE_ROOM;
+use imagesize_texts::formats::{exr, hdr, pnm};
 use imagesize_texts::util::{self, WORD_ROOM, Word};
 use imagesize_types::size::{ImageSize, size_if_known};
 use imagesize_walked::formats::ico::Entries as Icons;
@@ -127,6 +126,22 @@ impl Awaited {
         }
     }
 
+    // The text that the record begins with, if it is a text, and how many bytes it has at most.
+    #[inline(always)]
+    pub(crate) fn first_text(&self) -> Option<(Text, usize)>
+        ensures text { IfSome result (λ found. found.0 ≡ first_text self.now) }
+        ensures first { IfSome result (λ found. (offset : ℕ) → ReadsText offset found.0 found.1 (step self.now offset)) }
+        ensures few { IfSome result (λ found. found.1 ≤ reach_of (is_text self.now)) }
+    {
+        match self {
+            Awaited::Attribute { long } => Some((Text::Line { delimiter: 0 }, names_of(*long))),
+            Awaited::Line => Some((Text::Line { delimiter: b'\n' }, LINE_ROOM)),
+            Awaited::Comment => Some((Text::Line { delimiter: b'\n' }, WORD_ROOM)),
+            Awaited::Word | Awaited::Height { .. } => Some((Text::Word, WORD_ROOM)),
+            _ => None,
+        }
+    }
+
     // Reads the record at an offset, which is a text. Then this is the record after it. A word is read into the buffer. Inlined
     // into its walk, as is `advance_other` into the other: this saves a call and a copy of its result a record.
     #[inline(always)]
@@ -143,8 +158,8 @@ impl Awaited {
         ensures runs { Follows (S.state source.old) (S.state source.new) (map_answer (said_at offset) (leading_to self.new result)) (step self.old offset) }
     {
         match *self {
-            Awaited::Attribute { long } => read_attribute(source, offset, long),
-            Awaited::Line => read_line(source, offset),
+            Awaited::Attribute { long } => read_attribute(source, offset, long, buffer),
+            Awaited::Line => read_line(source, offset, buffer),
             Awaited::Word => read_word(self, source, offset, buffer),
             Awaited::Comment => read_comment(self, source, offset, buffer),
             Awaited::Height { width } => read_height(source, offset, width, buffer),
@@ -242,16 +257,13 @@ fn read_attribute<S: Source>(
     source: &mut S,
     offset: u64,
     long: bool,
+    buffer: &mut [u8; WORD_ROOM],
 ) -> Result<Found<(), ImageSize>, Halt>
     ensures nears { IfOk (leading_to (awaited.Attribute long) result) (λ found. Nears (S.state source.old) (S.state source.new) offset (said_at offset found)) }
     ensures steady { IfOk (leading_to (awaited.Attribute long) result) (λ found. StaysSteady true (said_at offset found)) }
     ensures runs { Follows (S.state source.old) (S.state source.new) (map_answer (said_at offset) (leading_to (awaited.Attribute long) result)) (step (awaited.Attribute long) offset) }
 {
-    let mut attributes = Attributes {
-        names: names_of(long),
-        buffer: [0; 256],
-    };
-    read_same(&mut attributes, source, offset)
+    exr::read_attribute(source, offset, names_of(long), buffer)
 }
 
 fn names_of(long: bool) -> usize
@@ -260,15 +272,16 @@ fn names_of(long: bool) -> usize
     if long { 256 } else { 32 }
 }
 
-fn read_line<S: Source>(source: &mut S, offset: u64) -> Result<Found<(), ImageSize>, Halt>
+fn read_line<S: Source>(
+    source: &mut S,
+    offset: u64,
+    buffer: &mut [u8; WORD_ROOM],
+) -> Result<Found<(), ImageSize>, Halt>
     ensures nears { IfOk (leading_to awaited.Line result) (λ found. Nears (S.state source.old) (S.state source.new) offset (said_at offset found)) }
     ensures steady { IfOk (leading_to awaited.Line result) (λ found. StaysSteady true (said_at offset found)) }
     ensures runs { Follows (S.state source.old) (S.state source.new) (map_answer (said_at offset) (leading_to awaited.Line result)) (step awaited.Line offset) }
 {
-    let mut lines = Lines {
-        buffer: [0; LINE_ROOM],
-    };
-    read_same(&mut lines, source, offset)
+    hdr::read_line(source, offset, &mut buffer[..LINE_ROOM])
 }
 
 #[tactic(auto, using(imagesize_source::proofs::Runs::steps))]

@@ -7,11 +7,12 @@ ghost use Rattle.imagesize_source.specs.Errors.{is_stopped};
 ghost use Rattle.imagesize_source.specs.Outcome.{stated};
 ghost use Rattle.imagesize_stream.specs.Given.{HasPart, IsGiven, MayBeAt};
 ghost use Rattle.imagesize_stream.specs.Heard.{RestsOnMore};
-ghost use Rattle.imagesize_stream.specs.Probe.{HoldsAt, IfAwaiting, IsAhead, IsNext, holds_prop};
+ghost use Rattle.imagesize_stream.specs.Probe.{HoldsAt, IfAwaiting, IsAhead, IsNext, SearchedBy, holds_prop, searched_prop};
 
 use crate::stage::{ROOM, Stage, begin, pass_over, wait, walk};
 use imagesize::{ImageResult, ImageType};
 use imagesize_pieces::buffer::front_of;
+use imagesize_pieces::pending::keep_pending;
 use imagesize_pieces::stand::Stand;
 use imagesize_source::{Halt, Reason};
 use imagesize_types::size::ImageSize;
@@ -48,7 +49,10 @@ pub struct StreamProbe {
     buffer: [u8; ROOM],
     kind: Option<ImageType>,
     stage: Stage,
+    // How many of the first kept bytes do not end the text that is next.
+    searched: usize,
     ghost holds: { HoldsAt stage stand } by { holds_prop stage stand.start stand.offset stand.passed },
+    ghost pending: { SearchedBy stage searched (stand.passed - stand.start) buffer } by { searched_prop stage searched (stand.passed - stand.start) buffer },
 }
 
 impl StreamProbe {
@@ -70,6 +74,7 @@ impl StreamProbe {
             buffer: [0; ROOM],
             kind: None,
             stage: Stage::First,
+            searched: 0,
         }
     }
 
@@ -133,7 +138,8 @@ impl StreamProbe {
         }
     }
 
-    // Reads the next chunk. Bytes past the reported length are not looked at.
+    // Reads the next chunk. Bytes past the reported length are not looked at. Not inlined, so that the callers stay small.
+    #[inline(never)]
     pub(crate) fn take_in(&mut self, chunk: &[u8])
         ensures told { told_of self.new ≡ told_of self.old }
         ensures ahead { IsAhead self.new.stage self.new.stand }
@@ -149,7 +155,60 @@ impl StreamProbe {
         ensures parts { (d : List ℕ) → IsGiven self.old.stage self.old.kind self.old.stand self.old.buffer d
             → HasPart d self.old.stand.passed chunk.now → MayBeAt self.new.stage self.new.kind self.new.stand self.new.buffer d }
     {
+        if self.awaits_text() {
+            self.take_in_text(chunk);
+        } else {
+            self.proceed(chunk);
+        }
+    }
+
+    // Reads the next chunk, where the next record is a text. Not inlined, so that other records skip its stack frame.
+    #[inline(never)]
+    fn take_in_text(&mut self, chunk: &[u8])
+        ensures told { told_of self.new ≡ told_of self.old }
+        ensures ahead { IsAhead self.new.stage self.new.stand }
+        ensures passed { IfAwaiting self.new.stage (self.new.stand.passed
+            ≡ self.old.stand.passed + length (take (self.old.stand.told - self.old.stand.passed) chunk.now)) }
+        ensures keeps { IfSome (answer_of self.old) (λ answer. answer_of self.new ≡ Some answer) }
+        ensures goes_on { (front : List ℕ) → Came self.old front → Came self.new (front ++ take (told_of self.old - length front) chunk.now) }
+        ensures complete { IfAwaiting self.new.stage ((front : List ℕ) → Came self.old front
+            → RestsOnMore (front ++ take (told_of self.old - length front) chunk.now) (told_of self.old)) }
+        ensures whole { IfAwaiting self.new.stage ((front : List ℕ) → Came self.old front → told_of self.old ≤ length front + length chunk.now → ⊥) }
+
+        // Of each input with these parts:
+        ensures parts { (d : List ℕ) → IsGiven self.old.stage self.old.kind self.old.stand self.old.buffer d
+            → HasPart d self.old.stand.passed chunk.now → MayBeAt self.new.stage self.new.kind self.new.stand self.new.buffer d }
+    {
+        if self.keep_text(chunk) {
+            return;
+        }
+        self.proceed(chunk);
+    }
+
+    // Whether the next record is a text.
+    #[inline(always)]
+    fn awaits_text(&self) -> bool {
+        matches!(&self.stage, Stage::Records { next } if next.is_text())
+    }
+
+    // Continues the stage with the next chunk.
+    fn proceed(&mut self, chunk: &[u8])
+        ensures told { told_of self.new ≡ told_of self.old }
+        ensures ahead { IsAhead self.new.stage self.new.stand }
+        ensures passed { IfAwaiting self.new.stage (self.new.stand.passed
+            ≡ self.old.stand.passed + length (take (self.old.stand.told - self.old.stand.passed) chunk.now)) }
+        ensures keeps { IfSome (answer_of self.old) (λ answer. answer_of self.new ≡ Some answer) }
+        ensures goes_on { (front : List ℕ) → Came self.old front → Came self.new (front ++ take (told_of self.old - length front) chunk.now) }
+        ensures complete { IfAwaiting self.new.stage ((front : List ℕ) → Came self.old front
+            → RestsOnMore (front ++ take (told_of self.old - length front) chunk.now) (told_of self.old)) }
+        ensures whole { IfAwaiting self.new.stage ((front : List ℕ) → Came self.old front → told_of self.old ≤ length front + length chunk.now → ⊥) }
+
+        // Of each input with these parts:
+        ensures parts { (d : List ℕ) → IsGiven self.old.stage self.old.kind self.old.stand self.old.buffer d
+            → HasPart d self.old.stand.passed chunk.now → MayBeAt self.new.stage self.new.kind self.new.stand self.new.buffer d }
+    {
         let chunk = front_of(chunk, self.stand.told - self.stand.passed);
+        self.searched = 0;
         match &mut self.stage {
             Stage::First => {
                 begin(
@@ -197,6 +256,42 @@ impl StreamProbe {
             Stage::Records { next } => pass_over(next, &mut self.stand, more.len() as u64),
             _ => false,
         }
+    }
+
+    // Keeps a chunk that comes before the text that is next, or belongs to it and does not end it. Returns whether it does. Nearly
+    // all chunks of a few bytes are such. For them this saves a walk, which searches the text from its start.
+    #[inline(always)]
+    fn keep_text(&mut self, chunk: &[u8]) -> bool
+        ensures told { told_of self.new ≡ told_of self.old }
+        ensures stays { result ≡ false → self.new ≡ self.old }
+        ensures unanswered { result ≡ true → (answer_of self.old ≡ None) × (answer_of self.new ≡ None) }
+        ensures ahead { result ≡ true → IsAhead self.new.stage self.new.stand }
+        ensures passed { result ≡ true → self.new.stand.passed
+            ≡ self.old.stand.passed + length (take (self.old.stand.told - self.old.stand.passed) chunk.now) }
+        ensures goes_on { result ≡ true → (front : List ℕ) → Came self.old front → Came self.new (front ++ take (told_of self.old - length front) chunk.now) }
+        ensures complete { result ≡ true → (front : List ℕ) → Came self.old front
+            → RestsOnMore (front ++ take (told_of self.old - length front) chunk.now) (told_of self.old) }
+        ensures whole { result ≡ true → (front : List ℕ) → Came self.old front → told_of self.old ≤ length front + length chunk.now → ⊥ }
+
+        // Of each input with these parts:
+        ensures parts { result ≡ true → (d : List ℕ) → IsGiven self.old.stage self.old.kind self.old.stand self.old.buffer d
+            → HasPart d self.old.stand.passed chunk.now → MayBeAt self.new.stage self.new.kind self.new.stand self.new.buffer d }
+    {
+        let more = front_of(chunk, self.stand.told - self.stand.passed);
+        let Stage::Records { next } = &self.stage else {
+            return false;
+        };
+        let Some((text, most)) = next.first_text() else {
+            return false;
+        };
+        keep_pending(
+            text,
+            most,
+            &mut self.searched,
+            &mut self.stand,
+            &mut self.buffer,
+            more,
+        )
     }
 
     // Skips the bytes that are not needed, up to the first one that is.

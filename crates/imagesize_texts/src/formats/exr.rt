@@ -1,9 +1,10 @@
 //! OpenEXR: "OpenEXR File Layout". Walks along the attributes up to the first data window that is not reversed.
 ghost use Rattle.std.specs.Prelude.{◌≡◌, ◌+◌, ◌<◌, ◌≤◌, length, IfOk};
 ghost use Rattle.imagesize_source.specs.Chain.{chain_at};
-ghost use Rattle.imagesize_source.specs.Paying.{Paid};
+ghost use Rattle.imagesize_source.specs.Paying.{Nears, Paid};
 ghost use Rattle.imagesize_source.specs.Reading.{map_answer};
-ghost use Rattle.imagesize_source.specs.State.{Runs};
+ghost use Rattle.imagesize_source.specs.State.{Follows, Runs};
+ghost use Rattle.imagesize_source.specs.Walk.{said_at};
 ghost use Rattle.imagesize_texts.specs.Exr.{exr, exr_attribute, exr_attributes, is_box, is_data_window, is_exr, name_room, window_side, signed_at, window_size};
 ghost use Rattle.imagesize_texts.specs.Texts.{line_read};
 
@@ -84,38 +85,12 @@ impl Records for Attributes {
     ghost keeps = { λ attributes passed offset. (0 < attributes.names) × (attributes.names ≤ 256) };
 
     // Reads the attribute at an offset.
-    #[tactic(auto, using(imagesize_source::proofs::Runs::steps, imagesize_source::proofs::Runs::missed_before))]
     fn read_record<S: Source>(
         &mut self,
         source: &mut S,
         offset: u64,
     ) -> Result<Found<(), ImageSize>, Halt> {
-        let names = self.names;
-        let name = read_name(source, offset, names, &mut self.buffer)?;
-        if name.is_empty() {
-            return Err(Halt::DataWindowNotFound);
-        }
-        let is_window = is_data_window(name);
-        let typed = name.len() as u64 + 1;
-        let type_name = read_name_behind(source, offset, typed, names, &mut self.buffer)?;
-        let is_window = is_window && is_box(type_name);
-        let sized = typed + (type_name.len() as u64 + 1);
-        let size = read_u32_behind(source, offset, sized, Endian::Little)?;
-        let taken = sized + 4;
-        if !is_window {
-            return Ok(Found::Other {
-                held: (),
-                length: taken + size as u64,
-            });
-        }
-        let window = read_bytes_behind::<S, 16>(source, offset, taken)?;
-        Ok(match window_size(&window) {
-            Some(size) => Found::Answer(size),
-            None => Found::Other {
-                held: (),
-                length: taken + 16,
-            },
-        })
+        read_attribute(source, offset, self.names, &mut self.buffer)
     }
 
     // The input ends before the size.
@@ -126,14 +101,59 @@ impl Records for Attributes {
     }
 }
 
+/// Reads the attribute at an offset, whose names have at most `names` bytes. They are read into the caller's buffer. Returns the
+/// size from a data window that is not reversed, or the length of another attribute in bytes.
+#[inline(always)]
+#[tactic(auto, using(imagesize_source::proofs::Runs::steps, imagesize_source::proofs::Runs::missed_before))]
+pub fn read_attribute<S: Source>(
+    source: &mut S,
+    offset: u64,
+    names: usize,
+    buffer: &mut [u8],
+) -> Result<Found<(), ImageSize>, Halt>
+    requires some { 0 < names }
+    requires few { names ≤ 256 }
+    requires fits { names ≤ length buffer.old }
+    ensures nears { IfOk result (λ found. Nears (S.state source.old) (S.state source.new) offset (said_at offset found)) }
+    ensures runs { Follows (S.state source.old) (S.state source.new) (map_answer (said_at offset) result)
+        (exr_attribute names offset) }
+{
+    let name = read_name(source, offset, names, buffer)?;
+    if name.is_empty() {
+        return Err(Halt::DataWindowNotFound);
+    }
+    let is_window = is_data_window(name);
+    let typed = name.len() as u64 + 1;
+    let type_name = read_name_behind(source, offset, typed, names, buffer)?;
+    let is_window = is_window && is_box(type_name);
+    let sized = typed + (type_name.len() as u64 + 1);
+    let size = read_u32_behind(source, offset, sized, Endian::Little)?;
+    let taken = sized + 4;
+    if !is_window {
+        return Ok(Found::Other {
+            held: (),
+            length: taken + size as u64,
+        });
+    }
+    let window = read_bytes_behind::<S, 16>(source, offset, taken)?;
+    Ok(match window_size(&window) {
+        Some(size) => Found::Answer(size),
+        None => Found::Other {
+            held: (),
+            length: taken + 16,
+        },
+    })
+}
+
 // The name at an offset, up to a zero byte that must be among the first `names` bytes.
 fn read_name<'a, S: Source>(
     source: &mut S,
     offset: u64,
     names: usize,
-    buffer: &'a mut [u8; 256],
+    buffer: &'a mut [u8],
 ) -> Result<&'a str, Halt>
-    requires { names ≤ 256 }
+    requires few { names ≤ 256 }
+    requires fits { names ≤ length buffer.old }
     ensures bound { IfOk result (λ text. length text.now < names) }
     ensures pays { IfOk result (λ text. Paid (S.state source.old) (S.state source.new) offset) }
     ensures runs { Runs (S.state source.old) (S.state source.new)
@@ -149,9 +169,10 @@ fn read_name_behind<'a, S: Source>(
     offset: u64,
     distance: u64,
     names: usize,
-    buffer: &'a mut [u8; 256],
+    buffer: &'a mut [u8],
 ) -> Result<&'a str, Halt>
-    requires { names ≤ 256 }
+    requires few { names ≤ 256 }
+    requires fits { names ≤ length buffer.old }
     ensures bound { IfOk result (λ text. length text.now < names) }
     ensures runs { Runs (S.state source.old) (S.state source.new)
         (map_answer (λ text. text.now) result)

@@ -1,6 +1,9 @@
 //! Radiance RGBE: "Picture File Format" in the Radiance reference manual.
-ghost use Rattle.std.specs.Prelude.{◌≡◌, ◌∷◌, option_map, IfSome, Some};
+ghost use Rattle.std.specs.Prelude.{◌≡◌, ◌∷◌, length, option_map, IfOk, IfSome, Some};
+ghost use Rattle.imagesize_source.specs.Paying.{Nears};
+ghost use Rattle.imagesize_source.specs.Reading.{map_answer};
 ghost use Rattle.imagesize_source.specs.State.{Runs, Follows};
+ghost use Rattle.imagesize_source.specs.Walk.{said_at};
 ghost use Rattle.imagesize_texts.specs.Contents.{words};
 ghost use Rattle.imagesize_texts.specs.Hdr.{hdr, hdr_identifier, hdr_line, is_hdr, is_identifier, is_resolution, second_and_fourth};
 ghost use Rattle.imagesize_texts.specs.Texts.{line_at};
@@ -91,25 +94,12 @@ impl Records for Lines {
     ghost keeps = { λ _ passed offset. Unit {0} };
 
     // Reads the line at an offset.
-    #[tactic(auto, using(imagesize_source::proofs::Runs::steps))]
     fn read_record<S: Source>(
         &mut self,
         source: &mut S,
         offset: u64,
     ) -> Result<Found<(), ImageSize>, Halt> {
-        let line = read_line_capped(source, offset, b'\n', &mut self.buffer)?;
-        if is_resolution(line) {
-            let Some((height, width)) = lengths(line) else {
-                return Err(Halt::InvalidHdrDimensionsLine);
-            };
-            let size = size_if_known(number(width), number(height));
-            let size = size.ok_or(Halt::HdrDimensionsNotFound)?;
-            return Ok(Found::Answer(size));
-        }
-        Ok(Found::Other {
-            held: (),
-            length: line.len() as u64 + 1,
-        })
+        read_line(source, offset, &mut self.buffer)
     }
 
     // The input ends before the size.
@@ -118,6 +108,35 @@ impl Records for Lines {
     fn at_end(&self) -> Result<ImageSize, Halt> {
         Err(Halt::Ended)
     }
+}
+
+/// Reads the line at an offset into the caller's buffer of 256 bytes. Returns the size from the line that has it, or the length
+/// of another line in bytes.
+#[inline(always)]
+#[tactic(auto, using(imagesize_source::proofs::Runs::steps))]
+pub fn read_line<S: Source>(
+    source: &mut S,
+    offset: u64,
+    buffer: &mut [u8],
+) -> Result<Found<(), ImageSize>, Halt>
+    requires { length buffer.old ≡ 256 }
+    ensures nears { IfOk result (λ found. Nears (S.state source.old) (S.state source.new) offset (said_at offset found)) }
+    ensures runs { Follows (S.state source.old) (S.state source.new) (map_answer (said_at offset) result)
+        (line_at 0x0A offset 256 (hdr_line offset)) }
+{
+    let line = read_line_capped(source, offset, b'\n', buffer)?;
+    if is_resolution(line) {
+        let Some((height, width)) = lengths(line) else {
+            return Err(Halt::InvalidHdrDimensionsLine);
+        };
+        let size = size_if_known(number(width), number(height));
+        let size = size.ok_or(Halt::HdrDimensionsNotFound)?;
+        return Ok(Found::Answer(size));
+    }
+    Ok(Found::Other {
+        held: (),
+        length: line.len() as u64 + 1,
+    })
 }
 
 // Whether a line begins with an identifier of the format.

@@ -2,7 +2,7 @@ use Rattle.std.proofs.Common.{◌-◌, length, sym, ap, ◌∙◌, subst, arith}
 use Rattle.std.proofs.lemmas.List.{length-drop, length-take}
 use Rattle.imagesize_stream.proofs.Ending.{awaiting_none}
 use Rattle.imagesize_stream.proofs.Given.{given_later, next_none}
-use Rattle.imagesize_stream.proofs.Requests.{gets_beyond, gets_further, no_gap}
+use Rattle.imagesize_stream.proofs.Requests.{gets_beyond, gets_further, keeps_found, no_gap}
 use Rattle.imagesize_stream.specs.Given.{HasPart}
 use Rattle.imagesize_stream.specs.Pushed.{answer_of}
 use Rattle.imagesize_stream.proofs.parts.PartsProbe.supply.Goals as goal
@@ -15,6 +15,11 @@ returns-clause-goes_on c = λ d may has.
     (subst (λ xs. HasPart d stand.passed xs) (sym c.bytes_behind.ensures)
     (given_later d c.args.bytes.now c.args.offset stand.passed c.if-offset-start.false
     (omega (arith, fits, may.given.as_long)) has)))
+
+pub returns-clause-keeps : goal.returns-clause-keeps
+returns-clause-keeps c =
+    let s = c.args.self.now.probe in let t = c.take_in.new.self in let u = c.skip.new.self in
+    keeps_found (answer_of s) (answer_of t) (answer_of u) s.stand u.stand c.take_in.ensures.keeps c.skip.ensures.keeps
 
 pub returns-clause-gap : goal.returns-clause-gap
 returns-clause-gap c =

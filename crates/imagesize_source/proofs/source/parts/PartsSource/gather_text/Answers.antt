@@ -11,7 +11,7 @@ returns-in_default-clause-runs c =
     c.args.offset _ f.result.1 f.result.0
     (record { start = c.args.offset + f.result.0; sure = 1; most = f.result.1 - f.result.0 })
     f.ensures.wanted f.ensures.within f.ensures.copied (cut_is f.new.buffer f.result.0 f.result.1 c.args.offset s.told _ _
-    f.ensures.wanted f.ensures.within (sym (c.in_default.ensures.cut refl)) ) refl refl refl
+    f.ensures.wanted f.ensures.within (sym (c.in_default.ensures.cut refl))) refl refl refl
     (state_is _ _ _ _ _ _ _ _ _ _ c.miss.ensures.told c.miss.ensures.spans c.miss.ensures.bytes c.miss.ensures.seen
     c.miss.ensures.missed))
 

@@ -2,9 +2,10 @@ use Rattle.std.proofs.Common.{◌≡◌, ◌-◌, ◌++◌, length, take, refl, 
 use Rattle.imagesize_stream.proofs.Coming.{awaiting_map}
 use Rattle.imagesize_stream.proofs.Ending.{as_many, rests_cut}
 use Rattle.imagesize_stream.proofs.Given.{cut_part, given_on}
+use Rattle.imagesize_stream.proofs.Unfinished.{none_searched}
 use Rattle.imagesize_stream.specs.Probe.{CameTo}
 use Rattle.imagesize_stream.specs.declared.stage.Stage.TheVariants.{Done, Records}
-use Rattle.imagesize_stream.proofs.probe.StreamProbe.take_in.Goals as goal
+use Rattle.imagesize_stream.proofs.probe.StreamProbe.proceed.Goals as goal
 
 pub returns-in-First-clause-parts : goal.returns-in-First-clause-parts
 returns-in-First-clause-parts c = λ d given has.
@@ -73,3 +74,12 @@ returns-in-Footer-clause-parts c = λ d given has.
     let is = cut_part d cut s.stand.passed (length c.args.chunk.now)
     (c.front_of-chunk.ensures ∙ ap (λ k. take (k - s.stand.passed) c.args.chunk.now) (sym given.as_long) ∙ has) in
     c.wait-self.ensures.parts d (rw c.in-Footer.is at given) is
+
+pub invariant_of-self-clause-pending : goal.invariant_of-self-clause-pending
+invariant_of-self-clause-pending c = none_searched c.begin.new.into _ _
+
+pub invariant_of-self-in_default-clause-pending : goal.invariant_of-self-in_default-clause-pending
+invariant_of-self-in_default-clause-pending c = none_searched (Records c.walk-found.new.next) _ c.walk-found.new.buffer
+
+pub invariant_of-self-in-Footer-clause-pending : goal.invariant_of-self-in-Footer-clause-pending
+invariant_of-self-in-Footer-clause-pending c = none_searched c.wait-self.result _ _
