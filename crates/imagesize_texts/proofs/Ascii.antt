@@ -4,17 +4,18 @@ use Rattle.std.proofs.lemmas.Bool.{cases_lt}
 use Rattle.std.proofs.lemmas.List.{get_or-take, get_or-drop, get_or_past, length-take, drop-drop, take_all}
 use Rattle.std.proofs.lemmas.Str.{IsUtf8-from_ascii, IsUtf8-from_is_utf8, is_utf8-from_IsUtf8}
 use Rattle.std.proofs.lemmas.Nat.{and_block}
-use Rattle.std.proofs.lemmas.Nat.Bits.{and_pow, bit_at_and, bit_at_or, bit_at-zero, same_from_bits}
+use Rattle.std.proofs.lemmas.Nat.Bits.{and_pow}
 use Rattle.std.proofs.lemmas.Simd.{chunk-fits, length-chunk}
-use Rattle.std.specs.Int.{bit_at, w8, w32, w64, from_le_bytes}
+use Rattle.std.specs.Int.{w8, w32, w64, from_le_bytes}
 use Rattle.std.specs.Prelude.{is_ok, MatchResult}
 use Rattle.std.specs.Str.{IsAscii, IsUtf8, is_utf8}
 use Rattle.imagesize_source.proofs.Numbers.{little_4, little_8}
 use Rattle.imagesize_source.specs.Numbers.{number, little}
-use lib.Bits.{bit_and, bit_or}
+use lib.Bits.{bit_and}
 use lib.Lanes.{Each1}
 use mir.Val.{Fits}
 
+-- one byte more at the front
 ascii_cons : (b : ℕ) (bs : List ℕ) → b < 128 → IsAscii bs → IsAscii (b ∷ bs)
 ascii_cons b bs low rest zero = low
 ascii_cons b bs low rest (suc i) = rest i
@@ -37,7 +38,7 @@ none_high (b ∷ bs) fits none i =
     let parts = (λ j. bit_and (left j) (right j)) ∙ and_block 8 (little bs) (highs (length bs)) b 128 fits.0.fits (omega arith) in
     ascii_cons b bs (low_byte b fits.0.fits (omega (arith, parts, none))) (none_high bs fits.1 (omega (arith, parts, none))) i
 
--- eight bytes, four and sixteen, from an index on
+-- eight bytes and four from an index on
 pub eight_ascii : (index : ℕ) (bs : List ℕ) → ((k : ℕ) → Fits w8 (get_or bs k 0)) → index + 8 ≤ length bs
     → bit_and (from_le_bytes w64 (take 8 (drop index bs))) 9259542123273814144 ≡ 0 → IsAscii (take 8 (drop index bs))
 unfolding number
@@ -76,20 +77,11 @@ pub ascii_whole : (bs : List ℕ) (k j n : ℕ) → j ≤ k → length bs ≤ j 
 ascii_whole bs k j n near whole front back =
     subst IsAscii (take_all (j + n) bs whole) (ascii_on bs k j n near front back)
 
--- where neither of two numbers has one of these bits
-neither : (a b m : ℕ) → bit_and (bit_or a b) m ≡ 0 → (bit_and a m ≡ 0) × (bit_and b m ≡ 0)
-neither a b m none = (
-  same_from_bits (bit_and a m) 0 (λ i. omega (arith, bit_at_and a m i, bit_at_and (bit_or a b) m i, bit_at_or a b i, bit_at-zero i, ap (λ n. bit_at n i) none)),
-  same_from_bits (bit_and b m) 0 (λ i. omega (arith, bit_at_and b m i, bit_at_and (bit_or a b) m i, bit_at_or a b i, bit_at-zero i, ap (λ n. bit_at n i) none)),
-)
-
-pub sixteen_ascii : (index : ℕ) (bs : List ℕ) → ((k : ℕ) → Fits w8 (get_or bs k 0)) → index + 16 ≤ length bs
-    → bit_and (bit_or (from_le_bytes w64 (take 8 (drop index bs))) (from_le_bytes w64 (take 8 (drop (index + 8) bs)))) 9259542123273814144 ≡ 0
+-- sixteen bytes by eight and eight
+pub sixteen_ascii : (index : ℕ) (bs : List ℕ) → IsAscii (take 8 (drop index bs)) → IsAscii (take 8 (drop (index + 8) bs))
     → IsAscii (take 16 (drop index bs))
-sixteen_ascii index bs fits there none =
-    let two = neither (from_le_bytes w64 (take 8 (drop index bs))) (from_le_bytes w64 (take 8 (drop (index + 8) bs))) 9259542123273814144 none in
-    ascii_on (drop index bs) 8 8 8 (omega arith) (eight_ascii index bs fits (omega arith) two.0)
-    (subst (λ l. IsAscii (take 8 l)) (sym (drop-drop 8 index bs)) (eight_ascii (index + 8) bs fits (omega arith) two.1))
+sixteen_ascii index bs front back =
+    ascii_on (drop index bs) 8 8 8 (omega arith) front (subst (λ l. IsAscii (take 8 l)) (sym (drop-drop 8 index bs)) back)
 
 -- such bytes are UTF-8
 pub ascii_is_utf8 : (bs : List ℕ) → IsAscii bs → is_utf8 bs ≡ true
