@@ -1,7 +1,7 @@
 -- Bytes that are ASCII, which is tested several at a time.
 use Rattle.std.proofs.Common.{◌≡◌, ℕ, zero, suc, ◌+◌, ◌-◌, ◌*◌, ◌^◌, ◌<◌, ◌≤◌, Bool, true, false, List, [], ◌∷◌, length, take, drop, get_or, Result, Ok, Err, inl, inr, refl, sym, ap, ◌∙◌, subst, arith}
 use Rattle.std.proofs.lemmas.Bool.{cases_lt}
-use Rattle.std.proofs.lemmas.List.{get_or-take, get_or-drop, get_or_past, length-take, drop-drop, take_all}
+use Rattle.std.proofs.lemmas.List.{get_or-take, get_or-drop, get_or_past, length-take, length-drop, take_all}
 use Rattle.std.proofs.lemmas.Str.{IsUtf8-from_ascii, IsUtf8-from_is_utf8, is_utf8-from_IsUtf8}
 use Rattle.std.proofs.lemmas.Nat.{and_block}
 use Rattle.std.proofs.lemmas.Nat.Bits.{and_pow}
@@ -77,11 +77,13 @@ pub ascii_whole : (bs : List ℕ) (k j n : ℕ) → j ≤ k → length bs ≤ j 
 ascii_whole bs k j n near whole front back =
     subst IsAscii (take_all (j + n) bs whole) (ascii_on bs k j n near front back)
 
--- sixteen bytes by eight and eight
-pub sixteen_ascii : (index : ℕ) (bs : List ℕ) → IsAscii (take 8 (drop index bs)) → IsAscii (take 8 (drop (index + 8) bs))
+-- sixteen bytes by eight and eight of those from an index on
+pub sixteen_ascii : (index : ℕ) (bs : List ℕ) → IsAscii (take 8 (take (length bs - index) (drop index bs)))
+    → IsAscii (take 8 (drop 8 (take (length bs - index) (drop index bs))))
     → IsAscii (take 16 (drop index bs))
 sixteen_ascii index bs front back =
-    ascii_on (drop index bs) 8 8 8 (omega arith) front (subst (λ l. IsAscii (take 8 l)) (sym (drop-drop 8 index bs)) back)
+    subst (λ l. IsAscii (take 16 l)) (take_all (length bs - index) (drop index bs) (omega (arith, length-drop index bs)))
+    (ascii_on (take (length bs - index) (drop index bs)) 8 8 8 (omega arith) front back)
 
 -- such bytes are UTF-8
 pub ascii_is_utf8 : (bs : List ℕ) → IsAscii bs → is_utf8 bs ≡ true

@@ -62,7 +62,8 @@ fn are_sixteen_ascii(bytes: &[u8], index: usize) -> bool
     requires { index + 16 ≤ length bytes.now }
     ensures { IsTrue result → IsAscii (take 16 (drop index bytes.now)) }
 {
-    are_eight_ascii(bytes, index) && are_eight_ascii(bytes, index + 8)
+    let rest = &bytes[index..];
+    are_eight_ascii(rest, 0) && are_eight_ascii(rest, 8)
 }
 
 // Whether the eight bytes from an index on are ASCII.
@@ -89,15 +90,9 @@ fn eight_at(bytes: &[u8], index: usize) -> u64
     requires { index + 8 ≤ length bytes.now }
     ensures { result ≡ from_le_bytes w64 (take 8 (drop index bytes.now)) }
 {
+    let rest = &bytes[index..];
     u64::from_le_bytes([
-        bytes[index],
-        bytes[index + 1],
-        bytes[index + 2],
-        bytes[index + 3],
-        bytes[index + 4],
-        bytes[index + 5],
-        bytes[index + 6],
-        bytes[index + 7],
+        rest[0], rest[1], rest[2], rest[3], rest[4], rest[5], rest[6], rest[7],
     ])
 }
 
@@ -107,10 +102,6 @@ fn four_at(bytes: &[u8], index: usize) -> u32
     requires { index + 4 ≤ length bytes.now }
     ensures { result ≡ from_le_bytes w32 (take 4 (drop index bytes.now)) }
 {
-    u32::from_le_bytes([
-        bytes[index],
-        bytes[index + 1],
-        bytes[index + 2],
-        bytes[index + 3],
-    ])
+    let rest = &bytes[index..];
+    u32::from_le_bytes([rest[0], rest[1], rest[2], rest[3]])
 }
