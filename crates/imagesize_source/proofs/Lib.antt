@@ -32,3 +32,4 @@ pub mod Tests
 pub mod TextEnds
 pub mod Texts
 pub mod Way
+pub mod Words

@@ -1,41 +1,59 @@
 -- Bytes that are ASCII, which is tested several at a time.
-use Rattle.std.proofs.Common.{◌≡◌, ℕ, zero, suc, ◌+◌, ◌-◌, ◌%◌, ◌^◌, ◌<◌, ◌≤◌, Bool, true, false, cond, leb, List, [], ◌∷◌, map, length, take, drop, get_or, replicate, Result, Ok, Err, inl, inr, refl, sym, ap, ◌∙◌, subst, arith, leb-false}
+use Rattle.std.proofs.Common.{◌≡◌, ℕ, zero, suc, ◌+◌, ◌-◌, ◌*◌, ◌^◌, ◌<◌, ◌≤◌, Bool, true, false, List, [], ◌∷◌, length, take, drop, get_or, Result, Ok, Err, inl, inr, refl, sym, ap, ◌∙◌, subst, arith}
 use Rattle.std.proofs.lemmas.Bool.{cases_lt}
-use Rattle.std.proofs.lemmas.List.{get_or-take, get_or-drop, get_or_past, length-map, length-take, length-drop, take_all}
+use Rattle.std.proofs.lemmas.List.{get_or-take, get_or-drop, get_or_past, length-take, length-drop, take_all}
 use Rattle.std.proofs.lemmas.Str.{IsUtf8-from_ascii, IsUtf8-from_is_utf8, is_utf8-from_IsUtf8}
-use Rattle.std.proofs.lemmas.Simd.{length-zip2, length-replicate, mask_l-mod}
+use Rattle.std.proofs.lemmas.Nat.{and_block}
+use Rattle.std.proofs.lemmas.Nat.Bits.{and_pow}
+use Rattle.std.proofs.lemmas.Simd.{chunk-fits, length-chunk}
+use Rattle.std.specs.Int.{w8, w32, w64, from_le_bytes}
 use Rattle.std.specs.Prelude.{is_ok, MatchResult}
 use Rattle.std.specs.Str.{IsAscii, IsUtf8, is_utf8}
-use lib.Lanes.{mask_l, top, zip2}
+use Rattle.imagesize_source.proofs.Numbers.{little_4, little_8}
+use Rattle.imagesize_source.specs.Numbers.{number, little}
+use lib.Bits.{bit_and}
+use lib.Lanes.{Each1}
+use mir.Val.{Fits}
 
-abbrev at_least : ℕ → ℕ → ℕ
-at_least a b = cond (leb a b) 255 0
+-- one byte more at the front
+ascii_cons : (b : ℕ) (bs : List ℕ) → b < 128 → IsAscii bs → IsAscii (b ∷ bs)
+ascii_cons b bs low rest zero = low
+ascii_cons b bs low rest (suc i) = rest i
 
--- no lane is 128 or more where the mask of these is 0
-none_high : (bs : List ℕ) → mask_l (map (top 7) (zip2 at_least (replicate (length bs) 128) bs)) ≡ 0 → IsAscii bs
-none_high [] none i = omega arith
-none_high (b ∷ bs) none zero = go (leb 128 b) refl (omega arith)
-  where
-    go : (t : Bool) → leb 128 b ≡ t → ◌≡◌ {A = ℕ} (cond (top 7 (cond t 255 0)) 1 0) 0 → b < 128
-    go true p q = absurd (omega arith)
-    go false p q = leb-false _ _ p
-none_high (b ∷ bs) none (suc i) = none_high bs (omega arith) i
+-- 128 in each of n bytes
+abbrev highs : ℕ → ℕ
+highs zero = 0
+highs (suc n) = 128 + 256 * highs n
 
--- so the bytes are ASCII that fill n lanes from an index on
-pub lanes_ascii : (n index : ℕ) (bs : List ℕ) → n ≤ 64 → index + n ≤ length bs
-    → mask_l (map (top 7) (zip2 at_least (replicate n 128) (take n (drop index bs)))) % 2 ^ 64 ≡ 0
-    → IsAscii (take n (drop index bs))
-lanes_ascii n index bs few there none =
-    let lanes : List ℕ = take n (drop index bs) in
-    let long : length lanes ≡ n = omega (arith, length-take n (drop index bs), length-drop index bs) in
-    let small = mask_l-mod (map (top 7) (zip2 at_least (replicate n 128) lanes)) 64
-    (omega (
-      arith,
-      length-map (zip2 at_least (replicate n 128) lanes) (top 7),
-      length-zip2 at_least (replicate n 128) lanes (length-replicate {A = ℕ} n 128 ∙ sym long),
-      length-replicate {A = ℕ} n 128,
-    )) in
-    none_high lanes (ap (λ m. mask_l (map (top 7) (zip2 at_least (replicate m 128) lanes))) long ∙ sym small ∙ none)
+-- a byte without its highest bit
+low_byte : (b : ℕ) → b < 256 → bit_and b 128 ≡ 0 → b < 128
+low_byte b byte none = omega (arith, and_pow b 7, none)
+
+-- no byte is 128 or more where none has its highest bit in the number that they encode
+none_high : (bs : List ℕ) → Each1 (Fits w8) bs → bit_and (little bs) (highs (length bs)) ≡ 0 → IsAscii bs
+none_high [] fits none i = omega arith
+none_high (b ∷ bs) fits none i =
+    let left : b + 256 * little bs ≡ little bs * 2 ^ 8 + b = omega arith in
+    let right : 128 + 256 * highs (length bs) ≡ highs (length bs) * 2 ^ 8 + 128 = omega arith in
+    let parts = (λ j. bit_and (left j) (right j)) ∙ and_block 8 (little bs) (highs (length bs)) b 128 fits.0.fits (omega arith) in
+    ascii_cons b bs (low_byte b fits.0.fits (omega (arith, parts, none))) (none_high bs fits.1 (omega (arith, parts, none))) i
+
+-- eight bytes and four from an index on
+pub eight_ascii : (index : ℕ) (bs : List ℕ) → ((k : ℕ) → Fits w8 (get_or bs k 0)) → index + 8 ≤ length bs
+    → bit_and (from_le_bytes w64 (take 8 (drop index bs))) 9259542123273814144 ≡ 0 → IsAscii (take 8 (drop index bs))
+unfolding number
+eight_ascii index bs fits there none =
+    let long : length (take 8 (drop index bs)) ≡ 8 = length-chunk index 8 bs there in
+    none_high (take 8 (drop index bs)) (chunk-fits w8 index 8 bs fits)
+    ((λ i. bit_and (sym (little_8 (take 8 (drop index bs)) long) i) (highs (long i))) ∙ none)
+
+pub four_ascii : (index : ℕ) (bs : List ℕ) → ((k : ℕ) → Fits w8 (get_or bs k 0)) → index + 4 ≤ length bs
+    → bit_and (from_le_bytes w32 (take 4 (drop index bs))) 2155905152 ≡ 0 → IsAscii (take 4 (drop index bs))
+unfolding number
+four_ascii index bs fits there none =
+    let long : length (take 4 (drop index bs)) ≡ 4 = length-chunk index 4 bs there in
+    none_high (take 4 (drop index bs)) (chunk-fits w8 index 4 bs fits)
+    ((λ i. bit_and (sym (little_4 (take 4 (drop index bs)) long) i) (highs (long i))) ∙ none)
 
 -- bytes in front and bytes that begin among them or right behind them
 pub ascii_on : (bs : List ℕ) (k j n : ℕ) → j ≤ k → IsAscii (take k bs) → IsAscii (take n (drop j bs))
@@ -58,6 +76,14 @@ pub ascii_whole : (bs : List ℕ) (k j n : ℕ) → j ≤ k → length bs ≤ j 
     → IsAscii (take n (drop j bs)) → IsAscii bs
 ascii_whole bs k j n near whole front back =
     subst IsAscii (take_all (j + n) bs whole) (ascii_on bs k j n near front back)
+
+-- sixteen bytes by eight and eight of those from an index on
+pub sixteen_ascii : (index : ℕ) (bs : List ℕ) → IsAscii (take 8 (take (length bs - index) (drop index bs)))
+    → IsAscii (take 8 (drop 8 (take (length bs - index) (drop index bs))))
+    → IsAscii (take 16 (drop index bs))
+sixteen_ascii index bs front back =
+    subst (λ l. IsAscii (take 16 l)) (take_all (length bs - index) (drop index bs) (omega (arith, length-drop index bs)))
+    (ascii_on (take (length bs - index) (drop index bs)) 8 8 8 (omega arith) front back)
 
 -- such bytes are UTF-8
 pub ascii_is_utf8 : (bs : List ℕ) → IsAscii bs → is_utf8 bs ≡ true

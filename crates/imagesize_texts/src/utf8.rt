@@ -1,11 +1,13 @@
 //! Tests whether bytes are UTF-8.
 ghost use Rattle.std.specs.Prelude.{◌≡◌, ◌+◌, ◌≤◌, IsAscii, IsTrue, length, take, drop};
+ghost use Rattle.std.specs.Int.{w32, w64, from_le_bytes};
 ghost use Rattle.std.specs.Str.{is_utf8};
-
-use std::simd::prelude::*;
 
 // How many bytes of a long text are tested at once.
 const LANES: usize = 16;
+
+// The highest bit of each byte. A byte with this bit is not ASCII.
+const HIGH_BITS: u64 = 0x8080_8080_8080_8080;
 
 /// Whether the bytes are UTF-8. Nearly every name, line and word is ASCII. `str::from_utf8` takes some 70 instructions for a
 /// short one, and this test takes 20.
@@ -53,14 +55,15 @@ fn is_long_ascii(bytes: &[u8]) -> bool
     are_sixteen_ascii(bytes, last)
 }
 
-// Whether the sixteen bytes from an index on are ASCII.
+// Whether the sixteen bytes from an index on are ASCII. Two tests, each against a number in memory, take as few instructions as
+// one vector does. A test of `a | b` takes many more: the compiler then loads the bytes one at a time.
 #[inline(always)]
 fn are_sixteen_ascii(bytes: &[u8], index: usize) -> bool
     requires { index + 16 ≤ length bytes.now }
     ensures { IsTrue result → IsAscii (take 16 (drop index bytes.now)) }
 {
-    let lanes = u8x16::from_slice(&bytes[index..]);
-    lanes.simd_ge(u8x16::splat(0x80)).to_bitmask() == 0
+    let rest = &bytes[index..];
+    are_eight_ascii(rest, 0) && are_eight_ascii(rest, 8)
 }
 
 // Whether the eight bytes from an index on are ASCII.
@@ -69,8 +72,7 @@ fn are_eight_ascii(bytes: &[u8], index: usize) -> bool
     requires { index + 8 ≤ length bytes.now }
     ensures { IsTrue result → IsAscii (take 8 (drop index bytes.now)) }
 {
-    let lanes = u8x8::from_slice(&bytes[index..]);
-    lanes.simd_ge(u8x8::splat(0x80)).to_bitmask() == 0
+    eight_at(bytes, index) & HIGH_BITS == 0
 }
 
 // Whether the four bytes from an index on are ASCII.
@@ -79,6 +81,27 @@ fn are_four_ascii(bytes: &[u8], index: usize) -> bool
     requires { index + 4 ≤ length bytes.now }
     ensures { IsTrue result → IsAscii (take 4 (drop index bytes.now)) }
 {
-    let lanes = u8x4::from_slice(&bytes[index..]);
-    lanes.simd_ge(u8x4::splat(0x80)).to_bitmask() == 0
+    four_at(bytes, index) & 0x8080_8080 == 0
+}
+
+// The number that the eight bytes from an index on encode, the lowest byte first.
+#[inline(always)]
+fn eight_at(bytes: &[u8], index: usize) -> u64
+    requires { index + 8 ≤ length bytes.now }
+    ensures { result ≡ from_le_bytes w64 (take 8 (drop index bytes.now)) }
+{
+    let rest = &bytes[index..];
+    u64::from_le_bytes([
+        rest[0], rest[1], rest[2], rest[3], rest[4], rest[5], rest[6], rest[7],
+    ])
+}
+
+// The number that the four bytes from an index on encode, the lowest byte first.
+#[inline(always)]
+fn four_at(bytes: &[u8], index: usize) -> u32
+    requires { index + 4 ≤ length bytes.now }
+    ensures { result ≡ from_le_bytes w32 (take 4 (drop index bytes.now)) }
+{
+    let rest = &bytes[index..];
+    u32::from_le_bytes([rest[0], rest[1], rest[2], rest[3]])
 }

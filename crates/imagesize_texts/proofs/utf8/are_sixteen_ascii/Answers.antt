@@ -1,6 +1,6 @@
-use Rattle.std.proofs.Common.{eqb-true, arith}
-use Rattle.imagesize_texts.proofs.Ascii.{lanes_ascii}
+use Rattle.imagesize_texts.proofs.Ascii.{sixteen_ascii}
 use Rattle.imagesize_texts.proofs.utf8.are_sixteen_ascii.Goals as goal
 
-pub returns : goal.returns
-returns c = λ none. lanes_ascii 16 c.args.index c.args.bytes.now (omega arith) c.requires (eqb-true _ _ none)
+pub returns-then-are_eight_ascii : goal.returns-then-are_eight_ascii
+returns-then-are_eight_ascii c = λ is. sixteen_ascii c.args.index c.args.bytes.now
+    (c.are_eight_ascii.ensures c.if-are_eight_ascii.true) (c.are_eight_ascii-then-are_eight_ascii.ensures is)
