@@ -37,7 +37,7 @@ impl Source for SliceSource<'_> {
         Ok(copy_part(self.bytes, offset, buffer))
     }
 
-    // Inlined, so that the sort of the text is known where it is read.
+    // Inlined, so that the compiler knows whether the text is a line or a word.
     #[inline(always)]
     fn read_text(&mut self, offset: u64, text: Text, buffer: &mut [u8]) -> Result<usize, Halt> {
         // The proof needs that the length is below 2^63.
