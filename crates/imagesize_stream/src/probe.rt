@@ -14,7 +14,7 @@ use imagesize::{ImageResult, ImageType};
 use imagesize_pieces::buffer::front_of;
 use imagesize_pieces::pending::keep_pending;
 use imagesize_pieces::stand::Stand;
-use imagesize_source::{Halt, Reason};
+use imagesize_source::{Halt, ImageError, Reason};
 use imagesize_types::size::ImageSize;
 
 // The length of an input whose length is unknown. No input is longer.
@@ -319,6 +319,10 @@ impl StreamProbe {
         // A size is not passed through a result that has room for an error: this saves three copies of 96 bytes.
         match &self.stage {
             Stage::Done { size: Ok(size) } => Some((self.kind, Ok(*size))),
+            // Of all errors, this one is not rare: many inputs are no image. Its result is made without a call.
+            Stage::Done {
+                size: Err(Halt::NotSupported),
+            } => Some((self.kind, Err(ImageError::NotSupported))),
             Stage::Done { size: Err(halt) } => Some((self.kind, stated(Err(*halt)))),
             _ => None,
         }
