@@ -7,10 +7,12 @@ use Rattle.imagesize.specs.Short.{EndsAs}
 use Rattle.imagesize_types.specs.declared.size.ImageSize.{ImageSize}
 use Rattle.imagesize.specs.declared.types.ImageType.{ImageType}
 use Rattle.imagesize.specs.declared.calls.Probed.{Probed}
+use Rattle.imagesize.specs.declared.memory.Counted.{Counted}
 use Rattle.imagesize_source.specs.Limits.{allowance}
 use Rattle.imagesize_source.specs.declared.halt.Halt.{Halt}
 use Rattle.imagesize_io.specs.Answers.{AnswersAs, TakesAs, over_reader}
-use Rattle.imagesize_source.specs.Errors.{is_stopped}
+use Rattle.imagesize_source.specs.Errors.{end_of_input, is_stopped}
+use Rattle.imagesize_source.specs.Halts.{with_error}
 use Rattle.imagesize_source.specs.Reading.{is_stopped as has_stopped}
 use Rattle.imagesize_source.specs.State.{State}
 use Rattle.imagesize_io.specs.Telling.{Telling, IsHonest}
@@ -36,6 +38,10 @@ pub record ProbesOf (t : Telling) (probed : Probed) : Type 0 where
 abbrev pub Probes : Option Telling → Probed → Type 0
 Probes None probed = Unit {0}
 Probes (Some t) probed = IsHonest t → ProbesOf t probed
+
+-- what a call returns for what was found in bytes in memory, of this length
+abbrev pub counted_probe : ℕ → Counted → Probed
+counted_probe told c = record { kind = c.kind; answer = with_error end_of_input (told + allowance) c.found; taken = c.taken }
 
 -- a budget of at least the allowance was spent, and the reader's count increased by all of it
 abbrev pub SpentAll : Option ℕ → Option ℕ → ℕ → Type 0

@@ -14,11 +14,11 @@ ghost use Rattle.imagesize.specs.Probed.{FindsKind, Probes, SpentAll};
 ghost use Rattle.imagesize.specs.Short.{Ends};
 
 use crate::formats::{detect, size};
-use crate::memory::{memory_probe, memory_size, memory_size_as, memory_type};
+use crate::memory::{Counted, memory_probe, memory_size, memory_size_as, memory_type, refused};
 use crate::types::ImageType;
 use crate::{ImageResult, Told};
 use imagesize_io::counting::leave;
-use imagesize_io::reader::{Opened, Origin, ReaderSource, open};
+use imagesize_io::reader::{ALLOWANCE, Opened, Origin, ReaderSource, open};
 use imagesize_source::Halt;
 use imagesize_source::halt::with_error;
 use imagesize_source::source::Source;
@@ -203,13 +203,37 @@ pub fn reader_probe<R: Told>(reader: &mut R) -> Probed
     ensures fault { IfErr result.answer (λ e. is_fault e ≡ true → IsLast (R.failure reader.new) e) }
     ensures leaves { Leaves (R.telling reader.old) (R.telling reader.new) }
 {
-    match open(reader, Origin::Offset) {
-        Ok(opened) => probe_by(reader, opened),
-        Err(error) => Probed {
-            kind: None,
-            answer: Err(error),
-            taken: 0,
-        },
+    let opened = match open(reader, Origin::Offset) {
+        Ok(opened) => opened,
+        Err(error) => {
+            return Probed {
+                kind: None,
+                answer: Err(error),
+                taken: 0,
+            };
+        }
+    };
+    let Some(bytes) = reader.in_memory() else {
+        return probe_opened(reader, opened);
+    };
+    // Bytes in memory are read where they lie, and are counted. No read calls the reader. The result is written once, here: a
+    // call that returned it would have it copied, which takes 60 instructions.
+    let told = bytes.len() as u64;
+    let Counted {
+        kind,
+        found,
+        taken,
+        position,
+    } = memory_probe(bytes, opened);
+    leave(reader, position);
+    let size = match found {
+        Ok(size) => size,
+        Err(halt) => return refused(kind, halt, taken, told + ALLOWANCE),
+    };
+    Probed {
+        kind,
+        answer: Ok(size),
+        taken,
     }
 }
 
@@ -273,27 +297,6 @@ fn read_size<R: Told>(reader: &mut R, opened: Opened) -> ImageResult<ImageSize>
         Some(bytes) => memory_size(bytes, opened.offset),
         None => probe_opened(reader, opened).answer,
     }
-}
-
-// Type and size of the image in the bytes of a reader that was opened, and is used again. Bytes in memory are read where they
-// lie, and are counted. No read calls the reader: that saves a sixth of the instructions over a cursor.
-#[inline(always)]
-fn probe_by<R: Told>(reader: &mut R, opened: Opened) -> Probed
-    ensures probes { (telling : Option Telling) → Opens telling (R.telling reader.old) (Ok opened) → Probes telling result }
-    ensures typed { IfOk result.answer (λ _. IsSome result.kind) }
-    ensures counts { R.count reader.new ≡ option_map (λ c. c + result.taken) (R.count reader.old) }
-    ensures spent { IfErr result.answer (λ e. IfSome (budget_spent e) (λ budget. (budget ≡ result.taken) × (allowance ≤ budget))) }
-    ensures memory { IfErr result.answer (λ e. is_memory e ≡ false) }
-    ensures fault { IfErr result.answer (λ e. is_fault e ≡ true → IsLast (R.failure reader.new) e) }
-    ensures leaves { (telling : Option Telling) → Opens telling (R.telling reader.old) (Ok opened)
-        → Leaves telling (R.telling reader.new) }
-{
-    let Some(bytes) = reader.in_memory() else {
-        return probe_opened(reader, opened);
-    };
-    let (probed, position) = memory_probe(bytes, opened);
-    leave(reader, position);
-    probed
 }
 
 // The size, read as this type, in the bytes of a reader that was opened, and is used again.

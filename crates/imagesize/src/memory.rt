@@ -1,13 +1,14 @@
 //! Calls over bytes in memory.
-ghost use Rattle.std.specs.Prelude.{◌≡◌, ◌≤◌, length, IfOk, IfErr, IfSome, IsSome, false, Option, Ok};
+ghost use Rattle.std.specs.Prelude.{◌≡◌, ◌≤◌, length, IfOk, IfErr, IfSome, IsSome, false, Option, Ok, Err};
 ghost use Rattle.imagesize_io.specs.Answers.{Answers};
 ghost use Rattle.imagesize_io.specs.Memory.{IsMemory};
 ghost use Rattle.imagesize_io.specs.ReaderState.{Opens};
 ghost use Rattle.imagesize_io.specs.Telling.{Telling};
-ghost use Rattle.imagesize_source.specs.Errors.{budget_spent, is_memory, is_stopped};
+ghost use Rattle.imagesize_source.specs.Errors.{budget_spent, end_of_input, is_memory, is_stopped};
+ghost use Rattle.imagesize_source.specs.Halts.{error_by};
 ghost use Rattle.imagesize_source.specs.Limits.{allowance};
 ghost use Rattle.imagesize.specs.Meaning.{kind_of, meaning, size_of};
-ghost use Rattle.imagesize.specs.Probed.{Probes};
+ghost use Rattle.imagesize.specs.Probed.{Probes, counted_probe};
 
 use crate::ImageResult;
 use crate::calls::{Probed, probe};
@@ -19,6 +20,7 @@ use imagesize_io::reader::Opened;
 use imagesize_source::halt::with_error;
 use imagesize_source::source::Source;
 use imagesize_source::source::slice::SliceSource;
+use imagesize_source::{Halt, Reason};
 use imagesize_types::size::ImageSize;
 
 // The type of the image at an offset of bytes in memory.
@@ -45,26 +47,53 @@ pub(crate) fn memory_size(bytes: &[u8], offset: u64) -> ImageResult<ImageSize>
     with_error(found, &source)
 }
 
-// Type and size of the image in the bytes of a reader in memory, and the reader's offset after the last read.
-pub(crate) fn memory_probe(bytes: &[u8], opened: Opened) -> (Probed, u64)
+// What was found in the bytes of a reader in memory.
+#[derive(Drop)]
+pub(crate) struct Counted {
+    pub(crate) kind: Option<ImageType>,
+    pub(crate) found: Result<ImageSize, Halt>,
+    // How many bytes a source over the reader would have read.
+    pub(crate) taken: u64,
+    // The reader's offset after the last read.
+    pub(crate) position: u64,
+}
+
+// Type and size of the image in the bytes of a reader in memory. The caller makes the error of a `Halt`: a result with room
+// for an error would be copied once more, in 48 instructions.
+pub(crate) fn memory_probe(bytes: &[u8], opened: Opened) -> Counted
     ensures probes { (telling mid : Option Telling) → Opens telling mid (Ok opened) → IsMemory mid bytes.now
-        → Probes telling result.0 }
-    ensures typed { IfOk result.0.answer (λ _. IsSome result.0.kind) }
-    ensures spent { IfErr result.0.answer (λ e. IfSome (budget_spent e)
-        (λ budget. (budget ≡ result.0.taken) × (allowance ≤ budget))) }
-    ensures memory { IfErr result.0.answer (λ e. is_memory e ≡ false) }
-    ensures there { result.1 ≤ length bytes.now }
+        → Probes telling (counted_probe (length bytes.now) result) }
+    ensures typed { IfOk result.found (λ _. IsSome result.kind) }
+    ensures spent { IfErr (counted_probe (length bytes.now) result).answer (λ e. IfSome (budget_spent e)
+        (λ budget. (budget ≡ result.taken) × (allowance ≤ budget))) }
+    ensures memory { IfErr (counted_probe (length bytes.now) result).answer (λ e. is_memory e ≡ false) }
+    ensures there { result.position ≤ length bytes.now }
 {
     let mut source = CountingSource::new(bytes);
     let (kind, found) = probe(&mut source, opened.offset);
-    let answer = with_error(found, &source);
     let taken = source.taken();
-    let probed = Probed {
+    Counted {
         kind,
-        answer,
+        found,
         taken,
-    };
-    (probed, source.position())
+        position: source.position(),
+    }
+}
+
+// What `reader_probe` returns where bytes in memory give no size. Not inlined, so that a size is written into the result at
+// once.
+#[cold]
+#[inline(never)]
+pub(crate) fn refused(kind: Option<ImageType>, halt: Halt, taken: u64, budget: u64) -> Probed
+    ensures kind { result.kind ≡ kind }
+    ensures answer { result.answer ≡ Err (error_by end_of_input budget halt) }
+    ensures taken { result.taken ≡ taken }
+{
+    Probed {
+        kind,
+        answer: Err(halt.error(Reason::EndOfInput, budget)),
+        taken,
+    }
 }
 
 // The size of the image in the bytes of a reader in memory, read as a type, and the reader's offset after the last read.

@@ -149,6 +149,24 @@ held_reads {old} {new} {a} {b} {offset} {n} buffer t gave counts fits whole at n
     reads_past small (omega (arith, far)) (omega (arith, long, many)) read
     (same ∙ ap (kept_window old.window.items offset) (sym (take-take n n buffer (omega arith)))) limit
 
+-- and where a buffer begins with what was read
+pub held_front : {old new : Ledger} {a b : Account} {offset n : ℕ} (front buffer : List ℕ) (t : Text)
+    → take n front ≡ take n buffer
+    → ReadTells a.telling b.telling buffer (Ok n) → b.count ≡ count_after {E = Stop} a.count (Ok n) → n ≤ length buffer
+    → IsWhole t (take n buffer)
+    → old.progress.offset ≡ offset → offset ≤ old.progress.told → length old.window.items ≤ offset
+    → length old.window.items ≤ 32
+    → new.window.items ≡ kept_window old.window.items offset (take n front) → new.progress.told ≡ old.progress.told → new.progress.budget ≡ old.progress.budget
+    → new.progress.retries ≡ old.progress.retries → new.progress.fault ≡ old.progress.fault
+    → new.progress.taken ≡ old.progress.taken + n
+    → new.progress.offset ≡ min (offset + n) (2 ^ 64 - 1) → new.progress.taken ≤ old.progress.budget
+    → ReadsAt old new a b offset (take n front) (Ok n)
+held_front {old} {new} {a} {b} {offset} {n} front buffer t same gave counts fits whole at near far small kept told budget
+    retries calm taken now limit =
+    subst (λ bs. ReadsAt old new a b offset bs (Ok n)) (sym same)
+    (held_reads buffer t gave counts fits whole at near far small (kept ∙ ap (kept_window old.window.items offset) same) told
+    budget retries calm taken now limit)
+
 -- and what byte by byte would be read
 pub held_text : {a c : State} (t : Text) (offset n : ℕ) (buffer : List ℕ) → IsWhole t (take n buffer) → n ≤ length buffer
     → Runs a c (Ok (take n (take n buffer))) (part_read a.held.input offset (length (take n buffer)))

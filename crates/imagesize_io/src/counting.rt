@@ -63,6 +63,10 @@ impl<'a> CountingSource<'a> {
             return self.pays_last(offset, count);
         }
         if offset <= self.front || self.left < count as u64 || count == 0 {
+            // A read within the front costs nothing, and moves nothing. Most reads of a size at fixed offsets are such.
+            if offset + count as u64 <= self.front {
+                return true;
+            }
             return self.pays_front(offset, count);
         }
         // Most reads lie past the front, and cost two tests and two stores here.

@@ -95,7 +95,7 @@ impl<R: Read + Seek + Drop> Told for KeptReader<R> {
     {
         let count = copy_text(text, self.reader.buffer(), buffer)?;
         self.reader.consume(count);
-        self.offset = offset_after(self.offset, count);
+        advance(&mut self.offset, count);
         Some(count)
     }
 
@@ -127,6 +127,29 @@ fn offset_after(offset: Option<u64>, count: usize) -> Option<u64>
     ensures { result ≡ offset_after offset count }
 {
     offset?.checked_add(count as u64)
+}
+
+// Advances an offset. A branch decides whether it stays known: that saves five instructions a text.
+#[inline(always)]
+fn advance(offset: &mut Option<u64>, count: usize)
+    ensures { offset.new ≡ offset_after offset.old count }
+{
+    let Some(from) = *offset else {
+        return;
+    };
+    match from.checked_add(count as u64) {
+        Some(next) => *offset = Some(next),
+        None => forget(offset),
+    }
+}
+
+// Forgets an offset. Not inlined, since no input is that long.
+#[cold]
+#[inline(never)]
+fn forget(offset: &mut Option<u64>)
+    ensures { offset.new ≡ None }
+{
+    *offset = None;
 }
 
 // Seeks from an offset, if that is known.

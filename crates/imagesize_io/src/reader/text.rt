@@ -5,7 +5,7 @@ ghost use Rattle.imagesize_io.specs.ReaderState.{ReadsAt, ReadsText};
 ghost use Rattle.imagesize_io.specs.Telling.{account};
 
 use super::Ledger;
-use super::held::{pays_there, read_held};
+use super::held::{read_held, stands_there};
 use super::windowed::read_on;
 use crate::Told;
 use imagesize_source::text::is_end;
@@ -43,7 +43,8 @@ fn read_by_bytes<R: Told>(
         (account R.telling R.count R.failure reader.new) text offset buffer.new result }
 {
     let mut begun = false;
-    let mut is_new = true;
+    // The reader was asked at the first byte.
+    let mut again = 1;
     let mut count = 0;
     while count < buffer.len() {
         let next = offset.saturating_add(count as u64);
@@ -52,7 +53,8 @@ fn read_by_bytes<R: Told>(
             ledger,
             next,
             text,
-            &mut is_new,
+            count,
+            &mut again,
             &mut buffer[count..],
         ) {
             return Ok(count + rest);
@@ -70,15 +72,17 @@ fn read_by_bytes<R: Told>(
     Ok(count)
 }
 
-// The rest of a line from the bytes that the reader holds. It is a line itself, so it need not be read byte by byte. If the
-// reader does not hold all of it, it is not asked again: the search would start anew at each byte.
+// The rest of a line from the bytes that the reader holds. It is a line itself, so it need not be read byte by byte. `count`
+// bytes of the line were read. If the reader does not hold the rest, it is asked again after as many bytes more: by then it may
+// have filled its buffer, and the searches in vain are few.
 #[inline(always)]
 fn read_rest<R: Told>(
     reader: &mut R,
     ledger: &mut Ledger,
     next: u64,
     text: Text,
-    is_new: &mut bool,
+    count: usize,
+    again: &mut usize,
     buffer: &mut [u8],
 ) -> Option<usize>
     ensures bound { IfSome result (λ n. n ≤ length buffer.new) }
@@ -89,10 +93,10 @@ fn read_rest<R: Told>(
     ensures reads { IfSome result (λ n. ReadsAt ledger.old ledger.new (account R.telling R.count R.failure reader.old)
         (account R.telling R.count R.failure reader.new) next (take n buffer.new) (Ok n)) }
 {
-    if !*is_new || !is_line(text) || !pays_there(ledger, next, buffer.len() as u64) {
+    if count < *again || !is_line(text) || !stands_there(ledger, next) {
         return None;
     }
-    *is_new = false;
+    *again = count.saturating_add(count);
     read_held(reader, ledger, next, text, buffer)
 }
 

@@ -15,3 +15,6 @@ returns-then-count-buffer-clause-few c = omega (arith, c.record-count.ensures.co
 
 pub returns-else-count-buffer-clause-few : goal.returns-else-count-buffer-clause-few
 returns-else-count-buffer-clause-few c = omega (arith, c.record-count.ensures.count, marks_few c.args.«data».now 0)
+
+pub returns-then-is_empty-clause-few : goal.returns-then-is_empty-clause-few
+returns-then-is_empty-clause-few c = omega (arith, c.record.ensures.count, marks_few c.args.«data».now 0)
