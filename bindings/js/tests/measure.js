@@ -1,32 +1,46 @@
-// What the module costs: node bindings/js/tests/measure.js [FILE..]
+// What the module costs: node bindings/js/tests/measure.js [--beside FOLDER] [FILE..]
 //
 // It prints microseconds a call of `probe` over the bytes of each file, here and in Python, and of a `StreamProbe` that gets them in
-// chunks; what many records cost in a stream; the bytes and requests of `probeUrl` beside the whole input, from a server with ranges
-// and from one without; and the size of what a page loads.
+// chunks; of `probe` over images of many records, as bench/inputs writes them; what many records cost in a stream; the bytes and
+// requests of `probeUrl` beside the whole input, from a server with ranges and from one without; and the size of what a page loads.
+//
+// FOLDER has another build of the module, such as bindings/js of another checkout. Then `probe` of both builds is called by turns over
+// the images of many records.
 
-import { spawnSync } from 'node:child_process';
-import { readFileSync, readdirSync } from 'node:fs';
-import { basename } from 'node:path';
-import { fileURLToPath } from 'node:url';
+import { execFileSync, spawnSync } from 'node:child_process';
+import { mkdtempSync, readFileSync, readdirSync, rmSync } from 'node:fs';
+import { tmpdir } from 'node:os';
+import { basename, join, resolve } from 'node:path';
+import { fileURLToPath, pathToFileURL } from 'node:url';
+import { parseArgs } from 'node:util';
 import { brotliCompressSync, gzipSync } from 'node:zlib';
 import { StreamProbe, probe, probeStream, probeUrl } from '../imagesize.js';
 import { giveRange, jpegBehind, tiffBehind, withServer } from './support.js';
 
 const CALLS = 2000;
 const ROUNDS = 20;
+const GIF = Buffer.from('474946383961640064000000', 'hex');
 
 const row = (name, ...numbers) => console.log(name.padEnd(48), ...numbers.map((number) => String(number).padStart(10)));
 
-// Microseconds a call, in the best of some rounds.
-function timed(call, calls = CALLS) {
-  let best = Infinity;
+// Microseconds a call of each of some functions, in the best of some rounds. In each round they are called one after another.
+function timedByTurns(functions, calls) {
+  const best = functions.map(() => Infinity);
   for (let round = 0; round < ROUNDS; round += 1) {
-    const begin = performance.now();
-    for (let index = 0; index < calls; index += 1) call();
-    best = Math.min(best, performance.now() - begin);
+    functions.forEach((call, which) => {
+      const begin = performance.now();
+      for (let index = 0; index < calls; index += 1) call();
+      best[which] = Math.min(best[which], performance.now() - begin);
+    });
   }
-  return ((best * 1000) / calls).toFixed(2);
+  return best.map((time) => ((time * 1000) / calls).toFixed(2));
 }
+
+// Microseconds a call.
+const timed = (call, calls = CALLS) => timedByTurns([call], calls)[0];
+
+// The same call without its errors.
+const caught = (call) => () => { try { call(); } catch { /* an error costs too */ } };
 
 // Passes some bytes to a stream in chunks of this length, up to the result.
 function feed(bytes, length) {
@@ -61,10 +75,28 @@ function measureCalls(files) {
   const inPython = timedInPython(files);
   files.forEach((file, index) => {
     const bytes = readFileSync(file);
-    const timedAlso = (call) => timed(() => { try { call(); } catch { /* an error costs too */ } });
-    const inChunks = [4096, 65536].map((length) => timedAlso(() => feed(bytes, length)));
-    row(basename(file), bytes.length, timedAlso(() => probe(bytes)), inPython[index], ...inChunks);
+    const inChunks = [4096, 65536].map((length) => timed(caught(() => feed(bytes, length))));
+    row(basename(file), bytes.length, timed(caught(() => probe(bytes))), inPython[index], ...inChunks);
   });
+}
+
+// Images of many records, and texts that end late. If another build is named, its `probe` has a column too.
+async function measureRecords(beside) {
+  const probes = [probe];
+  if (beside) probes.push((await import(pathToFileURL(resolve(beside, 'imagesize.js')))).probe);
+  // A module that is not built fails here, and is not timed.
+  probes.forEach((call) => call(GIF));
+  row('\nmicroseconds a call', 'bytes', 'probe', ...(beside ? ['beside'] : []));
+  const folder = mkdtempSync(join(tmpdir(), 'measure-'));
+  try {
+    execFileSync(fileURLToPath(new URL('../../../bench/inputs', import.meta.url)), [folder]);
+    for (const name of readdirSync(folder).filter((name) => /^(many|spaces|digits)/.test(name)).sort()) {
+      const bytes = readFileSync(join(folder, name));
+      row(name, bytes.length, ...timedByTurns(probes.map((call) => caught(() => call(bytes))), 100));
+    }
+  } finally {
+    rmSync(folder, { recursive: true });
+  }
 }
 
 // Inputs whose size comes late, in chunks of 64 KiB; and what one call takes that needs more bytes.
@@ -129,7 +161,9 @@ function measureSizes() {
   row('together', ...[0, 1, 2].map((column) => sizes.reduce((sum, size) => sum + size[column], 0)));
 }
 
-measureCalls(process.argv.slice(2));
+const { values: { beside }, positionals: files } = parseArgs({ options: { beside: { type: 'string' } }, allowPositionals: true });
+measureCalls(files);
+await measureRecords(beside);
 await measureStreams();
 await measureRanges();
 measureSizes();

@@ -1,0 +1,142 @@
+//! The calls, and their names.
+
+mod chunks;
+mod parts;
+mod readers;
+mod slices;
+
+use crate::results::Results;
+use imagesize::{ImageType, Span, size};
+use readers::{ReaderCall, Wrapped};
+use slices::SliceCall;
+use std::alloc::Global;
+use std::io;
+use std::rt::Files;
+
+/// A public call, and how it gets its input.
+#[derive(Clone, Copy)]
+pub enum Call {
+    /// A call over all bytes in memory.
+    Slice(SliceCall),
+    /// A call over a reader.
+    Reader(ReaderCall, Wrapped),
+    /// `size` of the file.
+    Path,
+    /// A `StreamProbe` that gets chunks of so many bytes.
+    Stream(usize),
+    /// A `PartsProbe` that gets the requested spans.
+    Rounds,
+    /// A `PartsProbe` that gets blocks of so many bytes, each from the offset of a requested span.
+    Blocks(usize),
+    /// `parts_probe` of all bytes as one part.
+    Parts,
+    /// `parts_probe` in rounds, of all spans that were requested so far.
+    PartsList,
+    /// `parts_size` of `imagesize_png`, of all bytes as one part.
+    PngParts,
+}
+
+/// The names of the calls.
+pub const CALLS: [(&str, Call); 31] = [
+    ("type", Call::Slice(SliceCall::Type)),
+    ("size", Call::Slice(SliceCall::Size)),
+    ("spans", Call::Slice(SliceCall::Spans)),
+    ("count", Call::Slice(SliceCall::Count)),
+    ("trace", Call::Slice(SliceCall::Trace)),
+    ("reader", Call::Reader(ReaderCall::Size, Wrapped::Cursor)),
+    ("buffered", Call::Reader(ReaderCall::Size, Wrapped::Buffer)),
+    ("file", Call::Reader(ReaderCall::Size, Wrapped::File)),
+    ("path", Call::Path),
+    ("probe", Call::Reader(ReaderCall::Probe, Wrapped::Cursor)),
+    (
+        "probe_buffered",
+        Call::Reader(ReaderCall::Probe, Wrapped::Buffer),
+    ),
+    (
+        "by_type",
+        Call::Reader(ReaderCall::SizeByType, Wrapped::Cursor),
+    ),
+    (
+        "by_type_buffered",
+        Call::Reader(ReaderCall::SizeByType, Wrapped::Buffer),
+    ),
+    ("admit", Call::Reader(ReaderCall::Admit, Wrapped::Cursor)),
+    (
+        "admit_buffered",
+        Call::Reader(ReaderCall::Admit, Wrapped::Buffer),
+    ),
+    ("stream", Call::Stream(usize::MAX)),
+    ("stream_4096", Call::Stream(4_096)),
+    ("stream_1400", Call::Stream(1_400)),
+    ("stream_16", Call::Stream(16)),
+    ("stream_8", Call::Stream(8)),
+    ("stream_2", Call::Stream(2)),
+    ("stream_1", Call::Stream(1)),
+    ("rounds", Call::Rounds),
+    ("blocks_4096", Call::Blocks(4_096)),
+    ("blocks_16", Call::Blocks(16)),
+    ("blocks_1", Call::Blocks(1)),
+    ("parts", Call::Parts),
+    ("parts_list", Call::PartsList),
+    ("png", Call::Slice(SliceCall::PngSize)),
+    (
+        "png_reader",
+        Call::Reader(ReaderCall::PngSize, Wrapped::Cursor),
+    ),
+    ("png_parts", Call::PngParts),
+];
+
+/// A file, its bytes, and the type that its first bytes have.
+#[derive(Drop)]
+pub struct Input<'a> {
+    pub file: &'a str,
+    pub data: &'a [u8],
+    pub image: Option<ImageType>,
+}
+
+/// The memory that calls write into. It is allocated once.
+#[derive(Drop)]
+pub struct Buffers {
+    spans: [Span; 512],
+    bytes: Vec<u8>,
+}
+
+impl Buffers {
+    /// Buffers without contents.
+    pub fn new(alloc: Global) -> Buffers {
+        Buffers {
+            spans: [Span { start: 0, len: 0 }; 512],
+            bytes: Vec::new(alloc),
+        }
+    }
+}
+
+/// Makes a call on an input, and adds its result.
+///
+/// Errors: a buffer could not be allocated, or the file could not be opened.
+pub fn make<F: Files + AllocGlobal, R: Results>(
+    rt: &F,
+    call: Call,
+    input: &Input,
+    buffers: &mut Buffers,
+    results: &mut R,
+) -> io::Result<()> {
+    let data = input.data;
+    match call {
+        Call::Slice(call) => slices::make(rt.alloc(), call, data, &mut buffers.spans, results)?,
+        Call::Reader(call, wrapped) => readers::make(rt, call, wrapped, input, results)?,
+        Call::Path => add_size_of_file(rt, input.file, results),
+        Call::Stream(length) => chunks::push(data, length, results),
+        Call::Rounds => parts::rounds(data, usize::MAX, results),
+        Call::Blocks(length) => parts::rounds(data, length, results),
+        Call::Parts => parts::whole(data, results),
+        Call::PartsList => parts::list(data, &mut buffers.spans, &mut buffers.bytes, results)?,
+        Call::PngParts => parts::whole_png(data, results),
+    }
+    Ok(())
+}
+
+#[inline(never)]
+fn add_size_of_file<F: Files + AllocGlobal, R: Results>(rt: &F, file: &str, results: &mut R) {
+    results.add_size(size(rt, rt.alloc(), file));
+}
