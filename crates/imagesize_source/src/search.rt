@@ -1,5 +1,5 @@
 //! Searches a slice for a byte, sixteen bytes at a time.
-ghost use Rattle.std.specs.Prelude.{◌≡◌, ◌+◌, ◌≤◌, ◌==◌, length, take, drop, get_or};
+ghost use Rattle.std.specs.Prelude.{◌≡◌, ◌+◌, ◌≤◌, ◌==◌, length, take, drop, get_or, IsTrue, Some};
 ghost use Rattle.std.specs.List.{position};
 ghost use Rattle.imagesize_source.specs.Search.{MarksFirst};
 
@@ -20,6 +20,10 @@ const HIGH_BITS: u64 = 0x8080_8080_8080_8080;
 pub(crate) fn first_of(wanted: u8, bytes: &[u8]) -> Option<usize>
     ensures { result ≡ position (λ b. b == wanted) bytes.now }
 {
+    // An empty line saves the search. A branch decides about it, so the processor goes on before the length is known.
+    if begins_with(wanted, bytes) {
+        return Some(0);
+    }
     let mut index = 0;
     while bytes.len() - index >= LANES {
         if let Some(count) = first_in_sixteen(wanted, bytes, index) {
@@ -29,6 +33,14 @@ pub(crate) fn first_of(wanted: u8, bytes: &[u8]) -> Option<usize>
     }
     let count = first_in_rest(wanted, &bytes[index..])?;
     Some(index + count)
+}
+
+// Whether the first byte has this value.
+#[inline(always)]
+fn begins_with(wanted: u8, bytes: &[u8]) -> bool
+    ensures { IsTrue result → position (λ b. b == wanted) bytes.now ≡ Some 0 }
+{
+    matches!(bytes, [first, ..] if *first == wanted)
 }
 
 // How many of the sixteen bytes from an index on come before the first that equals the wanted one. `None` if none does.

@@ -14,7 +14,7 @@ use imagesize::{ImageResult, ImageType};
 use imagesize_pieces::buffer::front_of;
 use imagesize_pieces::pending::keep_pending;
 use imagesize_pieces::stand::Stand;
-use imagesize_source::{Halt, ImageError, Reason};
+use imagesize_source::{Halt, ImageError, Reason, Text};
 use imagesize_types::size::ImageSize;
 
 // The length of an input whose length is unknown. No input is longer.
@@ -155,7 +155,7 @@ impl StreamProbe {
         ensures parts { (d : List ℕ) → IsGiven self.old.stage self.old.kind self.old.stand self.old.buffer d
             → HasPart d self.old.stand.passed chunk.now → MayBeAt self.new.stage self.new.kind self.new.stand self.new.buffer d }
     {
-        if self.awaits_text() {
+        if self.awaits_text(chunk) {
             self.take_in_text(chunk);
         } else {
             self.proceed(chunk);
@@ -185,10 +185,20 @@ impl StreamProbe {
         self.proceed(chunk);
     }
 
-    // Whether the next record is a text.
+    // Whether the next record is a text that this chunk may leave without its end. A single byte that ends its line does not: that
+    // saves a search in vain for each empty line.
     #[inline(always)]
-    fn awaits_text(&self) -> bool {
-        matches!(&self.stage, Stage::Records { next } if next.is_text())
+    fn awaits_text(&self, chunk: &[u8]) -> bool {
+        let Stage::Records { next } = &self.stage else {
+            return false;
+        };
+        match (next.first_text(), chunk) {
+            (Some((Text::Line { delimiter }, _)), [byte]) => {
+                *byte != delimiter || self.stand.passed < self.stand.start
+            }
+            (Some(_), _) => true,
+            (None, _) => false,
+        }
     }
 
     // Continues the stage with the next chunk.
