@@ -20,8 +20,9 @@ const HIGH_BITS: u64 = 0x8080_8080_8080_8080;
 pub(crate) fn first_of(wanted: u8, bytes: &[u8]) -> Option<usize>
     ensures { result ≡ position (λ b. b == wanted) bytes.now }
 {
-    // An empty line saves the search. A branch decides about it, so the processor goes on before the length is known.
-    if begins_with(wanted, bytes) {
+    // An empty line saves the search. A branch decides about it, so the processor goes on before the length is known. Names, which
+    // end with a zero, are not empty.
+    if wanted == b'\n' && begins_with(wanted, bytes) {
         return Some(0);
     }
     let mut index = 0;
