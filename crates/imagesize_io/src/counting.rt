@@ -19,12 +19,15 @@ pub struct CountingSource<'a> {
     bytes: &'a [u8],
     // How many of the first bytes a source over the reader would hold. These are not counted again.
     front: u64,
+    // The same number. A read past the front compares with `front` alone, and so need not load it first.
+    free: u64,
     // How many bytes the budget still has.
     left: u64,
     // The offset that the reader would have after the last read.
     position: u64,
     ghost within: { left ≤ length bytes.now + allowance },
     ghost there: { position ≤ length bytes.now },
+    ghost same: { free ≡ front },
 }
 
 impl<'a> CountingSource<'a> {
@@ -38,6 +41,7 @@ impl<'a> CountingSource<'a> {
         CountingSource {
             bytes,
             front: 0,
+            free: 0,
             left: bytes.len() as u64 + ALLOWANCE,
             position: bytes.len() as u64,
         }
@@ -64,7 +68,7 @@ impl<'a> CountingSource<'a> {
         }
         if offset <= self.front || self.left < count as u64 || count == 0 {
             // A read within the front costs nothing, and moves nothing. Most reads of a size at fixed offsets are such.
-            if offset + count as u64 <= self.front {
+            if offset + count as u64 <= self.free {
                 return true;
             }
             return self.pays_front(offset, count);
@@ -111,6 +115,7 @@ impl<'a> CountingSource<'a> {
         self.position = end;
         if offset <= self.front {
             self.front = end.min(WINDOW as u64).max(self.front);
+            self.free = self.front;
         }
         true
     }
