@@ -10,8 +10,8 @@ use crate::Told;
 use crate::window::keep;
 use imagesize_source::Text;
 
-/// The text at an offset from the bytes that the reader holds, if the reader is at that offset and holds all of the text, and
-/// the budget has it. Otherwise nothing is read, and the text has to be read byte by byte.
+/// The text at an offset from the bytes that the reader holds. The reader must be at that offset and hold all of the text, and
+/// the budget must have it. Otherwise nothing is read, and the text has to be read byte by byte.
 #[inline(always)]
 pub(super) fn read_held<R: Told>(
     reader: &mut R,
