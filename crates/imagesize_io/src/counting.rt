@@ -19,7 +19,7 @@ pub struct CountingSource<'a> {
     bytes: &'a [u8],
     // How many of the first bytes a source over the reader would hold. These are not counted again.
     front: u64,
-    // The same number. A read past the front compares with `front` alone, and so need not load it first.
+    // A copy of `front`, for the test of reads within it. With one field for both tests, a read past the front would load it first.
     free: u64,
     // How many bytes the budget still has.
     left: u64,

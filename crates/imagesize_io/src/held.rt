@@ -18,7 +18,7 @@ pub(crate) fn copy_text(text: Text, bytes: &[u8], buffer: &mut [u8]) -> Option<u
         return Some(count);
     }
     let most = bytes.len().min(buffer.len());
-    // Of two slices of one length, the copy tests one length.
+    // Both slices have one length, so the copy tests it once.
     let count = copy_ended(&bytes[..most], text, &mut buffer[..most])?;
     Some(count)
 }

@@ -10,9 +10,9 @@ use crate::stand::Stand;
 use imagesize_source::Text;
 use imagesize_source::text::ended_length;
 
-/// Keeps a chunk that comes before the text at the next record's offset, or belongs to it. Returns whether it does. Neither the
-/// kept bytes nor the chunk may end the text, which has fewer than `most` bytes so far. The first `searched` kept bytes are known
-/// not to end it.
+/// Keeps a chunk that comes before the text at the next record's offset, or belongs to it. Returns whether it was kept. It is kept
+/// only if no byte so far ends the text, these are fewer than `most`, and the input has more bytes. The first `searched` kept bytes
+/// are known not to end the text.
 ///
 /// A walk would search the text from its start at each chunk. So a text in chunks of one byte would cost the square of its length.
 #[inline(always)]

@@ -32,4 +32,3 @@ pub mod Tests
 pub mod TextEnds
 pub mod Texts
 pub mod Way
-pub mod Words

@@ -14,7 +14,6 @@ pub mod Outcome
 pub mod Paying
 pub mod Reading
 pub mod Reason
-pub mod Search
 pub mod Sharing
 pub mod State
 pub mod Text

@@ -1,18 +1,11 @@
 //! Searches a slice for a byte, sixteen bytes at a time.
-ghost use Rattle.std.specs.Prelude.{◌≡◌, ◌+◌, ◌≤◌, ◌==◌, length, take, drop, get_or, IsTrue, Some};
-ghost use Rattle.std.specs.List.{position};
-ghost use Rattle.imagesize_source.specs.Search.{MarksFirst};
+ghost use Rattle.std.specs.Prelude.{◌≡◌, ◌+◌, ◌≤◌, ◌==◌, length, take, drop, IsTrue, Some};
+ghost use Rattle.std.specs.List.{position, position_or_len};
 
 use std::simd::prelude::*;
 
-// How many bytes are searched at once.
+// How many bytes are compared at once.
 const LANES: usize = 16;
-
-// The lowest bit of each byte of a word.
-const LOW_BITS: u64 = 0x0101_0101_0101_0101;
-
-// The highest bit of each byte of a word.
-const HIGH_BITS: u64 = 0x8080_8080_8080_8080;
 
 /// The index of the first byte with this value. Byte by byte, a search takes four instructions a byte, and this one takes less
 /// than one.
@@ -20,14 +13,15 @@ const HIGH_BITS: u64 = 0x8080_8080_8080_8080;
 pub(crate) fn first_of(wanted: u8, bytes: &[u8]) -> Option<usize>
     ensures { result ≡ position (λ b. b == wanted) bytes.now }
 {
-    // An empty line saves the search. A branch decides about it, so the processor goes on before the length is known. Names, which
-    // end with a zero, are not empty.
+    // For an empty line this saves the search. A branch decides, so the processor goes on before the length is known. Names end
+    // with a zero and are rarely empty, so they skip this test.
     if wanted == b'\n' && begins_with(wanted, bytes) {
         return Some(0);
     }
     let mut index = 0;
     while bytes.len() - index >= LANES {
-        if let Some(count) = first_in_sixteen(wanted, bytes, index) {
+        let count = count_before(wanted, bytes, index);
+        if count < LANES {
             return Some(index + count);
         }
         index += LANES;
@@ -44,37 +38,18 @@ fn begins_with(wanted: u8, bytes: &[u8]) -> bool
     matches!(bytes, [first, ..] if *first == wanted)
 }
 
-// How many of the sixteen bytes from an index on come before the first that equals the wanted one. `None` if none does.
+// How many of the sixteen bytes from an index on come before the first that equals the wanted one; all of them if none does.
 #[inline(always)]
-fn first_in_sixteen(wanted: u8, bytes: &[u8], index: usize) -> Option<usize>
+fn count_before(wanted: u8, bytes: &[u8], index: usize) -> usize
     requires { index + 16 ≤ length bytes.now }
-    ensures { result ≡ position (λ b. b == wanted) (take 16 (drop index bytes.now)) }
+    ensures { result ≡ position_or_len (λ b. b == wanted) (take 16 (drop index bytes.now)) }
 {
-    let [low, high] = marks(wanted, bytes, index);
-    if low | high == 0 {
-        return None;
+    let lanes = u8x16::from_slice(&bytes[index..]);
+    let marks = lanes.simd_eq(u8x16::splat(wanted)).to_bitmask();
+    if marks == 0 {
+        return LANES;
     }
-    if low == 0 {
-        return Some(8 + high.trailing_zeros() as usize / 8);
-    }
-    Some(low.trailing_zeros() as usize / 8)
-}
-
-// Two words of marks for the sixteen bytes from an index on, eight bytes a word. The lowest mark of a word is the highest bit of
-// the first byte that equals the wanted one, and a word with no such byte has no mark. A mark above the lowest may be false,
-// because a subtraction borrows from the byte above.
-//
-// Words of eight bytes are fast on targets with vectors and on those without. A comparison of bytes is slow on the latter.
-#[inline(always)]
-fn marks(wanted: u8, bytes: &[u8], index: usize) -> [u64; 2]
-    requires { index + 16 ≤ length bytes.now }
-    ensures low { MarksFirst wanted (take 8 (drop index bytes.now)) (get_or result 0 0) }
-    ensures high { MarksFirst wanted (take 8 (drop (index + 8) bytes.now)) (get_or result 1 0) }
-{
-    let words = u64x2::from_le_bytes(u8x16::from_slice(&bytes[index..]));
-    let differences = words ^ u64x2::from_le_bytes(u8x16::splat(wanted));
-    let marks = (differences - u64x2::splat(LOW_BITS)) & !differences & u64x2::splat(HIGH_BITS);
-    marks.to_array()
+    marks.trailing_zeros() as usize
 }
 
 // Searches fewer than sixteen bytes, one at a time.

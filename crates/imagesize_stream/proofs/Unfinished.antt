@@ -25,7 +25,7 @@ use Rattle.imagesize_source.specs.declared.text.Text.{Text}
 use Rattle.imagesize_stream.proofs.Coming.{type_on}
 use Rattle.imagesize_stream.proofs.Given.{dropped}
 use Rattle.imagesize_stream.proofs.Skipping.{walk_needs}
-use Rattle.imagesize_stream.specs.Probe.{AheadBy, CameTo, HoldsAt, SearchedBy, texts_by}
+use Rattle.imagesize_stream.specs.Probe.{CameTo, HoldsAt, SearchedBy, texts_by}
 use Rattle.imagesize_stream.specs.Skips.{ReadsText}
 use Rattle.imagesize_stream.specs.Steps.{Awaits, IsSteady, awaited_said, first_text, is_text, reach_of, step}
 use Rattle.imagesize_stream.specs.declared.awaited.Awaited.{Awaited}
@@ -112,17 +112,6 @@ text_needs texts d offset n found t still short more =
     subst (Needs texts (offset + found) (min (offset + n) (length d))) (sym (span-some offset len (omega (arith, behind)))) (
       (offset + found, omega arith, omega (arith, short, more), rw has refl),
       λ none. rw ends refl,
-    )
-
--- the end of a text of so many bytes at most is after those that came, within the input, and not too far
-pub text_ahead : (next : Awaited) (text : Text) (most : ℕ) (old new : Stand) (buffer after chunk : List ℕ)
-    → KeepsPending text most old new buffer after chunk → most ≤ reach_of (is_text next)
-    → AheadBy (Records next) new.start new.passed new.end new.told
-text_ahead next text most old new buffer after chunk keeps few =
-    let more = keeps.more in let short = keeps.few in let end = keeps.end in let start = keeps.start in
-    let told = keeps.told in (
-      omega (arith, more, short, end, start),
-      (omega (arith, more, short, end, start), (omega (arith, end, told), omega (arith, few, end, start))),
     )
 
 -- the bytes kept are those of the input from the record's offset on

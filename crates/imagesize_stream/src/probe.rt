@@ -1,5 +1,5 @@
 //! A push parser: the caller passes the bytes of an image as they arrive, in chunks of any length.
-ghost use Rattle.std.specs.Prelude.{◌≡◌, ℕ, ◌+◌, ◌-◌, ◌<◌, ◌≤◌, ◌^◌, ◌++◌, [], false, true, List, length, take, max, min, Option, None, Some, IfSome, unwrap_or};
+ghost use Rattle.std.specs.Prelude.{◌≡◌, ℕ, ◌+◌, ◌-◌, ◌<◌, ◌≤◌, ◌^◌, ◌++◌, [], false, true, List, length, take, max, min, Option, None, Some, IfSome, Err, unwrap_or};
 ghost use Rattle.std.specs.Result.{result_ok};
 ghost use Rattle.imagesize.specs.Meaning.{kind_of, meaning};
 ghost use Rattle.imagesize_pieces.specs.Stream.{AllBelow, Begins};
@@ -134,11 +134,11 @@ impl StreamProbe {
         self.take_in(&[]);
         match self.answer() {
             Some(answer) => answer,
-            None => (None, stated(Err(Halt::NotSupported))),
+            None => (None, Err(ImageError::NotSupported)),
         }
     }
 
-    // Reads the next chunk. Bytes past the reported length are not looked at. Not inlined, so that the callers stay small.
+    // Reads the next chunk. Bytes past the reported length do not count. Not inlined, so that the callers stay small.
     #[inline(never)]
     pub(crate) fn take_in(&mut self, chunk: &[u8])
         ensures told { told_of self.new ≡ told_of self.old }
@@ -185,8 +185,8 @@ impl StreamProbe {
         self.proceed(chunk);
     }
 
-    // Whether the next record is a text that this chunk may leave without its end. A single byte that ends its line does not: that
-    // saves a search in vain for each empty line.
+    // Whether the next record is a text that this chunk may leave without its end. A single byte that ends its line is not kept, so
+    // it is not searched twice.
     #[inline(always)]
     fn awaits_text(&self, chunk: &[u8]) -> bool {
         let Stage::Records { next } = &self.stage else {
@@ -329,25 +329,33 @@ impl StreamProbe {
         // A size is not passed through a result that has room for an error: this saves three copies of 96 bytes.
         match &self.stage {
             Stage::Done { size: Ok(size) } => Some((self.kind, Ok(*size))),
-            // Of all errors, this one is not rare: many inputs are no image. Its result is made without a call.
-            Stage::Done {
-                size: Err(Halt::NotSupported),
-            } => Some((self.kind, Err(ImageError::NotSupported))),
-            Stage::Done { size: Err(halt) } => Some((self.kind, stated(Err(*halt)))),
+            Stage::Done { size: Err(halt) } => refused(self.kind, *halt),
             _ => None,
         }
     }
 }
 
-// A result of reads, with the error of its `Halt`. Few pushes end in an error. Not inlined: else a size is copied in the parts
-// that a `Halt` has, and a load of the whole waits for all of them.
+// What a probe returns for an error. Few pushes end in one. Not inlined: else a size is copied in the parts that a `Halt` has, and
+// a load of the whole waits for all of them. It writes the result of the push, which would be copied if it returned the error
+// alone.
 #[cold]
 #[inline(never)]
-fn stated(size: Result<ImageSize, Halt>) -> ImageResult<ImageSize>
-    ensures { result ≡ stated size }
+fn refused(
+    kind: Option<ImageType>,
+    halt: Halt,
+) -> Option<(Option<ImageType>, ImageResult<ImageSize>)>
+    ensures { result ≡ Some (kind, stated (Err halt)) }
 {
-    match size {
-        Ok(size) => Ok(size),
-        Err(halt) => Err(halt.error(Reason::EndOfInput, 0)),
+    Some((kind, Err(error_of(halt))))
+}
+
+// The error of a probe. Many inputs are no image, and theirs is made without a call.
+#[inline(always)]
+fn error_of(halt: Halt) -> ImageError
+    ensures { Err result ≡ stated {X = ImageSize} (Err halt) }
+{
+    match halt {
+        Halt::NotSupported => ImageError::NotSupported,
+        _ => halt.error(Reason::EndOfInput, 0),
     }
 }

@@ -73,8 +73,8 @@ fn read_by_bytes<R: Told>(
 }
 
 // The rest of a line from the bytes that the reader holds. It is a line itself, so it need not be read byte by byte. `count`
-// bytes of the line were read. If the reader does not hold the rest, it is asked again after as many bytes more: by then it may
-// have filled its buffer, and the searches in vain are few.
+// bytes of the line were read. If the reader does not hold the rest, it is asked again once twice as many bytes were read. By
+// then it may have filled its buffer. So few searches are in vain.
 #[inline(always)]
 fn read_rest<R: Told>(
     reader: &mut R,

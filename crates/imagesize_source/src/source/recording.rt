@@ -99,7 +99,8 @@ impl Source for RecordingSource<'_, '_> {
         Ok(count)
     }
 
-    // Inlined, so that the compiler knows whether the text is a line or a word. an empty line takes a third fewer instructions.
+    // Inlined, so that the compiler knows whether the text is a line or a word. This saves a third of the instructions of an empty
+    // line.
     #[inline(always)]
     fn read_text(&mut self, offset: u64, text: Text, buffer: &mut [u8]) -> Result<usize, Halt> {
         // The proof needs that the length is below 2^63.
