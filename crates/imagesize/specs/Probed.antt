@@ -9,6 +9,7 @@ use Rattle.imagesize.specs.declared.types.ImageType.{ImageType}
 use Rattle.imagesize.specs.declared.calls.Probed.{Probed}
 use Rattle.imagesize.specs.declared.memory.Counted.{Counted}
 use Rattle.imagesize_source.specs.Limits.{allowance}
+use Rattle.imagesize_source.specs.declared.error.ImageError.{ImageError}
 use Rattle.imagesize_source.specs.declared.halt.Halt.{Halt}
 use Rattle.imagesize_io.specs.Answers.{AnswersAs, TakesAs, over_reader}
 use Rattle.imagesize_source.specs.Errors.{end_of_input, is_stopped}
@@ -40,8 +41,11 @@ Probes None probed = Unit {0}
 Probes (Some t) probed = IsHonest t → ProbesOf t probed
 
 -- what a call returns for what was found in bytes in memory, of this length
+abbrev pub counted_answer : ℕ → Result ImageSize Halt → Result ImageSize ImageError
+counted_answer told found = with_error end_of_input (told + allowance) found
+
 abbrev pub counted_probe : ℕ → Counted → Probed
-counted_probe told c = record { kind = c.kind; answer = with_error end_of_input (told + allowance) c.found; taken = c.taken }
+counted_probe told c = record { kind = c.kind; answer = counted_answer told c.found; taken = c.taken }
 
 -- a budget of at least the allowance was spent, and the reader's count increased by all of it
 abbrev pub SpentAll : Option ℕ → Option ℕ → ℕ → Type 0

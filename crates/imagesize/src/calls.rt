@@ -19,10 +19,10 @@ use crate::types::ImageType;
 use crate::{ImageResult, Told};
 use imagesize_io::counting::leave;
 use imagesize_io::reader::{ALLOWANCE, Opened, Origin, ReaderSource, open};
-use imagesize_source::Halt;
 use imagesize_source::halt::with_error;
 use imagesize_source::source::Source;
 use imagesize_source::source::slice::SliceSource;
+use imagesize_source::{Halt, Reason};
 use imagesize_types::size::ImageSize;
 
 /// What was found in a reader's bytes, and how many bytes were read to find it.
@@ -315,9 +315,13 @@ fn size_by<R: Told>(kind: ImageType, reader: &mut R, opened: Opened) -> ImageRes
     let Some(bytes) = reader.in_memory() else {
         return size_opened(kind, reader, opened);
     };
-    let (answer, position) = memory_size_as(kind, bytes);
+    let budget = bytes.len() as u64 + ALLOWANCE;
+    let (found, position) = memory_size_as(kind, bytes);
     leave(reader, position);
-    answer
+    match found {
+        Ok(size) => Ok(size),
+        Err(halt) => Err(halt.error(Reason::EndOfInput, budget)),
+    }
 }
 
 // The type of the image in the bytes of a reader that was opened.

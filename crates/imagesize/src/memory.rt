@@ -8,7 +8,7 @@ ghost use Rattle.imagesize_source.specs.Errors.{budget_spent, end_of_input, is_m
 ghost use Rattle.imagesize_source.specs.Halts.{error_by};
 ghost use Rattle.imagesize_source.specs.Limits.{allowance};
 ghost use Rattle.imagesize.specs.Meaning.{kind_of, meaning, size_of};
-ghost use Rattle.imagesize.specs.Probed.{Probes, counted_probe};
+ghost use Rattle.imagesize.specs.Probed.{Probes, counted_answer, counted_probe};
 
 use crate::ImageResult;
 use crate::calls::{Probed, probe};
@@ -96,16 +96,16 @@ pub(crate) fn refused(kind: Option<ImageType>, halt: Halt, taken: u64, budget: u
     }
 }
 
-// The size of the image in the bytes of a reader in memory, read as a type, and the reader's offset after the last read.
-pub(crate) fn memory_size_as(kind: ImageType, bytes: &[u8]) -> (ImageResult<ImageSize>, u64)
+// The size of the image in the bytes of a reader in memory, read as a type, and the reader's offset after the last read. The caller
+// makes the error of a `Halt`: a result with room for an error would be copied once more.
+pub(crate) fn memory_size_as(kind: ImageType, bytes: &[u8]) -> (Result<ImageSize, Halt>, u64)
     ensures answers { (telling mid : Option Telling) (opened : Opened) → Opens telling mid (Ok opened) → IsMemory mid bytes.now
-        → Answers telling (λ d offset. size_of kind d) result.0 }
-    ensures spent { IfErr result.0 (λ e. IfSome (budget_spent e) (λ budget. allowance ≤ budget)) }
-    ensures memory { IfErr result.0 (λ e. is_memory e ≡ false) }
+        → Answers telling (λ d offset. size_of kind d) (counted_answer (length bytes.now) result.0) }
+    ensures spent { IfErr (counted_answer (length bytes.now) result.0) (λ e. IfSome (budget_spent e) (λ budget. allowance ≤ budget)) }
+    ensures memory { IfErr (counted_answer (length bytes.now) result.0) (λ e. is_memory e ≡ false) }
     ensures there { result.1 ≤ length bytes.now }
 {
     let mut source = CountingSource::new(bytes);
     let found = size(&mut source, kind);
-    let answer = with_error(found, &source);
-    (answer, source.position())
+    (found, source.position())
 }

@@ -329,33 +329,23 @@ impl StreamProbe {
         // A size is not passed through a result that has room for an error: this saves three copies of 96 bytes.
         match &self.stage {
             Stage::Done { size: Ok(size) } => Some((self.kind, Ok(*size))),
-            Stage::Done { size: Err(halt) } => refused(self.kind, *halt),
+            Stage::Done { size: Err(halt) } => Some((self.kind, stated(Err(*halt)))),
             _ => None,
         }
     }
 }
 
-// What a probe returns for an error. Few pushes end in one. Not inlined: else a size is copied in the parts that a `Halt` has, and
-// a load of the whole waits for all of them. It writes the result of the push, which would be copied if it returned the error
-// alone.
+// A result of reads, with the error of its `Halt`. Few pushes end in an error. Not inlined: else a size is copied in the parts
+// that a `Halt` has, and a load of the whole waits for all of them. The error of an input that is no image is not rare, and is made
+// without a call.
 #[cold]
 #[inline(never)]
-fn refused(
-    kind: Option<ImageType>,
-    halt: Halt,
-) -> Option<(Option<ImageType>, ImageResult<ImageSize>)>
-    ensures { result ≡ Some (kind, stated (Err halt)) }
+fn stated(size: Result<ImageSize, Halt>) -> ImageResult<ImageSize>
+    ensures { result ≡ stated size }
 {
-    Some((kind, Err(error_of(halt))))
-}
-
-// The error of a probe. Many inputs are no image, and theirs is made without a call.
-#[inline(always)]
-fn error_of(halt: Halt) -> ImageError
-    ensures { Err result ≡ stated {X = ImageSize} (Err halt) }
-{
-    match halt {
-        Halt::NotSupported => ImageError::NotSupported,
-        _ => halt.error(Reason::EndOfInput, 0),
+    match size {
+        Ok(size) => Ok(size),
+        Err(Halt::NotSupported) => Err(ImageError::NotSupported),
+        Err(halt) => Err(halt.error(Reason::EndOfInput, 0)),
     }
 }
