@@ -32,17 +32,29 @@ pub enum Call {
     Parts,
     /// `parts_probe` in rounds, of all spans that were requested so far.
     PartsList,
+    /// `parts_type` of all bytes as one part.
+    PartsType,
+    /// `ImageType::parts_size` of all bytes as one part, by the type that the input has.
+    PartsByType,
     /// `parts_size` of `imagesize_png`, of all bytes as one part.
     PngParts,
 }
 
 /// The names of the calls.
-pub const CALLS: [(&str, Call); 31] = [
+pub const CALLS: [(&str, Call); 35] = [
     ("type", Call::Slice(SliceCall::Type)),
     ("size", Call::Slice(SliceCall::Size)),
     ("spans", Call::Slice(SliceCall::Spans)),
     ("count", Call::Slice(SliceCall::Count)),
     ("trace", Call::Slice(SliceCall::Trace)),
+    (
+        "reader_type",
+        Call::Reader(ReaderCall::Type, Wrapped::Cursor),
+    ),
+    (
+        "reader_type_buffered",
+        Call::Reader(ReaderCall::Type, Wrapped::Buffer),
+    ),
     ("reader", Call::Reader(ReaderCall::Size, Wrapped::Cursor)),
     ("buffered", Call::Reader(ReaderCall::Size, Wrapped::Buffer)),
     ("file", Call::Reader(ReaderCall::Size, Wrapped::File)),
@@ -78,6 +90,8 @@ pub const CALLS: [(&str, Call); 31] = [
     ("blocks_1", Call::Blocks(1)),
     ("parts", Call::Parts),
     ("parts_list", Call::PartsList),
+    ("parts_type", Call::PartsType),
+    ("parts_by_type", Call::PartsByType),
     ("png", Call::Slice(SliceCall::PngSize)),
     (
         "png_reader",
@@ -131,6 +145,8 @@ pub fn make<F: Files + AllocGlobal, R: Results>(
         Call::Blocks(length) => parts::rounds(data, length, results),
         Call::Parts => parts::whole(data, results),
         Call::PartsList => parts::list(data, &mut buffers.spans, &mut buffers.bytes, results)?,
+        Call::PartsType => parts::whole_type(data, results),
+        Call::PartsByType => parts::whole_by_type(data, input.image, results),
         Call::PngParts => parts::whole_png(data, results),
     }
     Ok(())

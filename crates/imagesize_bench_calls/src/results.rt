@@ -24,6 +24,15 @@ pub trait Results {
     fn add_spans(&mut self, count: u64, spans: &[Span]);
 }
 
+/// Adds a type, or the error if there is none.
+#[inline]
+pub fn add_found_type<R: Results>(found: ImageResult<ImageType>, results: &mut R) {
+    match found {
+        Ok(image) => results.add_type(Some(image)),
+        Err(error) => results.add_size(Err(error)),
+    }
+}
+
 /// A number that depends on each number that was added. It takes few instructions, so that these are a small part of a call.
 #[derive(Drop)]
 pub struct Checksum {

@@ -1,7 +1,7 @@
 //! Calls over parts.
 
-use crate::results::Results;
-use imagesize::{PartsAnswer, Span, parts_probe};
+use crate::results::{Results, add_found_type};
+use imagesize::{ImageType, PartsAnswer, Span, parts_probe, parts_type};
 use imagesize_png::parts_size;
 use imagesize_stream::PartsProbe;
 use std::alloc::AllocError;
@@ -37,15 +37,8 @@ pub fn rounds<R: Results>(data: &[u8], most: usize, results: &mut R) {
 /// Passes all bytes to `parts_probe` as one part, and adds its result.
 #[inline(never)]
 pub fn whole<R: Results>(data: &[u8], results: &mut R) {
-    let length = data.len() as u64;
-    match parts_probe(
-        data,
-        &[Span {
-            start: 0,
-            len: length,
-        }],
-        length,
-    ) {
+    let span = all(data);
+    match parts_probe(data, &[span], span.len) {
         PartsAnswer::Found((image, size)) => {
             results.add_type(image);
             results.add_size(size);
@@ -54,18 +47,34 @@ pub fn whole<R: Results>(data: &[u8], results: &mut R) {
     }
 }
 
+/// Passes all bytes to `parts_type` as one part, and adds its result.
+#[inline(never)]
+pub fn whole_type<R: Results>(data: &[u8], results: &mut R) {
+    let span = all(data);
+    match parts_type(data, &[span], span.len) {
+        PartsAnswer::Found(found) => add_found_type(found, results),
+        PartsAnswer::Wanted(span) => results.add_span(span),
+    }
+}
+
+/// Passes all bytes to `ImageType::parts_size` as one part, by the type that they have, and adds its result.
+#[inline(never)]
+pub fn whole_by_type<R: Results>(data: &[u8], image: Option<ImageType>, results: &mut R) {
+    let Some(image) = image else {
+        return;
+    };
+    let span = all(data);
+    match image.parts_size(data, &[span], span.len) {
+        PartsAnswer::Found(size) => results.add_size(size),
+        PartsAnswer::Wanted(span) => results.add_span(span),
+    }
+}
+
 /// Passes all bytes to `parts_size` of `imagesize_png` as one part, and adds its result.
 #[inline(never)]
 pub fn whole_png<R: Results>(data: &[u8], results: &mut R) {
-    let length = data.len() as u64;
-    match parts_size(
-        data,
-        &[Span {
-            start: 0,
-            len: length,
-        }],
-        length,
-    ) {
+    let span = all(data);
+    match parts_size(data, &[span], span.len) {
         PartsAnswer::Found(size) => results.add_size(size),
         PartsAnswer::Wanted(span) => results.add_span(span),
     }
@@ -95,6 +104,14 @@ pub fn list<R: Results>(
         }
     }
     Ok(())
+}
+
+// The span of all bytes.
+fn all(data: &[u8]) -> Span {
+    Span {
+        start: 0,
+        len: data.len() as u64,
+    }
 }
 
 // At most so many bytes from an offset on.

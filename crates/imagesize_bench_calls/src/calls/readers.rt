@@ -1,8 +1,8 @@
 //! Calls over readers. Each is in a function of its own, as those over slices are.
 
 use crate::calls::Input;
-use crate::results::Results;
-use imagesize::{ImageType, Told, reader_probe, reader_size};
+use crate::results::{Results, add_found_type};
+use imagesize::{ImageType, Told, reader_probe, reader_size, reader_type};
 use imagesize_uses::gate::{Rejection, admit};
 use std::alloc::Global;
 use std::fs;
@@ -12,6 +12,8 @@ use std::rt::Files;
 /// A call over a reader.
 #[derive(Clone, Copy)]
 pub enum ReaderCall {
+    /// `reader_type`.
+    Type,
     /// `reader_size`.
     Size,
     /// `reader_probe`.
@@ -88,12 +90,18 @@ fn add<T: Told, R: Results>(
     results: &mut R,
 ) {
     match call {
+        ReaderCall::Type => add_type(reader, results),
         ReaderCall::Size => add_size(reader, results),
         ReaderCall::Probe => add_probed(&mut reader, results),
         ReaderCall::SizeByType => add_size_by_type(&mut reader, image, results),
         ReaderCall::Admit => add_admission(&mut reader, results),
         ReaderCall::PngSize => add_png_size(&mut reader, results),
     }
+}
+
+#[inline(never)]
+fn add_type<T: Told, R: Results>(reader: T, results: &mut R) {
+    add_found_type(reader_type(reader), results);
 }
 
 #[inline(never)]

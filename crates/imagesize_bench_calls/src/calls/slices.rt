@@ -2,7 +2,7 @@
 //!
 //! Each call is in a function of its own, which is not inlined. Else a function would zero the locals of all calls at once.
 
-use crate::results::Results;
+use crate::results::{Results, add_found_type};
 use imagesize::{Span, blob_size, blob_spans, blob_trace, image_type};
 use std::alloc::{AllocError, Global};
 
@@ -44,10 +44,7 @@ pub fn make<R: Results>(
 
 #[inline(never)]
 fn add_type<R: Results>(data: &[u8], results: &mut R) {
-    match image_type(data) {
-        Ok(image) => results.add_type(Some(image)),
-        Err(error) => results.add_size(Err(error)),
-    }
+    add_found_type(image_type(data), results);
 }
 
 #[inline(never)]
