@@ -1,5 +1,5 @@
 -- Chunks that end before the next record begins.
-use Rattle.std.specs.Prelude.{◌≡◌, ℕ, ◌+◌, ◌<◌, ◌≤◌}
+use Rattle.std.specs.Prelude.{◌≡◌, ℕ, ◌+◌, ◌<◌, ◌≤◌, min}
 use Rattle.imagesize_pieces.specs.declared.stand.Stand.{Stand}
 use Rattle.imagesize_source.specs.Layout.{Layout, begin_record, field, reading}
 use Rattle.imagesize_source.specs.Layout.Layout.{«done», refuse}
@@ -42,3 +42,4 @@ pub record PassesOver (next : Awaited) (old new : Stand) (count : ℕ) : Type 0 
   pub some : 0 < most
   pub few : most ≤ 132
   pub first : ReadsFirst old.offset most (step next old.offset)
+  pub end : new.end ≡ min (old.start + most) old.told

@@ -61,10 +61,12 @@ pub(crate) fn pass_over(next: &Awaited, stand: &mut Stand, count: u64) -> bool
     if passed > stand.start || stand.start != stand.offset || stand.start >= stand.told {
         return false;
     }
-    if next.first_read() == 0 {
+    let most = next.first_read();
+    if most == 0 {
         return false;
     }
     stand.passed = passed;
+    stand.end = (stand.start + most).min(stand.told);
     true
 }
 
