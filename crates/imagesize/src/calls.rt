@@ -14,7 +14,9 @@ ghost use Rattle.imagesize.specs.Probed.{FindsKind, Probes, SpentAll};
 ghost use Rattle.imagesize.specs.Short.{Ends};
 
 use crate::formats::{detect, size};
-use crate::memory::{Counted, memory_probe, memory_size, memory_size_as, memory_type, refused};
+use crate::memory::{
+    Counted, memory_probe, memory_size, memory_size_as, memory_type, refused, refused_size,
+};
 use crate::types::ImageType;
 use crate::{ImageResult, Told};
 use imagesize_io::counting::leave;
@@ -320,7 +322,7 @@ fn size_by<R: Told>(kind: ImageType, reader: &mut R, opened: Opened) -> ImageRes
     leave(reader, position);
     match found {
         Ok(size) => Ok(size),
-        Err(halt) => Err(halt.error(Reason::EndOfInput, budget)),
+        Err(halt) => refused_size(halt, budget),
     }
 }
 

@@ -91,9 +91,18 @@ pub(crate) fn refused(kind: Option<ImageType>, halt: Halt, taken: u64, budget: u
 {
     Probed {
         kind,
-        answer: Err(halt.error(Reason::EndOfInput, budget)),
+        answer: refused_size(halt, budget),
         taken,
     }
+}
+
+// What `ImageType::reader_size` returns where bytes in memory give no size. Not inlined either, for the same reason.
+#[cold]
+#[inline(never)]
+pub(crate) fn refused_size(halt: Halt, budget: u64) -> ImageResult<ImageSize>
+    ensures { result ≡ Err (error_by end_of_input budget halt) }
+{
+    Err(halt.error(Reason::EndOfInput, budget))
 }
 
 // The size of the image in the bytes of a reader in memory, read as a type, and the reader's offset after the last read. The caller

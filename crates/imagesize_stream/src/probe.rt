@@ -327,25 +327,27 @@ impl StreamProbe {
         ensures unstopped { IfSome result (λ answer. is_stopped answer.1 ≡ false) }
     {
         // A size is not passed through a result that has room for an error: this saves three copies of 96 bytes.
-        match &self.stage {
-            Stage::Done { size: Ok(size) } => Some((self.kind, Ok(*size))),
-            Stage::Done { size: Err(halt) } => Some((self.kind, stated(Err(*halt)))),
-            _ => None,
-        }
+        let Stage::Done { size } = &self.stage else {
+            return None;
+        };
+        let size = match size {
+            Ok(size) => *size,
+            Err(Halt::NotSupported) => return Some((self.kind, Err(ImageError::NotSupported))),
+            Err(halt) => return refused(self.kind, *halt),
+        };
+        Some((self.kind, Ok(size)))
     }
 }
 
-// A result of reads, with the error of its `Halt`. Few pushes end in an error. Not inlined: else a size is copied in the parts
-// that a `Halt` has, and a load of the whole waits for all of them. The error of an input that is no image is not rare, and is made
-// without a call.
+// The type and the error of a `Halt`. Few pushes end in one. Not inlined: else a size is copied in the parts that a `Halt` has, and
+// a load of the whole waits for all of them. The error of an input that is no image is not rare, and is made without a call.
 #[cold]
 #[inline(never)]
-fn stated(size: Result<ImageSize, Halt>) -> ImageResult<ImageSize>
-    ensures { result ≡ stated size }
+fn refused(
+    kind: Option<ImageType>,
+    halt: Halt,
+) -> Option<(Option<ImageType>, ImageResult<ImageSize>)>
+    ensures { result ≡ Some (kind, stated (Err halt)) }
 {
-    match size {
-        Ok(size) => Ok(size),
-        Err(Halt::NotSupported) => Err(ImageError::NotSupported),
-        Err(halt) => Err(halt.error(Reason::EndOfInput, 0)),
-    }
+    Some((kind, Err(halt.error(Reason::EndOfInput, 0))))
 }
