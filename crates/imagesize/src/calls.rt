@@ -21,10 +21,10 @@ use crate::types::ImageType;
 use crate::{ImageResult, Told};
 use imagesize_io::counting::leave;
 use imagesize_io::reader::{ALLOWANCE, Opened, Origin, ReaderSource, open};
+use imagesize_source::Halt;
 use imagesize_source::halt::with_error;
 use imagesize_source::source::Source;
 use imagesize_source::source::slice::SliceSource;
-use imagesize_source::{Halt, Reason};
 use imagesize_types::size::ImageSize;
 
 /// What was found in a reader's bytes, and how many bytes were read to find it.

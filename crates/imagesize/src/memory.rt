@@ -91,12 +91,13 @@ pub(crate) fn refused(kind: Option<ImageType>, halt: Halt, taken: u64, budget: u
 {
     Probed {
         kind,
-        answer: refused_size(halt, budget),
+        answer: Err(halt.error(Reason::EndOfInput, budget)),
         taken,
     }
 }
 
-// What `ImageType::reader_size` returns where bytes in memory give no size. Not inlined either, for the same reason.
+// What `ImageType::reader_size` returns where bytes in memory give no size. Not inlined, so that a size is written into the result
+// at once.
 #[cold]
 #[inline(never)]
 pub(crate) fn refused_size(halt: Halt, budget: u64) -> ImageResult<ImageSize>

@@ -29,7 +29,7 @@ ReadsText offset text n (reading (TextOf t k) p f) = (p ≡ offset) × ((t ≡ t
 ReadsText offset text n (begin_record t) = ReadsText offset text n t
 
 -- So many more bytes came, all before the next record, which begins within the input. Its first read is the one that misses
--- bytes.
+-- bytes. The requested span ends where that read does, or with the input.
 pub record PassesOver (next : Awaited) (old new : Stand) (count : ℕ) : Type 0 where
   pub passed : new.passed ≡ old.passed + count
   pub start : new.start ≡ old.start

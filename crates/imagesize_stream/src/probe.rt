@@ -332,18 +332,19 @@ impl StreamProbe {
         };
         let size = match size {
             Ok(size) => *size,
+            // The error of an input of no type is not rare, so it is made without a call.
             Err(Halt::NotSupported) => return Some((self.kind, Err(ImageError::NotSupported))),
-            Err(halt) => return refused(self.kind, *halt),
+            Err(halt) => return halted(self.kind, *halt),
         };
         Some((self.kind, Ok(size)))
     }
 }
 
-// The type and the error of a `Halt`. Few pushes end in one. Not inlined: else a size is copied in the parts that a `Halt` has, and
-// a load of the whole waits for all of them. The error of an input that is no image is not rare, and is made without a call.
+// What `answer` returns for a `Halt`: the type, if one was found, and the error. Few pushes end in one. Not inlined: else a size is
+// copied in the parts that a `Halt` has, and a load of the whole waits for all of them.
 #[cold]
 #[inline(never)]
-fn refused(
+fn halted(
     kind: Option<ImageType>,
     halt: Halt,
 ) -> Option<(Option<ImageType>, ImageResult<ImageSize>)>

@@ -50,7 +50,8 @@ pub(crate) enum Stage {
 }
 
 /// Counts a chunk of so many bytes, if it ends before the next record begins, and returns whether it does. Most chunks of a large
-/// segment end there. This saves a walk that misses the record's first byte.
+/// segment end there. This saves a walk that misses the record's first byte. The requested span ends where the record's first read
+/// does, or with the input.
 #[inline(always)]
 pub(crate) fn pass_over(next: &Awaited, stand: &mut Stand, count: u64) -> bool
     requires { stand.old.passed + count ≤ stand.old.told }
