@@ -12,12 +12,12 @@
  *  - A buffer of bytes, text or spans must have as many items as its length says, and fewer than 2^63 bytes.
  *  - A buffer that is written must overlap no other buffer of the call. Text and spans must be initialised.
  *
- * Each call that has a result returns a status: IMAGESIZE_ANSWERED, or a number for each error. A call changes only what it says that
- * it writes, also when it returns an error.
+ * Each call that has a result returns a status: IMAGESIZE_ANSWERED, or a number for each error. The comment of a call says what it
+ * writes. The call changes nothing else, also when it returns an error.
  *
- * A text is ASCII, without a zero at its end. It is written if the buffer is long enough for all of it. Its length is written
- * in either case. If the buffer is too small, the status is IMAGESIZE_BUFFER_TOO_SMALL and the buffer does not change. The same
- * is true for spans. To ask for the length, pass a buffer of length 0.
+ * A text is ASCII, without a zero at its end. A call that finds a text writes the text's length. If the buffer is long enough, it
+ * writes the text too. If not, the buffer does not change, and the status is IMAGESIZE_BUFFER_TOO_SMALL. Spans and their number are
+ * written in the same way. To ask for the length alone, pass a buffer of length 0.
  *
  * The library runs on Linux on x86-64 processors with the instructions of x86-64-v2, which nearly all have since 2009. It uses
  * memcpy, memmove and memset of the C library, and nothing else.
