@@ -153,10 +153,10 @@ def collected(program, function, *arguments):
 
 
 def compiled(folder, name):
-    """A C program of this folder, built with the library."""
+    """A C program of this folder, built with the library. Its symbols are bound at the start: no count has a search of the loader."""
     program = f"{folder}/{name}_counted"
     sources = [f"-I{HERE.parent}/include", f"{HERE}/{name}.c", f"{folder}/libimagesize.a"]
-    subprocess.run([os.environ.get("CC", "cc"), "-O1", "-o", program, *sources], check=True)
+    subprocess.run([os.environ.get("CC", "cc"), "-O1", "-Wl,-z,now", "-o", program, *sources], check=True)
     return program
 
 
