@@ -2,7 +2,7 @@
 
     python3 docs/check.py                prints a line for each mistake; the status is 1 if there is one
     python3 docs/check.py --count        prints the words, the long sentences and the project's old words of each page
-    python3 docs/check.py --write        writes the contracts in CALLING.md and the list of formats in README.md anew
+    python3 docs/check.py --write        writes anew the contracts in CALLING.md, the list of formats in README.md, and what the READMEs share
     python3 docs/check.py --self-test    plants a mistake for each check, and fails if one is not found
 
 It checks links, names of files, commands, mutations, definitions, clauses and their owners, the contracts in CALLING.md, numbers, worked
@@ -263,22 +263,13 @@ def clauses(page, text):
                     yield f"{owner} has no clause {label}"
 
 
-# The calls that CALLING.md quotes: the file, and the functions in their order.
+# The calls that CALLING.md quotes: the file, and the functions in their order. The site of docs/build has the contract of each call.
 QUOTED = [
     ("imagesize/src/calls.rt", ["image_type", "blob_size"]),
     ("imagesize/src/trace.rt", ["blob_trace"]),
-    ("imagesize/src/spans.rt", ["blob_spans"]),
+    ("imagesize/src/calls.rt", ["reader_probe"]),
     ("imagesize/src/file.rt", ["size"]),
-    ("imagesize/src/calls.rt", ["reader_type", "reader_size", "reader_probe", "ImageType::reader_size"]),
-    ("imagesize/src/parts.rt", ["parts_probe", "parts_type", "ImageType::parts_size"]),
-    ("imagesize_stream/src/probe.rt", ["StreamProbe::new", "StreamProbe::push", "StreamProbe::kind", "StreamProbe::finish"]),
-    ("imagesize_stream/src/laws.rt", ["probe_two"]),
-    ("imagesize_stream/src/parts.rt", ["PartsProbe::new", "PartsProbe::answer", "PartsProbe::supply"]),
-    ("imagesize/src/types.rt", ["ImageType::all", "ImageType::name", "ImageType::position"]),
-    ("imagesize/src/names.rt", ["ImageType::compression_name"]),
-    ("imagesize/src/queries.rt", ["ImageType::compression_family", "ImageType::is_block_compressed", "ImageType::container_format",
-                                  "ImageType::is_multi_compression_container"]),
-    ("imagesize_io/src/told.rt", ["Told::read_told", "Told::seek_told"]),
+    ("imagesize_stream/src/probe.rt", ["StreamProbe::finish"]),
 ]
 
 
@@ -314,6 +305,24 @@ def formats(page, text):
         yield "the list of formats is not the header's"
 
 
+# The lines of README that the README of each package has too, since a package has no other page.
+SHARED = re.compile(r"^- \*\*(Orientation|BMP|MP4, MOV, 3GP|Several pictures)\.\*\*.*$", re.M)
+
+
+def shared_lines():
+    """These lines, by their first words."""
+    return {match[1]: match[0] for match in SHARED.finditer((TOP / "README.md").read_text())}
+
+
+def shared(page, text):
+    """Lines of a package's README that README has otherwise."""
+    if page.name == "README.md" and page.parent.parent == TOP / "bindings":
+        says = {match[1]: match[0] for match in SHARED.finditer(text)}
+        for name, line in shared_lines().items():
+            if says.get(name) != line:
+                yield f"not the line of README: {name}"
+
+
 BLOCK = re.compile(r"(<!-- by docs/check.py --write -->\n```text\n)(.*?\n?)(```)", re.S)
 
 
@@ -329,6 +338,14 @@ def calling(page, text):
             yield f"not quoted: {line.strip()[:100]}"
 
 
+def versions(page, text):
+    """Names of files of a release with another version."""
+    are = re.search(r"^VERSION = (.*)$", (TOP / "bindings/c/Makefile").read_text(), re.M)[1]
+    for name, version in re.findall(r"\b(imagesize(?:_probe|_proved|-[a-z]+)-(\d+(?:\.\d+)+))", text):
+        if version != are:
+            yield f"{name}, and the version is {are}"
+
+
 def numbers(page, text):
     """Numbers of things that are others."""
     if page.name == "CHANGELOG.md":
@@ -341,10 +358,12 @@ def numbers(page, text):
 
 
 def length(page, text):
-    """A README that is too long to be read in a minute."""
-    most = 80 if page.parent == TOP else 40
+    """A README that is too long to be read in a minute or two."""
+    most, most_words = (60, 700) if page.parent == TOP else (40, 450)
     if page.name == "README.md" and len(text.splitlines()) > most:
         yield f"{len(text.splitlines())} lines, of at most {most}"
+    if page.name == "README.md" and len(text.split()) > most_words:
+        yield f"{len(text.split())} words, of at most {most_words}"
 
 
 DIFF = re.compile(r"^```diff\n(.*?)^```$", re.M | re.S)
@@ -414,7 +433,8 @@ def words(page, text):
             yield f"the project's own word: {word}"
 
 
-CHECKS = (links, files, commands, mutations, definitions, defined, declared, clauses, calling, formats, numbers, length, diffs, long_sentences, words)
+CHECKS = (links, files, commands, mutations, definitions, defined, declared, clauses, calling, formats, shared, versions, numbers, length,
+          diffs, long_sentences, words)
 # Mistakes for each check: the page that one is planted on, and the text.
 PLANTED = [
     (links, "README.md", "[a page](docs/NOT_THERE.md)"),
@@ -427,6 +447,8 @@ PLANTED = [
     (clauses, "docs/PROVED.md", "`value` and `stopped` of `blob_size`"),
     (calling, "CALLING.md", None),
     (formats, "README.md", None),
+    (shared, "bindings/c/README.md", None),
+    (versions, "README.md", "`imagesize-rust-0.14.0`"),
     (numbers, "README.md", "1000 formats"),
     (length, "README.md", "\n" * 81),
     (diffs, "CONTRIBUTING.md", "```diff\n+++ docs/check.py\n+no such line\n```"),
@@ -443,7 +465,7 @@ def self_test():
     for check, name, planted in PLANTED:
         page = TOP / name
         text = page.read_text()
-        bad = text + "\n\n" + planted if planted else text.replace("length header.now < 12", "length header.now < 13").replace("QOI, ", "")
+        bad = text + "\n\n" + planted if planted else text.replace("length «data».now < 12", "length «data».now < 13").replace("QOI, ", "").replace("by area", "")
         if len(list(check(page, bad))) <= len(list(check(page, text))):
             missed.append(check.__name__)
     print(f"self-test: {len(PLANTED)} mistakes planted, {len(missed)} missed {' '.join(missed)}".rstrip())
@@ -461,11 +483,13 @@ def show_counts():
 
 
 def write():
-    """Writes the contracts in CALLING.md, and the list of formats in README.md."""
+    """Writes the contracts in CALLING.md, the list of formats in README.md, and what the READMEs share."""
     page = TOP / "CALLING.md"
     page.write_text(BLOCK.sub(lambda match: match[1] + quoted() + "\n" + match[3], page.read_text()))
     page = TOP / "README.md"
     page.write_text(LISTED.sub(lambda _: list_of_formats(), page.read_text()))
+    for page in TOP.glob("bindings/*/README.md"):
+        page.write_text(SHARED.sub(lambda match: shared_lines()[match[1]], page.read_text()))
 
 
 def main():
