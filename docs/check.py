@@ -1,13 +1,14 @@
 """Checks what the pages and the docstrings of the crates say of this repository, and how they say it.
 
     python3 docs/check.py                prints a line for each mistake; the status is 1 if there is one
-    python3 docs/check.py --count        prints the words, the long sentences and the project's old words of each page
-    python3 docs/check.py --write        writes the contracts in CALLING.md and the list of formats in README.md anew
+    python3 docs/check.py --count        prints the words, the long sentences and the project's old words of each page, and the words in all
+    python3 docs/check.py --write        writes the contracts in CALLING.md, the list of formats in README.md and docs/CLAUSES.md anew
     python3 docs/check.py --self-test    plants a mistake for each check, and fails if one is not found
 
-It checks links, names of files, commands, mutations, definitions, clauses and their owners, the contracts in CALLING.md, numbers, worked
-diffs, and the length of sentences. A page of REWRITTEN has none of the words in OLD, and neither have the lines `///` and `//!`
-in `crates/*/src`. Their sentences are as short as those of the pages.
+It checks links and their anchors, names of files, lines of files, commands, calls, mutations, definitions, clauses and their owners, the
+contracts in CALLING.md, the table of docs/CLAUSES.md, numbers, worked diffs, the length of sentences, and the words in all. No page has
+a word in OLD, and neither have the headers and the lines `///` and `//!` in `crates/*/src`. Their sentences are as short as those of the
+pages. docs/CLAUSES.md is not read for its words, since it takes them from the sources.
 """
 
 import functools
@@ -17,8 +18,13 @@ import subprocess
 import sys
 
 TOP = pathlib.Path(__file__).resolve().parent.parent
-sys.path.insert(0, str(TOP / "bindings"))
+sys.path[:0] = [str(TOP / "bindings"), str(TOP / "docs")]
 from lists import usual_names  # noqa: E402
+
+import promises  # noqa: E402
+
+# The words of all pages together, without what a script writes. It is what the pages have now; lower it with them.
+LIMIT = 99999
 
 LINK = re.compile(r"\[[^\]]*\]\(([^)#\s]+)(?:#[^)]*)?\)")
 CODE = re.compile(r"`([^`\n]+)`")
@@ -35,11 +41,9 @@ LONGEST = 25
 # Words of the proofs that no reader knows. Code and headings of tables of code are not read.
 OLD = (r"places?|rooms?|lent|lends?|lending|hand(?:s|ed)? over|told|taken|answers?|answered|refusals?|halts?|marks|bytes that follow|"
        r"kinds?|worked inputs?|edits?|the gate|cures?|cured|behind|wants|wanted|stands?|chains?|that of a|those of a|so it is|(?<!each )of which")
-REWRITTEN = {"README.md", "CALLING.md", "CONTRIBUTING.md", "SECURITY.md", "include/imagesize.h", "bindings/c/README.md",
-             "bindings/js/README.md", "bindings/python/README.md", "bindings/rust/README.md", "docs/ARCHITECTURE.md",
-             "docs/CHAINS.md", "docs/COMPARISON.md", "docs/DECISIONS.md", "docs/DIFFERENCES.md", "docs/LAYOUTS.md", "docs/PARTS.md",
-             "docs/PROMISES.md", "docs/PROVED.md", "docs/RELEASING.md", "docs/REMOTE.md", "docs/STREAMS.md",
-             "docs/TESTED.md", "docs/UPLOADS.md", "docs/VERSIONS.md"}
+# Pages that a script writes from the sources, whose words are not read.
+GENERATED = {"docs/CLAUSES.md"}
+HEADERS = [TOP / "include/imagesize.h", TOP / "include/imagesize_file.h"]
 # Commands of the kit, by `rt`; commands of a shell are not checked.
 RT = set("ci must-fail selftest doc version new check verdict lib run test try fmt tidy plant all expand lemma seed names".split())
 
@@ -69,12 +73,16 @@ NUMBERS = {
     "crates": lambda: len(list(TOP.glob("crates/*/src"))),
     "tests": lambda: count(r"#\[test\]", ".rt"),
     "types": lambda: members("imagesize_type_number"),
-    "functions of the header": lambda: count(r"^uint32_t \w+\(", "include/imagesize.h"),
+    "functions of the header": lambda: count(r"^(?:uint32_t|void) \w+\(", "include/imagesize.h"),
+    "calls of `include/imagesize.h`": lambda: count(r"^(?:uint32_t|void) \w+\(", "include/imagesize.h"),
+    "lines of Python": lambda: sum(len(path.read_text().splitlines()) for path in TOP.glob("tests/model/*.py")),
     "statuses": lambda: members("imagesize_status"),
     "test vectors": lambda: sum(
         1 for line in (TOP / "crates/imagesize_vectors/data/worked.tsv").read_text().split("\n") if line and line[0] != "#"),
 }
 NUMBERS["formats"] = NUMBERS["types"]
+# These are rounded to ten.
+ROUNDED = {"lines of Python"}
 
 
 def pages():
@@ -94,11 +102,81 @@ def links(page, text):
             yield f"no file at the link {target}"
 
 
+def slug(heading):
+    """The anchor of a heading, as GitHub makes it."""
+    return re.sub(r"[^\w\- ]", "", LINK.sub(lambda match: match[0][1:match[0].index("]")], heading).lower()).replace(" ", "-")
+
+
+def anchors(page, text):
+    """Links to headings that are not there."""
+    for target, anchor in re.findall(r"\[[^\]]*\]\(([^)#\s]*)#([^)\s]+)\)", text):
+        aim = page.parent / target if target else page
+        if "://" in target or aim.suffix != ".md" or not aim.exists():
+            continue
+        headings = re.findall(r"^#+ (.*)", FENCE.sub("", aim.read_text() if target else text), re.M)
+        if anchor not in map(slug, headings):
+            yield f"no heading {anchor} in {target or page.name}"
+
+
+@functools.lru_cache(None)
+def tracked():
+    """The files that git knows, by their names without folders."""
+    listed = subprocess.run(["git", "ls-files"], cwd=TOP, check=True, capture_output=True, text=True).stdout.split("\n")
+    found = {}
+    for name in filter(None, listed):
+        found.setdefault(name.split("/")[-1], []).append(name)
+    return found
+
+
+# Names of files that a page invents, that a build makes, or that other projects have.
+OTHERS = re.compile(r"photo\w*\.|image\d*\.|a\.|NAME|Cargo\.lock|libimagesize|imagesize\.(?:wasm|pc|mjs)|package(?:-lock)?\.json")
+
+
+def bare_files(page, text):
+    """Names of files without their folders, such as `Way.antt`, that are nowhere in the repository."""
+    for code in CODE.findall(text):
+        if re.fullmatch(r"[\w-]+\.(?:rt|antt|edit|tsv|py|rs|js|mjs|ts|h|c|md|toml|txt|html)", code) and not OTHERS.match(code):
+            if code not in tracked() and not (page.parent / code).exists():
+                yield f"no file with the name {code}"
+
+
+LINE = re.compile(r"([\w./-]+\.(?:py|rs|js|mjs|ts|rt|antt|h|c|tsv|md)):(\d+)\b(?:: (\S+) for (\S+?)[`,])?")
+
+
+def lines_of_files(page, text):
+    """Lines of files that the file does not have, or that have none of the two tokens of a change that is named with them."""
+    for name, number, new, old in LINE.findall(text):
+        paths = [TOP / path for path in tracked().get(name.split("/")[-1], ()) if path.endswith(name)]
+        has = [lines[int(number) - 1] for lines in (path.read_text().split("\n") for path in paths) if int(number) <= len(lines)]
+        if not has:
+            yield f"no line {number} of {name}"
+        elif re.fullmatch(r"[\d<>=!]+", new) and not any(token in line for line in has for token in (new, old)):
+            yield f"line {number} of {name} has no {new} and no {old}"
+
+
+def calls(page, text):
+    """Calls in code, such as `size(path)`, that no source defines, and names of C, such as `imagesize_size`, that the headers do not have."""
+    if page.name in ("CHANGELOG.md", "DIFFERENCES.md", "COMPARISON.md"):
+        return
+    for code in CODE.findall(text):
+        match = re.match(r"(?:[\w.]+(?:\.|::))?([A-Za-z_]\w*)\((?!\))?", code)
+        if match and "(" in match[0] and match[1] not in names() | KNOWN | LANGUAGES:
+            yield f"no call {match[1]}"
+    crates = {path.name for path in TOP.glob("crates/*")} | set(tracked()) | {name.split(".")[0] for name in tracked()}
+    for name in set(re.findall(r"(?<![\w/.-])(?:imagesize_\w*\w|IMAGESIZE_\w*\w)(?![\w*/-])", text)):
+        if name not in names() | crates:
+            yield f"no name {name}"
+
+
+# Functions of the languages' own libraries.
+LANGUAGES = set("print open read write len fetch require import await async with for if while main new".split())
+
+
 def files(page, text):
     """Names of files and folders, such as `crates/x/src/y.rt`, that are not there."""
     for word in " ".join(CODE.findall(text) + FENCED.findall(text)).split():
         word = word.strip(",;()\"'").split("::")[0]
-        if not re.fullmatch(r"(?:crates|docs|include|bindings|examples|tests|\.ci)/[\w./-]+", word) or MADE.search(word):
+        if not re.fullmatch(r"(?:crates|docs|include|bindings|examples|tests|bench|release|\.ci)/[\w./-]+", word) or MADE.search(word):
             continue
         if not (TOP / word).exists() and not (page.parent / word).exists():
             yield f"no file {word}"
@@ -329,14 +407,28 @@ def calling(page, text):
             yield f"not quoted: {line.strip()[:100]}"
 
 
+def stale(page, text):
+    """Tables of CLAUSES.md that are not those of the sources."""
+    if page == promises.PAGE and (promises.BLOCK.search(text) or ("",) * 3)[2] != promises.generated():
+        yield "the tables are not those of the sources: python3 docs/check.py --write"
+
+
+def tested(page, text):
+    """Mistakes in the table of clauses of PROMISES.md, and in promises.tsv."""
+    if page.name == "PROMISES.md":
+        yield from promises.unknown_clauses(text)
+    if page.name == "promises.tsv":
+        yield from promises.mistakes(text)
+
+
 def numbers(page, text):
     """Numbers of things that are others."""
     if page.name == "CHANGELOG.md":
         return
     things = "|".join(sorted(NUMBERS, key=len, reverse=True))
-    for number, what in re.findall(rf"\b(\d+|{'|'.join(sorted(WORDS, key=len, reverse=True))}) ({things})\b", text):
+    for number, what in re.findall(rf"\b(\d+|{'|'.join(sorted(WORDS, key=len, reverse=True))}) ({things})(?!\w)", text):
         said, are = WORDS[number] if number in WORDS else int(number), NUMBERS[what]()
-        if said != are and not (said < 10 and what != "types"):
+        if said != are and not (said < 10 and what != "types") and not (what in ROUNDED and abs(said - are) <= 10):
             yield f"{said} {what}, and there are {are}"
 
 
@@ -390,14 +482,14 @@ def sentences(text):
                 yield sentence
 
 
-def is_rewritten(page):
+def is_read(page):
     """Whether the words and the sentences of a file are checked."""
-    return page.suffix == ".rt" or str(page.relative_to(TOP)) in REWRITTEN
+    return str(page.relative_to(TOP)) not in GENERATED
 
 
 def long_sentences(page, text):
     """Sentences above the greatest length."""
-    if is_rewritten(page):
+    if is_read(page):
         for sentence in sentences(prose(page, text)):
             if len(sentence.split()) > LONGEST:
                 yield f"a sentence of {len(sentence.split())} words: {sentence[:60]}.."
@@ -408,26 +500,47 @@ def old_words(text):
 
 
 def words(page, text):
-    """Words of the proofs, on a page that is rewritten or in a docstring."""
-    if is_rewritten(page):
+    """Words of the proofs, on a page, in a header or in a docstring."""
+    if is_read(page):
         for word in sorted(set(word.lower() for word in old_words(prose(page, text)))):
             yield f"the project's own word: {word}"
 
 
-CHECKS = (links, files, commands, mutations, definitions, defined, declared, clauses, calling, formats, numbers, length, diffs, long_sentences, words)
-# Mistakes for each check: the page that one is planted on, and the text.
+def total(page, text):
+    """More words than all pages may have together; README.md stands for all."""
+    if page == TOP / "README.md":
+        has = sum(words_of(other, text if other == page else other.read_text())[0] for other in pages())
+        if has > LIMIT:
+            yield f"{has} words in all pages, of at most {LIMIT}"
+
+
+CHECKS = (links, anchors, files, bare_files, lines_of_files, commands, calls, stale, tested, total, mutations, definitions, defined, declared, clauses, calling, formats, numbers, length, diffs, long_sentences, words)
+# Mistakes for each check: the page that one is planted on, and the text after it, or what the page becomes.
 PLANTED = [
     (links, "README.md", "[a page](docs/NOT_THERE.md)"),
+    (anchors, "README.md", "[a page](docs/ARCHITECTURE.md#not-there), [here](#not-there-either)"),
     (files, "README.md", "`crates/imagesize/src/not_there.rt`"),
+    (bare_files, "README.md", "`NotThere.antt`"),
+    (lines_of_files, "docs/TESTED.md", "`kinds.py:99999: 8 for 9`"),
+    (lines_of_files, "docs/TESTED.md", "`kinds.py:1: 77 for 78`"),
+    (calls, "README.md", "`blob_sizes_of(bytes)`"),
+    (calls, "README.md", "```c\nimagesize_not_there(bytes);\n```"),
+    (stale, "docs/CLAUSES.md", lambda text: text.replace("| `value` |", "| `values` |", 1)),
+    (tested, "docs/PROMISES.md", lambda text: text.replace("| `memory` |", "| `no_such_clause` |")),
+    (tested, "docs/promises.tsv", "imagesize\tno_such_mutation\timagesize::blob_size value"),
+    (tested, "docs/promises.tsv", "imagesize\tsize_on_its_side\timagesize::blob_size no_such_clause"),
+    (tested, "docs/promises.tsv", "imagesize_texts\tblank_word_as_the_width\timagesize_png::blob_size value"),
+    (total, "README.md", "word " * 99999),
     (commands, "README.md", "`rt provee`, `examples/run --not-there`"),
     (mutations, "docs/PROMISES.md", "| a | Mutations |\n|---|---|\n| b | `no_such_mutation` |"),
     (definitions, "docs/PROVED.md", "`CountsNothingAtAll`"),
     (defined, "docs/PROMISES.md", "| Name | What |\n|---|---|\n| `no_such_name` | nothing |\n"),
     (declared, "docs/PROVED.md", "| Contract | What |\n|---|---|\n| `nothing`, `Covers spans` | nothing |\n"),
     (clauses, "docs/PROVED.md", "`value` and `stopped` of `blob_size`"),
-    (calling, "CALLING.md", None),
-    (formats, "README.md", None),
+    (calling, "CALLING.md", lambda text: text.replace("length header.now < 12", "length header.now < 13")),
+    (formats, "README.md", lambda text: text.replace("QOI, ", "")),
     (numbers, "README.md", "1000 formats"),
+    (numbers, "README.md", "1000 calls of `include/imagesize.h`"),
     (length, "README.md", "\n" * 81),
     (diffs, "CONTRIBUTING.md", "```diff\n+++ docs/check.py\n+no such line\n```"),
     (long_sentences, "README.md", "It is " + "very " * 40 + "long."),
@@ -443,37 +556,51 @@ def self_test():
     for check, name, planted in PLANTED:
         page = TOP / name
         text = page.read_text()
-        bad = text + "\n\n" + planted if planted else text.replace("length header.now < 12", "length header.now < 13").replace("QOI, ", "")
+        bad = planted(text) if callable(planted) else text + "\n\n" + planted
         if len(list(check(page, bad))) <= len(list(check(page, text))):
             missed.append(check.__name__)
     print(f"self-test: {len(PLANTED)} mistakes planted, {len(missed)} missed {' '.join(missed)}".rstrip())
     return 1 if missed or {check for check, _, _ in PLANTED} != set(CHECKS) else 0
 
 
+BY_SCRIPT = re.compile(r"<!-- (?:by docs/check\.py --write|written by tests/report) -->\n(.*?)<!-- end -->", re.S)
+
+
+def words_of(page, text):
+    """How many words of a page are written by hand, and how many by a script."""
+    made = sum(len(prose(page, block).split()) for block in BY_SCRIPT.findall(text))
+    return len(prose(page, text).split()) - made, made
+
+
 def show_counts():
-    """The counts of each page."""
-    print(f"{'page':34} {'words':>6} {'>25':>4} {'>30':>4} {'old words':>9}")
-    for page in [*pages(), TOP / "include/imagesize.h"]:
+    """The counts of each page, and the words of all pages."""
+    print(f"{'page':34} {'words':>6} {'by script':>9} {'>25':>4} {'>30':>4} {'old words':>9}")
+    counts = {page: words_of(page, page.read_text()) for page in [*pages(), *HEADERS]}
+    for page, (by_hand, made) in counts.items():
         text = prose(page, page.read_text())
-        lengths = [len(sentence.split()) for sentence in sentences(text)]
-        print(f"{str(page.relative_to(TOP)):34} {len(text.split()):6} {sum(n > 25 for n in lengths):4} {sum(n > 30 for n in lengths):4} "
-              f"{len(old_words(text)):9}")
+        lengths = [len(sentence.split()) for sentence in sentences(text)] if is_read(page) else []
+        print(f"{str(page.relative_to(TOP)):34} {by_hand:6} {made:9} {sum(n > 25 for n in lengths):4} {sum(n > 30 for n in lengths):4} "
+              f"{len(old_words(text)) if is_read(page) else 0:9}")
+    print(f"{'all pages, without the headers':34} {sum(counts[page][0] for page in pages()):6} {sum(counts[page][1] for page in pages()):9}"
+          f"    at most {LIMIT}")
 
 
 def write():
-    """Writes the contracts in CALLING.md, and the list of formats in README.md."""
+    """Writes the contracts in CALLING.md, the list of formats in README.md, and the tables of CLAUSES.md."""
     page = TOP / "CALLING.md"
     page.write_text(BLOCK.sub(lambda match: match[1] + quoted() + "\n" + match[3], page.read_text()))
     page = TOP / "README.md"
     page.write_text(LISTED.sub(lambda _: list_of_formats(), page.read_text()))
+    page = promises.PAGE
+    page.write_text(promises.BLOCK.sub(lambda match: match[1] + promises.generated() + match[3], page.read_text()))
 
 
 def main():
     wrong = 0
-    read = [*pages(), TOP / "include/imagesize.h"]
-    for page in [*read, *sources()]:
+    read = [*pages(), *HEADERS]
+    for page in [*read, *sources(), TOP / "docs/promises.tsv"]:
         text = page.read_text()
-        for check in CHECKS if page.suffix == ".md" else (long_sentences, words):
+        for check in CHECKS if page.suffix == ".md" else (tested,) if page.suffix == ".tsv" else (long_sentences, words):
             for mistake in check(page, text):
                 print(f"{page.relative_to(TOP)}: {mistake}")
                 wrong += 1
