@@ -19,6 +19,7 @@ CRATES = ("imagesize imagesize_stream imagesize_png imagesize_c imagesize_probe 
           "imagesize_vectors").split()
 OWNER = re.compile(r"^(?:unsafe )?(impl|(?:pub(?:\(\w+\))? )?trait)\b(.*)$")
 FN = re.compile(r"^( *)((?:pub(?:\(\w+\))? )?(?:const )?(?:unsafe )?(?:extern \"C\" )?)fn (\w+)")
+CALL = re.compile(r"(?<!fn )(\.|(?:\w+(?:::<[^>]*>)?::)+)?\b([a-z]\w*)(?:::<[^>]*>)?\(")
 LONGEST_CODE = 140
 
 
@@ -275,11 +276,11 @@ def dependencies():
 
 @functools.lru_cache(None)
 def used(path):
-    """The crate of each name that a file imports from a crate of this repository."""
+    """The crate and the module of each name that a file imports from a crate of this repository."""
     found = {}
-    for root, items in re.findall(r"^(?:pub )?use (\w+)::([^;]*);", (TOP / path).read_text(), re.M):
+    for root, way, items in re.findall(r"^(?:pub )?use (\w+)::((?:\w+::)*)([^;]*);", (TOP / path).read_text(), re.M):
         for name in re.findall(r"\b\w+\b(?!::)", items):
-            found[name] = path.split("/")[1] if root in ("crate", "super", "self") else root
+            found[name] = path.split("/")[1] if root in ("crate", "super", "self") else root, way.split("::")[-2:][0]
     return found
 
 
@@ -301,14 +302,15 @@ def resolved(function, before, name):
         last = function.owner if last == "Self" else last
         return [other for other in found if last in (other.owner, other.crate, other.trait, pathlib.Path(other.path).stem)] or found
     here = [other for other in found if other.path == function.path and not other.owner]
-    crate = used(function.path).get(name)
-    return here or [other for other in found if not other.owner and (crate is None or other.crate == crate)]
+    crate, module = used(function.path).get(name, (None, None))
+    free = [other for other in found if not other.owner and (crate is None or other.crate == crate)]
+    return here or [other for other in free if module == pathlib.Path(other.path).stem] or free
 
 
 @functools.lru_cache(None)
 def callees():
     """The functions that each function may call, by the names in its body."""
-    return {function: [other for before, name in set(re.findall(r"(\.|(?:\w+(?:::<[^>]*>)?::)+)?\b([a-z]\w*)(?:::<[^>]*>)?\(", function.body))
+    return {function: [other for before, name in set(re.findall(CALL, function.body))
                        for other in resolved(function, before, name)]
             for function in functions()}
 
