@@ -162,14 +162,19 @@ def calls(page, text):
         match = re.match(r"(?:[\w.]+(?:\.|::))?([A-Za-z_]\w*)\((?!\))?", code)
         if match and "(" in match[0] and match[1] not in names() | KNOWN | LANGUAGES:
             yield f"no call {match[1]}"
+    for block in BLOCKS.findall(text):
+        made = set(re.findall(r"\b(?:def|fn|function|class|let|const) (\w+)", block))
+        for name in set(re.findall(r"\b([A-Za-z_]\w*)!?\(", block)) - made - names() - KNOWN - LANGUAGES:
+            yield f"no call {name}"
     crates = {path.name for path in TOP.glob("crates/*")} | set(tracked()) | {name.split(".")[0] for name in tracked()}
     for name in set(re.findall(r"(?<![\w/.-])(?:imagesize_\w*\w|IMAGESIZE_\w*\w)(?![\w*/-])", text)):
         if name not in names() | crates:
             yield f"no name {name}"
 
 
-# Functions of the languages' own libraries.
-LANGUAGES = set("print open read write len fetch require import await async with for if while main new".split())
+BLOCKS = re.compile(r"^ *```(?:python|js|rust|c|ts)\n(.*?)^ *```$", re.M | re.S)
+# Functions of the languages' own libraries, and of a store of objects.
+LANGUAGES = set("print open read write len fetch require import await async with for if while main new head_object get_object".split())
 
 
 def files(page, text):
@@ -525,6 +530,7 @@ PLANTED = [
     (lines_of_files, "docs/TESTED.md", "`kinds.py:1: 77 for 78`"),
     (calls, "README.md", "`blob_sizes_of(bytes)`"),
     (calls, "README.md", "```c\nimagesize_not_there(bytes);\n```"),
+    (calls, "README.md", "```python\nimagesize_proved.sizes_of_all(paths)\n```"),
     (stale, "docs/CLAUSES.md", lambda text: text.replace("| `value` |", "| `values` |", 1)),
     (tested, "docs/PROMISES.md", lambda text: text.replace("| `memory` |", "| `no_such_clause` |")),
     (tested, "docs/promises.tsv", "imagesize\tno_such_mutation\timagesize::blob_size value"),
