@@ -391,25 +391,35 @@ def code_of(mutation, crate):
     return f"`{mutation.name}`" + ("" if mutation.crate == crate else f" in `{mutation.crate}`")
 
 
+def listed(found, crate):
+    """Mutations, by their names."""
+    return ", ".join(code_of(mutation, crate) for mutation in found)
+
+
 def generated():
-    """The tables of CLAUSES.md."""
+    """The text of CLAUSES.md: for each crate its functions with named clauses, and then a table of the others."""
     lines = []
     for crate in CRATES:
         root = next(path for path in ((TOP / "crates" / crate / "src" / name) for name in ("lib.rt", "main.rt")) if path.exists())
         about = re.match(r"(?:#!.*\n)*((?://!.*\n)+)", root.read_text())
         lines += [f"## {crate}", "", first_sentence(about[1].strip().split("\n")) if about else "", ""]
-        lines += ["| Function | Clause | What it states | Mutations |", "|---|---|---|---|"]
+        others = []
         for function in functions():
-            if function.crate != crate:
-                continue
-            name = function.shown
-            for label, words, found in rows_of(function):
-                lines.append(cell_row(name, f"`{label}`" if label else "", words, ", ".join(code_of(m, crate) for m in found)))
-                name = ""
+            rows = rows_of(function) if function.crate == crate else []
+            if rows and not any(label for label, _, _ in rows):
+                others.append(cell_row(function.shown, rows[0][1], listed(rows[0][2], crate)))
+            elif rows:
+                said, found = next(((words, found) for label, words, found in rows if not label), ("", []))
+                lines += [f"### {function.shown}", ""]
+                if said or found:
+                    lines += [" ".join(filter(None, (said, found and f"Mutations of its code: {listed(found, crate)}."))), ""]
+                lines += ["| Clause | What it states | Mutations |", "|---|---|---|"]
+                lines += [cell_row(f"`{label}`", words, listed(found, crate)) for label, words, found in rows if label]
+                lines.append("")
         loose = [m for m in mutations() if m.crate == crate and not m.function and not tested().get((crate, m.name))]
-        if loose:
-            lines.append(cell_row("constants and types", "", "", ", ".join(code_of(m, crate) for m in loose)))
-        lines.append("")
+        others += [cell_row("constants and types", "", listed(loose, crate))] if loose else []
+        if others:
+            lines += [f"### Other functions of {crate}", "", "| Function | What it states | Mutations |", "|---|---|---|", *others, ""]
     return "\n".join(lines)
 
 
