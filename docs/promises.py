@@ -20,7 +20,6 @@ CRATES = ("imagesize imagesize_stream imagesize_png imagesize_c imagesize_probe 
 OWNER = re.compile(r"^(?:unsafe )?(impl|(?:pub(?:\(\w+\))? )?trait)\b(.*)$")
 FN = re.compile(r"^( *)((?:pub(?:\(\w+\))? )?(?:const )?(?:unsafe )?(?:extern \"C\" )?)fn (\w+)")
 CALL = re.compile(r"(?<!fn )(\.|(?:\w+(?:::<[^>]*>)?::)+)?\b([a-z]\w*)(?:::<[^>]*>)?\(")
-LONGEST_CODE = 140
 
 
 class Clause:
@@ -55,8 +54,8 @@ class Function:
             return sentence(self.docs)
         if any(other.trait == "trait" and other.full == f"{self.trait}::{self.name}" for other in functions()):
             return f"As `{self.trait}::{self.name}` promises."
-        return " and ".join(f"`{name}`" for name in self.members) and \
-            f"By the ghost member {' and '.join(f'`{name}`' for name in self.members)} of the `impl`."
+        stated = self.members and not any(clause.label for clause in self.clauses)
+        return stated and f"The `impl` states what it gives, as {' and '.join(f'`{name}`' for name in self.members)}." or ""
 
 
 def bare(name):
@@ -245,7 +244,7 @@ def written():
 def words_of(function, clause):
     """What a clause states."""
     table = written()
-    for owner in (f"{function.crate}::{function.full}", function.full, function.crate):
+    for owner in (f"{function.crate}::{function.full}", function.full, f"{function.trait}::{function.name}", function.crate):
         if (clause.label, owner) in table:
             return table[clause.label, owner]
     lead = clause.comment if clause.comment.endswith(":") else ""
@@ -259,8 +258,7 @@ def words_of(function, clause):
             words = sentence(words_of_definition(*names[name])) if name in names else ""
             if words:
                 break
-    if not words and len(clause.text) <= LONGEST_CODE:
-        words = f"`{clause.text}`"
+    words = words or f"`{clause.text}`"
     return f"{lead} {words[:1].lower() + words[1:] if words[:1] != '`' else words}".strip() if lead else words
 
 
@@ -410,6 +408,7 @@ def generated():
                 others.append(cell_row(function.shown, rows[0][1], listed(rows[0][2], crate)))
             elif rows:
                 said, found = next(((words, found) for label, words, found in rows if not label), ("", []))
+                found = [mutation for mutation in found if not any(mutation in some for label, _, some in rows if label)]
                 lines += [f"### {function.shown}", ""]
                 if said or found:
                     lines += [" ".join(filter(None, (said, found and f"Mutations of its code: {listed(found, crate)}."))), ""]
