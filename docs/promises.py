@@ -86,7 +86,8 @@ def balanced(text, at):
 def first_sentence(lines):
     """The first sentence of a docstring or of a comment."""
     text = " ".join(re.sub(r"^\s*//[/!]? ?", "", line) for line in lines).split("  ")[0].strip()
-    return re.split(r"(?<=[.:?])\s+(?=[A-Z`])", text)[0]
+    ends = re.search(r"[.:?]\s+(?=[A-Z`])", re.sub(r"`[^`]*`", lambda code: "`" + "x" * (len(code[0]) - 2) + "`", text))
+    return text[:ends.start() + 1] if ends else text
 
 
 def clauses_of(lines, start, end):
