@@ -416,6 +416,8 @@ def stale(page, text):
     """Tables of CLAUSES.md that are not those of the sources."""
     if page == promises.PAGE and (promises.BLOCK.search(text) or ("",) * 3)[2] != promises.generated():
         yield "the tables are not those of the sources: python3 docs/check.py --write"
+    if page == promises.PAGE:
+        yield from (f"no mutation {mutation.name}" for mutation in promises.mutations() if f"`{mutation.name}`" not in text)
 
 
 def tested(page, text):

@@ -3,7 +3,7 @@
 docs/check.py calls this module. A clause comes from `crates/*/src/*.rt`, a mutation from `crates/*/must-fail/*.edit`. The words are
 those of a row of the table of clauses in docs/PROMISES.md, of the comment above the clause, or of the comment above the
 definition in `specs/` that the clause names. A clause without any of them is shown as code. The table docs/promises.tsv
-says which clauses a mutation tests; a mutation that is not in it stands in the row of the function that it changes.
+says which clauses a mutation tests; a mutation that is not in it is with the function that it changes.
 """
 
 import functools
@@ -172,6 +172,7 @@ class Mutation:
 
 @functools.lru_cache(None)
 def mutations():
+    """All mutations of the crates of the page."""
     return [Mutation(path) for crate in CRATES for path in sorted((TOP / "crates" / crate / "must-fail").glob("*.edit"))]
 
 
@@ -285,6 +286,7 @@ def used(path):
 
 @functools.lru_cache(None)
 def by_name():
+    """The functions with each name."""
     found = {}
     for function in functions():
         found.setdefault(function.name, []).append(function)
@@ -383,10 +385,12 @@ def rows_of(function):
 
 
 def cell(text):
+    """A text without a bar that would end its cell."""
     return re.sub(r"(?<!\\)\|", r"\\|", text)
 
 
 def code_of(mutation, crate):
+    """The name of a mutation, with its crate if that is another one."""
     return f"`{mutation.name}`" + ("" if mutation.crate == crate else f" in `{mutation.crate}`")
 
 
@@ -424,15 +428,16 @@ def generated():
 
 
 def cell_row(*cells):
+    """A row of a table."""
     return "| " + " | ".join(cell(text) for text in cells) + " |"
 
 
 def mistakes(text):
     """What is wrong with promises.tsv: a mutation, a function or a clause that is not there, or code that the function does not run."""
     there = {(mutation.crate, mutation.name): mutation for mutation in mutations()}
-    by_name = {}
+    named = {}
     for function in functions():
-        by_name.setdefault((function.crate, function.full), []).append(function)
+        named.setdefault((function.crate, function.full), []).append(function)
     for line in text.split("\n"):
         if not line or line.startswith("#"):
             continue
@@ -443,10 +448,10 @@ def mistakes(text):
             continue
         for ref in refs.split("; "):
             owner, _, label = ref.partition(" ")
-            found = [function for function in by_name.get(tuple(owner.split("::", 1)), ())
+            found = [function for function in named.get(tuple(owner.split("::", 1)), ())
                      if not label or label in {clause.label for clause in function.clauses}]
-            if not found:
-                yield f"no clause {ref}"
+            if len(found) != 1:
+                yield f"no clause {ref}" if not found else f"{ref} is a clause of {len(found)} functions"
             # A law of two comparisons has no body; what it is about are derived items and items of its crate.
             elif mutation.function and not any(mutation.function in reached(f) or f.name.endswith("_laws") for f in found):
                 yield f"{owner} does not run the code that {name} changes, {mutation.function.full}"
