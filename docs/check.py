@@ -1,14 +1,14 @@
 """Checks what the pages and the docstrings of the crates say of this repository, and how they say it.
 
     python3 docs/check.py                prints a line for each mistake; the status is 1 if there is one
-    python3 docs/check.py --count        prints the words, the long sentences and the project's old words of each page, and the words in all
-    python3 docs/check.py --write        writes the contracts in CALLING.md, the list of formats in README.md and docs/CLAUSES.md anew
+    python3 docs/check.py --count        prints the words, the long sentences and the project's old words of each page
+    python3 docs/check.py --write        writes the contracts in CALLING.md and the list of formats in README.md anew
     python3 docs/check.py --self-test    plants a mistake for each check, and fails if one is not found
 
 It checks links and their anchors, names of files, lines of files, commands, calls, mutations, definitions, clauses and their owners, the
 contracts in CALLING.md, the table of docs/CLAUSES.md, numbers, worked diffs, the length of sentences, and the words in all. No page has
 a word in OLD, and neither have the headers and the lines `///` and `//!` in `crates/*/src`. Their sentences are as short as those of the
-pages. docs/CLAUSES.md is not read for its words, since it takes them from the sources.
+pages. docs/CLAUSES.md is not read for its words, since --write takes them from the sources. --count also prints the words in all.
 """
 
 import functools
@@ -332,6 +332,22 @@ def declarations():
     return found
 
 
+def stale(page, text):
+    """Tables of CLAUSES.md that are not those of the sources."""
+    if page == promises.PAGE:
+        if {made for _, made, _ in promises.BLOCK.findall(text)} != {promises.generated()}:
+            yield "the tables are not those of the sources: python3 docs/check.py --write"
+        yield from (f"no mutation {mutation.name}" for mutation in promises.mutations() if f"`{mutation.name}`" not in text)
+
+
+def tested(page, text):
+    """Mistakes in the table of clauses of PROMISES.md, and in promises.tsv."""
+    if page.name == "PROMISES.md":
+        yield from promises.unknown_clauses(text)
+    if page.name == "promises.tsv":
+        yield from promises.mistakes(text)
+
+
 LABEL = r"`[a-z]\w*`"
 OF = re.compile(rf"({LABEL}(?:(?:,| and|, and) {LABEL})*) of (`\w+(?:::\w+)?`)")
 
@@ -410,22 +426,6 @@ def calling(page, text):
             yield f"not in the sources: {line.strip()[:100]}"
         for line in [line for line in are if line not in says][:5]:
             yield f"not quoted: {line.strip()[:100]}"
-
-
-def stale(page, text):
-    """Tables of CLAUSES.md that are not those of the sources."""
-    if page == promises.PAGE and (promises.BLOCK.search(text) or ("",) * 3)[2] != promises.generated():
-        yield "the tables are not those of the sources: python3 docs/check.py --write"
-    if page == promises.PAGE:
-        yield from (f"no mutation {mutation.name}" for mutation in promises.mutations() if f"`{mutation.name}`" not in text)
-
-
-def tested(page, text):
-    """Mistakes in the table of clauses of PROMISES.md, and in promises.tsv."""
-    if page.name == "PROMISES.md":
-        yield from promises.unknown_clauses(text)
-    if page.name == "promises.tsv":
-        yield from promises.mistakes(text)
 
 
 def numbers(page, text):
@@ -513,42 +513,20 @@ def words(page, text):
             yield f"the project's own word: {word}"
 
 
-def total(page, text):
-    """More words than all pages may have together; README.md stands for all."""
-    if page == TOP / "README.md":
-        has = sum(words_of(other, text if other == page else other.read_text())[0] for other in pages())
-        if has > LIMIT:
-            yield f"{has} words in all pages, of at most {LIMIT}"
-
-
-CHECKS = (links, anchors, files, bare_files, lines_of_files, commands, calls, stale, tested, total, mutations, definitions, defined, declared, clauses, calling, formats, numbers, length, diffs, long_sentences, words)
-# Mistakes for each check: the page that one is planted on, and the text after it, or what the page becomes.
+CHECKS = (links, files, commands, mutations, definitions, defined, declared, clauses, calling, formats, numbers, length, diffs, long_sentences, words)
+# Mistakes for each check: the page that one is planted on, and the text.
 PLANTED = [
     (links, "README.md", "[a page](docs/NOT_THERE.md)"),
-    (anchors, "README.md", "[a page](docs/ARCHITECTURE.md#not-there), [here](#not-there-either)"),
     (files, "README.md", "`crates/imagesize/src/not_there.rt`"),
-    (bare_files, "README.md", "`NotThere.antt`"),
-    (lines_of_files, "docs/TESTED.md", "`kinds.py:99999: 8 for 9`"),
-    (lines_of_files, "docs/TESTED.md", "`kinds.py:1: 77 for 78`"),
-    (calls, "README.md", "`blob_sizes_of(bytes)`"),
-    (calls, "README.md", "```c\nimagesize_not_there(bytes);\n```"),
-    (calls, "README.md", "```python\nimagesize_proved.sizes_of_all(paths)\n```"),
-    (stale, "docs/CLAUSES.md", lambda text: text.replace("| `value` |", "| `values` |", 1)),
-    (tested, "docs/PROMISES.md", lambda text: text.replace("| `memory` |", "| `no_such_clause` |")),
-    (tested, "docs/promises.tsv", "imagesize\tno_such_mutation\timagesize::blob_size value"),
-    (tested, "docs/promises.tsv", "imagesize\tsize_on_its_side\timagesize::blob_size no_such_clause"),
-    (tested, "docs/promises.tsv", "imagesize_texts\tblank_word_as_the_width\timagesize_png::blob_size value"),
-    (total, "README.md", "word " * 99999),
     (commands, "README.md", "`rt provee`, `examples/run --not-there`"),
     (mutations, "docs/PROMISES.md", "| a | Mutations |\n|---|---|\n| b | `no_such_mutation` |"),
     (definitions, "docs/PROVED.md", "`CountsNothingAtAll`"),
     (defined, "docs/PROMISES.md", "| Name | What |\n|---|---|\n| `no_such_name` | nothing |\n"),
     (declared, "docs/PROVED.md", "| Contract | What |\n|---|---|\n| `nothing`, `Covers spans` | nothing |\n"),
     (clauses, "docs/PROVED.md", "`value` and `stopped` of `blob_size`"),
-    (calling, "CALLING.md", lambda text: text.replace("length header.now < 12", "length header.now < 13")),
-    (formats, "README.md", lambda text: text.replace("QOI, ", "")),
+    (calling, "CALLING.md", None),
+    (formats, "README.md", None),
     (numbers, "README.md", "1000 formats"),
-    (numbers, "README.md", "1000 calls of `include/imagesize.h`"),
     (length, "README.md", "\n" * 81),
     (diffs, "CONTRIBUTING.md", "```diff\n+++ docs/check.py\n+no such line\n```"),
     (long_sentences, "README.md", "It is " + "very " * 40 + "long."),
@@ -558,19 +536,6 @@ PLANTED = [
 ]
 
 
-def self_test():
-    """Whether each check finds the planted mistakes that it does not find without them."""
-    missed = []
-    for check, name, planted in PLANTED:
-        page = TOP / name
-        text = page.read_text()
-        bad = planted(text) if callable(planted) else text + "\n\n" + planted
-        if len(list(check(page, bad))) <= len(list(check(page, text))):
-            missed.append(check.__name__)
-    print(f"self-test: {len(PLANTED)} mistakes planted, {len(missed)} missed {' '.join(missed)}".rstrip())
-    return 1 if missed or {check for check, _, _ in PLANTED} != set(CHECKS) else 0
-
-
 BY_SCRIPT = re.compile(r"<!-- (?:by docs/check\.py --write|written by tests/report) -->\n(.*?)<!-- end -->", re.S)
 
 
@@ -578,6 +543,47 @@ def words_of(page, text):
     """How many words of a page are written by hand, and how many by a script."""
     made = sum(len(prose(page, block).split()) for block in BY_SCRIPT.findall(text))
     return len(prose(page, text).split()) - made, made
+
+
+def total(page, text):
+    """More words than all pages may have together; README.md stands for all."""
+    if page == TOP / "README.md":
+        has = sum(words_of(other, text if other == page else other.read_text())[0] for other in pages())
+        if has > LIMIT:
+            yield f"{has} words in all pages, of at most {LIMIT}"
+
+
+# Checks of what the sources say, and of the words in all, with a mistake for each.
+CHECKS += (anchors, bare_files, lines_of_files, calls, stale, tested, total)
+PLANTED += [
+    (anchors, "README.md", "[a page](docs/ARCHITECTURE.md#not-there), [here](#not-there-either)"),
+    (bare_files, "README.md", "`NotThere.antt`"),
+    (lines_of_files, "docs/TESTED.md", "`kinds.py:99999: 8 for 9`"),
+    (lines_of_files, "docs/TESTED.md", "`kinds.py:1: 77 for 78`"),
+    (calls, "README.md", "`blob_sizes_of(bytes)`"),
+    (calls, "README.md", "```c\nimagesize_not_there(bytes);\n```"),
+    (calls, "README.md", "```python\nimagesize_proved.sizes_of_all(paths)\n```"),
+    (stale, "docs/CLAUSES.md", "<!-- by docs/check.py --write -->\n| `value` | another |\n<!-- end -->\n"),
+    (tested, "docs/PROMISES.md", "| Clause | Of | What it states |\n|---|---|---|\n| `no_such_clause` | | Nothing. |\n"),
+    (tested, "docs/promises.tsv", "imagesize\tno_such_mutation\timagesize::blob_size value"),
+    (tested, "docs/promises.tsv", "imagesize\tsize_on_its_side\timagesize::blob_size no_such_clause"),
+    (tested, "docs/promises.tsv", "imagesize_texts\tblank_word_as_the_width\timagesize_png::blob_size value"),
+    (numbers, "README.md", "1000 calls of `include/imagesize.h`"),
+    (total, "README.md", "word " * 99999),
+]
+
+
+def self_test():
+    """Whether each check finds the planted mistakes that it does not find without them."""
+    missed = []
+    for check, name, planted in PLANTED:
+        page = TOP / name
+        text = page.read_text()
+        bad = text + "\n\n" + planted if planted else text.replace("length header.now < 12", "length header.now < 13").replace("QOI, ", "")
+        if len(list(check(page, bad))) <= len(list(check(page, text))):
+            missed.append(check.__name__)
+    print(f"self-test: {len(PLANTED)} mistakes planted, {len(missed)} missed {' '.join(missed)}".rstrip())
+    return 1 if missed or {check for check, _, _ in PLANTED} != set(CHECKS) else 0
 
 
 def show_counts():
@@ -594,13 +600,11 @@ def show_counts():
 
 
 def write():
-    """Writes the contracts in CALLING.md, the list of formats in README.md, and the tables of CLAUSES.md."""
+    """Writes the contracts in CALLING.md, and the list of formats in README.md."""
     page = TOP / "CALLING.md"
     page.write_text(BLOCK.sub(lambda match: match[1] + quoted() + "\n" + match[3], page.read_text()))
     page = TOP / "README.md"
     page.write_text(LISTED.sub(lambda _: list_of_formats(), page.read_text()))
-    page = promises.PAGE
-    page.write_text(promises.BLOCK.sub(lambda match: match[1] + promises.generated() + match[3], page.read_text()))
 
 
 def main():
@@ -616,6 +620,13 @@ def main():
     return 1 if wrong else 0
 
 
+def write_all():
+    """Writes what the pages have from the sources, and the tables of CLAUSES.md."""
+    write()
+    page = promises.PAGE
+    page.write_text(promises.BLOCK.sub(lambda match: match[1] + promises.generated() + match[3], page.read_text()))
+
+
 if __name__ == "__main__":
-    options = {"--count": show_counts, "--write": write, "--self-test": self_test}
+    options = {"--count": show_counts, "--write": write_all, "--self-test": self_test}
     sys.exit(options[sys.argv[1]]() if sys.argv[1:] else main())

@@ -230,8 +230,8 @@ def sentence(text):
 
 def glossary(text):
     """The rows of the table of clauses in PROMISES.md: labels, functions or crates, and words."""
-    table = re.search(r"^\| Clause \| Of \| What it states \|\n\|[-| ]+\n((?:\|.*\n)*)", text, re.M)
-    for row in table[1].splitlines() if table else ():
+    tables = re.findall(r"^\| Clause \| Of \| What it states \|\n\|[-| ]+\n((?:\|.*\n)*)", text, re.M)
+    for row in "".join(tables).splitlines():
         labels, owners, words = (cell.strip() for cell in row.strip("|").split("|"))
         yield re.findall(r"`(\w+)`", labels), re.findall(r"`([\w:]+)`", owners) or [""], words
 
