@@ -5,9 +5,10 @@
     python3 docs/check.py --write        writes anew the contracts in CALLING.md, the list of formats in README.md, and what the READMEs share
     python3 docs/check.py --self-test    plants a mistake for each check, and fails if one is not found
 
-It checks links, names of files, commands, mutations, definitions, clauses and their owners, the contracts in CALLING.md, numbers, worked
-diffs, and the length of sentences. A page of REWRITTEN has none of the words in OLD, and neither have the lines `///` and `//!`
-in `crates/*/src`. Their sentences are as short as those of the pages.
+It checks links and their anchors, names of files, lines of files, commands, calls, mutations, definitions, clauses and their owners, the
+contracts in CALLING.md, the table of docs/CLAUSES.md, numbers, worked diffs, the length of sentences, and the words in all. No page has
+a word in OLD, and neither have the headers and the lines `///` and `//!` in `crates/*/src`. Their sentences are as short as those of the
+pages. docs/CLAUSES.md is not read for its words, since --write takes them from the sources. --count also prints the words in all.
 """
 
 import functools
@@ -17,8 +18,13 @@ import subprocess
 import sys
 
 TOP = pathlib.Path(__file__).resolve().parent.parent
-sys.path.insert(0, str(TOP / "bindings"))
+sys.path[:0] = [str(TOP / "bindings"), str(TOP / "docs")]
 from lists import usual_names  # noqa: E402
+
+import promises  # noqa: E402
+
+# The most words of all pages together, without the headers and what a script writes. It is what the pages have now: lower it with them.
+LIMIT = 35546
 
 LINK = re.compile(r"\[[^\]]*\]\(([^)#\s]+)(?:#[^)]*)?\)")
 CODE = re.compile(r"`([^`\n]+)`")
@@ -35,11 +41,9 @@ LONGEST = 25
 # Words of the proofs that no reader knows. Code and headings of tables of code are not read.
 OLD = (r"places?|rooms?|lent|lends?|lending|hand(?:s|ed)? over|told|taken|answers?|answered|refusals?|halts?|marks|bytes that follow|"
        r"kinds?|worked inputs?|edits?|the gate|cures?|cured|behind|wants|wanted|stands?|chains?|that of a|those of a|so it is|(?<!each )of which")
-REWRITTEN = {"README.md", "CALLING.md", "CONTRIBUTING.md", "SECURITY.md", "include/imagesize.h", "bindings/c/README.md",
-             "bindings/js/README.md", "bindings/python/README.md", "bindings/rust/README.md", "docs/ARCHITECTURE.md",
-             "docs/CHAINS.md", "docs/COMPARISON.md", "docs/DECISIONS.md", "docs/DIFFERENCES.md", "docs/LAYOUTS.md", "docs/PARTS.md",
-             "docs/PROMISES.md", "docs/PROVED.md", "docs/RELEASING.md", "docs/REMOTE.md", "docs/STREAMS.md",
-             "docs/TESTED.md", "docs/UPLOADS.md", "docs/VERSIONS.md"}
+# Pages that a script writes from the sources, whose words are not read.
+GENERATED = {"docs/CLAUSES.md"}
+HEADERS = [TOP / "include/imagesize.h", TOP / "include/imagesize_file.h"]
 # Commands of the kit, by `rt`; commands of a shell are not checked.
 RT = set("ci must-fail selftest doc version new check verdict lib run test try fmt tidy plant all expand lemma seed names".split())
 
@@ -69,12 +73,16 @@ NUMBERS = {
     "crates": lambda: len(list(TOP.glob("crates/*/src"))),
     "tests": lambda: count(r"#\[test\]", ".rt"),
     "types": lambda: members("imagesize_type_number"),
-    "functions of the header": lambda: count(r"^uint32_t \w+\(", "include/imagesize.h"),
+    "functions of the header": lambda: count(r"^(?:uint32_t|void) \w+\(", "include/imagesize.h"),
+    "calls of `include/imagesize.h`": lambda: count(r"^(?:uint32_t|void) \w+\(", "include/imagesize.h"),
+    "lines of Python": lambda: sum(len(path.read_text().splitlines()) for path in TOP.glob("tests/model/*.py")),
     "statuses": lambda: members("imagesize_status"),
     "test vectors": lambda: sum(
         1 for line in (TOP / "crates/imagesize_vectors/data/worked.tsv").read_text().split("\n") if line and line[0] != "#"),
 }
 NUMBERS["formats"] = NUMBERS["types"]
+# These are rounded to ten.
+ROUNDED = {"lines of Python"}
 
 
 def pages():
@@ -94,11 +102,86 @@ def links(page, text):
             yield f"no file at the link {target}"
 
 
+def slug(heading):
+    """The anchor of a heading, as GitHub makes it."""
+    return re.sub(r"[^\w\- ]", "", LINK.sub(lambda match: match[0][1:match[0].index("]")], heading).lower()).replace(" ", "-")
+
+
+def anchors(page, text):
+    """Links to headings that are not there."""
+    for target, anchor in re.findall(r"\[[^\]]*\]\(([^)#\s]*)#([^)\s]+)\)", text):
+        aim = page.parent / target if target else page
+        if "://" in target or aim.suffix != ".md" or not aim.exists():
+            continue
+        headings = re.findall(r"^#+ (.*)", FENCE.sub("", aim.read_text() if target else text), re.M)
+        if anchor not in map(slug, headings):
+            yield f"no heading {anchor} in {target or page.name}"
+
+
+@functools.lru_cache(None)
+def tracked():
+    """The files that git knows, by their names without folders."""
+    listed = subprocess.run(["git", "ls-files"], cwd=TOP, check=True, capture_output=True, text=True).stdout.split("\n")
+    found = {}
+    for name in filter(None, listed):
+        found.setdefault(name.split("/")[-1], []).append(name)
+    return found
+
+
+# Names of files that a page invents, that a build makes, or that other projects have.
+OTHERS = re.compile(r"photo\w*\.|image\d*\.|a\.|NAME|Cargo\.lock|libimagesize|imagesize\.(?:wasm|pc|mjs)|package(?:-lock)?\.json")
+
+
+def bare_files(page, text):
+    """Names of files without their folders, such as `Way.antt`, that are nowhere in the repository."""
+    for code in CODE.findall(text):
+        if re.fullmatch(r"[\w-]+\.(?:rt|antt|edit|tsv|py|rs|js|mjs|ts|h|c|md|toml|txt|html)", code) and not OTHERS.match(code):
+            if code not in tracked() and not (page.parent / code).exists():
+                yield f"no file with the name {code}"
+
+
+LINE = re.compile(r"([\w./-]+\.(?:py|rs|js|mjs|ts|rt|antt|h|c|tsv|md)):(\d+)\b(?:: (\S+) for (\S+?)[`,])?")
+
+
+def lines_of_files(page, text):
+    """Lines of files that the file does not have, or that have none of the two tokens of a change that is named with them."""
+    for name, number, new, old in LINE.findall(text):
+        paths = [TOP / path for path in tracked().get(name.split("/")[-1], ()) if path.endswith(name)]
+        has = [lines[int(number) - 1] for lines in (path.read_text().split("\n") for path in paths) if int(number) <= len(lines)]
+        if not has:
+            yield f"no line {number} of {name}"
+        elif re.fullmatch(r"[\d<>=!]+", new) and not any(token in line for line in has for token in (new, old)):
+            yield f"line {number} of {name} has no {new} and no {old}"
+
+
+def calls(page, text):
+    """Calls in code, such as `size(path)`, and names of C, such as `imagesize_size`, that no source has."""
+    if page.name in ("CHANGELOG.md", "DIFFERENCES.md", "COMPARISON.md"):
+        return
+    for code in CODE.findall(text):
+        match = re.match(r"(?:[\w.]+(?:\.|::))?([A-Za-z_]\w*)\((?!\))?", code)
+        if match and "(" in match[0] and match[1] not in names() | KNOWN | LANGUAGES:
+            yield f"no call {match[1]}"
+    for block in BLOCKS.findall(text):
+        made = set(re.findall(r"\b(?:def|fn|function|class|let|const) (\w+)", block))
+        for name in set(re.findall(r"\b([A-Za-z_]\w*)!?\(", block)) - made - names() - KNOWN - LANGUAGES:
+            yield f"no call {name}"
+    crates = {path.name for path in TOP.glob("crates/*")} | set(tracked()) | {name.split(".")[0] for name in tracked()}
+    for name in set(re.findall(r"(?<![\w/.-])(?:imagesize_\w*\w|IMAGESIZE_\w*\w)(?![\w*/-])", text)):
+        if name not in names() | crates:
+            yield f"no name {name}"
+
+
+BLOCKS = re.compile(r"^ *```(?:python|js|rust|c|ts)\n(.*?)^ *```$", re.M | re.S)
+# Functions of the languages' own libraries, and of a store of objects.
+LANGUAGES = set("print open read write len fetch require import await async with for if while main new head_object get_object".split())
+
+
 def files(page, text):
     """Names of files and folders, such as `crates/x/src/y.rt`, that are not there."""
     for word in " ".join(CODE.findall(text) + FENCED.findall(text)).split():
         word = word.strip(",;()\"'").split("::")[0]
-        if not re.fullmatch(r"(?:crates|docs|include|bindings|examples|tests|\.ci)/[\w./-]+", word) or MADE.search(word):
+        if not re.fullmatch(r"(?:crates|docs|include|bindings|examples|tests|bench|release|\.ci)/[\w./-]+", word) or MADE.search(word):
             continue
         if not (TOP / word).exists() and not (page.parent / word).exists():
             yield f"no file {word}"
@@ -249,6 +332,22 @@ def declarations():
     return found
 
 
+def stale(page, text):
+    """Tables of CLAUSES.md that are not those of the sources."""
+    if page == promises.PAGE:
+        if {made for _, made, _ in promises.BLOCK.findall(text)} != {promises.generated()}:
+            yield "the tables are not those of the sources: python3 docs/check.py --write"
+        yield from (f"no mutation {mutation.name}" for mutation in promises.mutations() if f"`{mutation.name}`" not in text)
+
+
+def tested(page, text):
+    """Mistakes in the table of clauses of PROMISES.md, and in promises.tsv."""
+    if page.name == "PROMISES.md":
+        yield from promises.unknown_clauses(text)
+    if page.name == "promises.tsv":
+        yield from promises.mistakes(text)
+
+
 LABEL = r"`[a-z]\w*`"
 OF = re.compile(rf"({LABEL}(?:(?:,| and|, and) {LABEL})*) of (`\w+(?:::\w+)?`)")
 
@@ -351,9 +450,9 @@ def numbers(page, text):
     if page.name == "CHANGELOG.md":
         return
     things = "|".join(sorted(NUMBERS, key=len, reverse=True))
-    for number, what in re.findall(rf"\b(\d+|{'|'.join(sorted(WORDS, key=len, reverse=True))}) ({things})\b", text):
+    for number, what in re.findall(rf"\b(\d+|{'|'.join(sorted(WORDS, key=len, reverse=True))}) ({things})(?!\w)", text):
         said, are = WORDS[number] if number in WORDS else int(number), NUMBERS[what]()
-        if said != are and not (said < 10 and what != "types"):
+        if said != are and not (said < 10 and what != "types") and not (what in ROUNDED and abs(said - are) <= 10):
             yield f"{said} {what}, and there are {are}"
 
 
@@ -409,14 +508,14 @@ def sentences(text):
                 yield sentence
 
 
-def is_rewritten(page):
+def is_read(page):
     """Whether the words and the sentences of a file are checked."""
-    return page.suffix == ".rt" or str(page.relative_to(TOP)) in REWRITTEN
+    return str(page.relative_to(TOP)) not in GENERATED
 
 
 def long_sentences(page, text):
     """Sentences above the greatest length."""
-    if is_rewritten(page):
+    if is_read(page):
         for sentence in sentences(prose(page, text)):
             if len(sentence.split()) > LONGEST:
                 yield f"a sentence of {len(sentence.split())} words: {sentence[:60]}.."
@@ -427,8 +526,8 @@ def old_words(text):
 
 
 def words(page, text):
-    """Words of the proofs, on a page that is rewritten or in a docstring."""
-    if is_rewritten(page):
+    """Words of the proofs, on a page, in a header or in a docstring."""
+    if is_read(page):
         for word in sorted(set(word.lower() for word in old_words(prose(page, text)))):
             yield f"the project's own word: {word}"
 
@@ -459,6 +558,43 @@ PLANTED = [
 ]
 
 
+BY_SCRIPT = re.compile(r"<!-- (?:by docs/check\.py --write|written by tests/report) -->\n(.*?)<!-- end -->", re.S)
+
+
+def words_of(page, text):
+    """How many words of a page are written by hand, and how many by a script."""
+    made = sum(len(prose(page, block).split()) for block in BY_SCRIPT.findall(text))
+    return len(prose(page, text).split()) - made, made
+
+
+def total(page, text):
+    """More words than all pages may have together; README.md stands for all."""
+    if page == TOP / "README.md":
+        has = sum(words_of(other, text if other == page else other.read_text())[0] for other in pages())
+        if has > LIMIT:
+            yield f"{has} words in all pages, of at most {LIMIT}"
+
+
+# Checks of what the sources say, and of the words in all, with a mistake for each.
+CHECKS += (anchors, bare_files, lines_of_files, calls, stale, tested, total)
+PLANTED += [
+    (anchors, "README.md", "[a page](docs/ARCHITECTURE.md#not-there), [here](#not-there-either)"),
+    (bare_files, "README.md", "`NotThere.antt`"),
+    (lines_of_files, "docs/TESTED.md", "`kinds.py:99999: 8 for 9`"),
+    (lines_of_files, "docs/TESTED.md", "`kinds.py:1: 77 for 78`"),
+    (calls, "README.md", "`blob_sizes_of(bytes)`"),
+    (calls, "README.md", "```c\nimagesize_not_there(bytes);\n```"),
+    (calls, "README.md", "```python\nimagesize_proved.sizes_of_all(paths)\n```"),
+    (stale, "docs/CLAUSES.md", "<!-- by docs/check.py --write -->\n| `value` | another |\n<!-- end -->\n"),
+    (tested, "docs/PROMISES.md", "| Clause | Of | What it states |\n|---|---|---|\n| `no_such_clause` | | Nothing. |\n"),
+    (tested, "docs/promises.tsv", "imagesize\tno_such_mutation\timagesize::blob_size value"),
+    (tested, "docs/promises.tsv", "imagesize\tsize_on_its_side\timagesize::blob_size no_such_clause"),
+    (tested, "docs/promises.tsv", "imagesize_texts\tblank_word_as_the_width\timagesize_png::blob_size value"),
+    (numbers, "README.md", "1000 calls of `include/imagesize.h`"),
+    (total, "README.md", "word " * 99999),
+]
+
+
 def self_test():
     """Whether each check finds the planted mistakes that it does not find without them."""
     missed = []
@@ -473,13 +609,16 @@ def self_test():
 
 
 def show_counts():
-    """The counts of each page."""
-    print(f"{'page':34} {'words':>6} {'>25':>4} {'>30':>4} {'old words':>9}")
-    for page in [*pages(), TOP / "include/imagesize.h"]:
+    """The counts of each page, and the words of all pages."""
+    print(f"{'page':34} {'words':>6} {'by script':>9} {'>25':>4} {'>30':>4} {'old words':>9}")
+    counts = {page: words_of(page, page.read_text()) for page in [*pages(), *HEADERS]}
+    for page, (by_hand, made) in counts.items():
         text = prose(page, page.read_text())
-        lengths = [len(sentence.split()) for sentence in sentences(text)]
-        print(f"{str(page.relative_to(TOP)):34} {len(text.split()):6} {sum(n > 25 for n in lengths):4} {sum(n > 30 for n in lengths):4} "
-              f"{len(old_words(text)):9}")
+        lengths = [len(sentence.split()) for sentence in sentences(text)] if is_read(page) else []
+        print(f"{str(page.relative_to(TOP)):34} {by_hand:6} {made:9} {sum(n > 25 for n in lengths):4} {sum(n > 30 for n in lengths):4} "
+              f"{len(old_words(text)) if is_read(page) else 0:9}")
+    print(f"{'all pages, without the headers':34} {sum(counts[page][0] for page in pages()):6} {sum(counts[page][1] for page in pages()):9}"
+          f"    at most {LIMIT}")
 
 
 def write():
@@ -494,10 +633,10 @@ def write():
 
 def main():
     wrong = 0
-    read = [*pages(), TOP / "include/imagesize.h"]
-    for page in [*read, *sources()]:
+    read = [*pages(), *HEADERS]
+    for page in [*read, *sources(), TOP / "docs/promises.tsv"]:
         text = page.read_text()
-        for check in CHECKS if page.suffix == ".md" else (long_sentences, words):
+        for check in CHECKS if page.suffix == ".md" else (tested,) if page.suffix == ".tsv" else (long_sentences, words):
             for mistake in check(page, text):
                 print(f"{page.relative_to(TOP)}: {mistake}")
                 wrong += 1
@@ -505,6 +644,13 @@ def main():
     return 1 if wrong else 0
 
 
+def write_all():
+    """Writes what the pages have from the sources, and the tables of CLAUSES.md."""
+    write()
+    page = promises.PAGE
+    page.write_text(promises.BLOCK.sub(lambda match: match[1] + promises.generated() + match[3], page.read_text()))
+
+
 if __name__ == "__main__":
-    options = {"--count": show_counts, "--write": write, "--self-test": self_test}
+    options = {"--count": show_counts, "--write": write_all, "--self-test": self_test}
     sys.exit(options[sys.argv[1]]() if sys.argv[1:] else main())
