@@ -37,9 +37,8 @@ OLD = (r"places?|rooms?|lent|lends?|lending|hand(?:s|ed)? over|told|taken|answer
        r"kinds?|worked inputs?|edits?|the gate|cures?|cured|behind|wants|wanted|stands?|chains?|that of a|those of a|so it is|(?<!each )of which")
 REWRITTEN = {"README.md", "CALLING.md", "CONTRIBUTING.md", "SECURITY.md", "include/imagesize.h", "bindings/c/README.md",
              "bindings/js/README.md", "bindings/python/README.md", "bindings/rust/README.md", "docs/ARCHITECTURE.md",
-             "docs/CHAINS.md", "docs/COMPARISON.md", "docs/DECISIONS.md", "docs/DIFFERENCES.md", "docs/LAYOUTS.md", "docs/PARTS.md",
-             "docs/PROMISES.md", "docs/PROVED.md", "docs/RELEASING.md", "docs/REMOTE.md", "docs/STREAMS.md",
-             "docs/TESTED.md", "docs/UPLOADS.md", "docs/VERSIONS.md"}
+             "docs/CHAINS.md", "docs/CHUNKS.md", "docs/COMPARISON.md", "docs/DECISIONS.md", "docs/DIFFERENCES.md", "docs/LAYOUTS.md",
+             "docs/OFFSETS.md", "docs/PROMISES.md", "docs/PROVED.md", "docs/RELEASING.md", "docs/TESTED.md", "docs/VERSIONS.md"}
 # Commands of the kit, by `rt`; commands of a shell are not checked.
 RT = set("ci must-fail selftest doc version new check verdict lib run test try fmt tidy plant all expand lemma seed names".split())
 
