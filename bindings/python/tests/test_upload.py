@@ -1,4 +1,4 @@
-"""The example that takes uploads, and the one in docs/UPLOADS.md: what they refuse, and when."""
+"""The example that takes uploads, and the one in docs/CHUNKS.md: what they refuse, and when."""
 
 import asyncio
 import http.client
@@ -114,11 +114,11 @@ class Uploads(unittest.TestCase):
 
 
 class Asgi(unittest.TestCase):
-    """The application in docs/UPLOADS.md."""
+    """The application in docs/CHUNKS.md."""
 
     def respond(self, chunks: Iterable[bytes]) -> Tuple[int, int]:
         """The status that the application sends for a body, and how many chunks of it were received."""
-        text = (pathlib.Path(__file__).resolve().parents[3] / "docs" / "UPLOADS.md").read_text()
+        text = (pathlib.Path(__file__).resolve().parents[3] / "docs" / "CHUNKS.md").read_text()
         (code,) = re.findall(r"^```python\n([^`]*^async def application.*?)^```$", text, re.MULTILINE | re.DOTALL)
         names: Dict[str, Any] = {}
         exec(code, names)
