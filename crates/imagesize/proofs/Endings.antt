@@ -151,22 +151,22 @@ settled None first mid new opened (Some position) opens stays leaves seeks withi
 settled (Some t) first None new opened (Some position) opens stays leaves seeks within = absurd leaves
 settled (Some t) first (Some u) new opened (Some position) opens stays leaves seeks within =
     by_seek seeks.0 (leb position (length u.bytes)) refl seeks.1 where
-  near : position ≤ length u.bytes
-  near = omega (arith, within, opens.2, ap length leaves.bytes)
+      near : position ≤ length u.bytes
+      near = omega (arith, within, opens.2, ap length leaves.bytes)
 
-  by_seek : (r : Result ℕ Error) (b : Bool) → leb position (length u.bytes) ≡ b
-      → SeekGives u new (cond b (Some position) None) r → IsSomeAnd new (LeftAs t)
-  by_seek r false far sought = absurd (let no : leb position (length u.bytes) ≡ true = grind (arith, nat_tests, near) in cc)
-  by_seek (Ok answer) true far sought = subst (λ w. IsSomeAnd w (LeftAs t)) (sym sought.1)
-      (record { bytes = leaves.bytes; can_fail = leaves.can_fail; interruptions = leaves.interruptions })
-  by_seek (Err e) true far sought = fails new sought where
-    fails : (w : Option Telling) → Fails u w → IsSomeAnd w (LeftAs t)
-    fails None f = absurd f.1
-    fails (Some v) f = record {
-      bytes = f.1.0 ∙ leaves.bytes;
-      can_fail = f.1.1 ∙ sym f.0 ∙ leaves.can_fail;
-      interruptions = λ honest never. absurd (let no = sym never ∙ sym leaves.can_fail ∙ f.0 in cc);
-    }
+      by_seek : (r : Result ℕ Error) (b : Bool) → leb position (length u.bytes) ≡ b
+          → SeekGives u new (cond b (Some position) None) r → IsSomeAnd new (LeftAs t)
+      by_seek r false far sought = absurd (let no : leb position (length u.bytes) ≡ true = grind (arith, nat_tests, near) in cc)
+      by_seek (Ok answer) true far sought = subst (λ w. IsSomeAnd w (LeftAs t)) (sym sought.1)
+          (record { bytes = leaves.bytes; can_fail = leaves.can_fail; interruptions = leaves.interruptions })
+      by_seek (Err e) true far sought = fails new sought where
+        fails : (w : Option Telling) → Fails u w → IsSomeAnd w (LeftAs t)
+        fails None f = absurd f.1
+        fails (Some v) f = record {
+          bytes = f.1.0 ∙ leaves.bytes;
+          can_fail = f.1.1 ∙ sym f.0 ∙ leaves.can_fail;
+          interruptions = λ honest never. absurd (let no = sym never ∙ sym leaves.can_fail ∙ f.0 in cc);
+        }
 
 -- no fault was kept where it is moved
 pub fault_settled : {X : Type 0} (failure failure' : Option (Option Error)) (fault : Option Error) (left : Option ℕ) (failing : ImageError) (budget : ℕ)

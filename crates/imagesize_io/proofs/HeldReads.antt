@@ -99,8 +99,7 @@ stands_if told present offset fault s bytes false step ahead gave = tt
 stands_if told present offset fault s bytes true step ahead gave =
     let at : present ≡ s.offset = grind (arith, nat_tests) in
     let there : s.offset + (offset - present) ≡ offset = omega (arith, at, ahead) in
-    let is : bytes ≡ part s.bytes offset (length bytes) = gave ∙ ap (λ p. part s.bytes p (length bytes)) there in
-    (
+    let is : bytes ≡ part s.bytes offset (length bytes) = gave ∙ ap (λ p. part s.bytes p (length bytes)) there in (
       ap (λ p. Some (record s { offset = p })) (sym at),
       take_all (length bytes) bytes (omega arith) ∙ is,
       omega (arith, ap length is, part_length s.bytes offset (length bytes)),
