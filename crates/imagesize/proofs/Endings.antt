@@ -1,13 +1,15 @@
 -- How calls end: over a reader they want no memory, and spend a budget whole; over a slice nothing stops them.
-use Rattle.std.proofs.Common.{◌≡◌, ℕ, ◌+◌, ◌-◌, ◌^◌, ◌≤◌, min, true, false, Option, Some, None, Result, Ok, Err, IfErr, IfSome, inl, inr, refl, sym, ap, ◌∙◌, subst, arith}
-use Rattle.std.specs.Prelude.{option_map}
+use Rattle.std.proofs.Common.{◌≡◌, ℕ, ◌+◌, ◌-◌, ◌^◌, ◌≤◌, min, Bool, true, false, cond, leb, length, Option, Some, None, Result, Ok, Err, IfErr, IfSome, inl, inr, refl, sym, ap, ◌∙◌, subst, arith}
+use Rattle.std.proofs.lemmas.Bool.Decides.{nat_tests}
+use Rattle.std.specs.Prelude.{IsSomeAnd, option_map}
+use Rattle.std.specs.declared.io.traits.SeekFrom.TheVariants.{Start}
 use Rattle.imagesize.specs.Probed.{SpentAll}
 use Rattle.std.specs.declared.io.Error.{Error}
 use Rattle.imagesize_io.proofs.Openings.{opened_leaves, stop_cases, told_last}
-use Rattle.imagesize_io.specs.Answers.{IsLast, Leaves}
+use Rattle.imagesize_io.specs.Answers.{IsLast, LeftAs, Leaves}
 use Rattle.imagesize_io.specs.ReaderState.{Opens, start_state}
 use Rattle.imagesize_io.specs.StopOf.{kept_error, last_failed}
-use Rattle.imagesize_io.specs.Telling.{Telling}
+use Rattle.imagesize_io.specs.Telling.{Fails, SeekGives, SeekTells, Telling}
 use Rattle.imagesize_io.specs.declared.reader.Opened.{Opened}
 use Rattle.imagesize_source.specs.Errors.{is_fault, is_memory, is_stopped as is_stopped_error, budget_spent}
 use Rattle.imagesize_source.specs.Halts.{error_by, with_error}
@@ -137,3 +139,45 @@ pub leaves_reader : {X : Type 0} {a b : State} (telling mid new : Option Telling
     → model_of b.frame.backing ≡ behind_of told retries fault new → Runs a b r reads → Opens telling mid (Ok opened) → Leaves telling new
 leaves_reader telling mid new count home opened told retries fault r reads start is h opens = opened_leaves telling mid new opened told
     retries fault opens (sym is ∙ ap (λ f. model_of f.backing) h.frame ∙ ap (λ s. model_of s.frame.backing) start)
+
+-- a reader that is then moved to an offset within its reported length
+pub settled : (telling first mid new : Option Telling) (opened : Opened) (left : Option ℕ) → Opens telling first (Ok opened)
+    → (left ≡ None → new ≡ mid) → Leaves telling mid
+    → IfSome left (λ position. (r : Result ℕ Error) × SeekTells mid new (Start position) r)
+    → IfSome left (λ position. position ≤ opened.told) → Leaves telling new
+settled telling first mid new opened None opens stays leaves seeks within = subst (Leaves telling) (sym (stays refl)) leaves
+settled None first mid new opened (Some position) opens stays leaves seeks within =
+    subst (λ m. SeekTells m new (Start position) seeks.0) leaves seeks.1
+settled (Some t) first None new opened (Some position) opens stays leaves seeks within = absurd leaves
+settled (Some t) first (Some u) new opened (Some position) opens stays leaves seeks within =
+    by_seek seeks.0 (leb position (length u.bytes)) refl seeks.1 where
+      near : position ≤ length u.bytes
+      near = omega (arith, within, opens.2, ap length leaves.bytes)
+
+      by_seek : (r : Result ℕ Error) (b : Bool) → leb position (length u.bytes) ≡ b
+          → SeekGives u new (cond b (Some position) None) r → IsSomeAnd new (LeftAs t)
+      by_seek r false far sought = absurd (let no : leb position (length u.bytes) ≡ true = grind (arith, nat_tests, near) in cc)
+      by_seek (Ok answer) true far sought = subst (λ w. IsSomeAnd w (LeftAs t)) (sym sought.1)
+          (record { bytes = leaves.bytes; can_fail = leaves.can_fail; interruptions = leaves.interruptions })
+      by_seek (Err e) true far sought = fails new sought where
+        fails : (w : Option Telling) → Fails u w → IsSomeAnd w (LeftAs t)
+        fails None f = absurd f.1
+        fails (Some v) f = record {
+          bytes = f.1.0 ∙ leaves.bytes;
+          can_fail = f.1.1 ∙ sym f.0 ∙ leaves.can_fail;
+          interruptions = λ honest never. absurd (let no = sym never ∙ sym leaves.can_fail ∙ f.0 in cc);
+        }
+
+-- no fault was kept where it is moved
+pub fault_settled : {X : Type 0} (failure failure' : Option (Option Error)) (fault : Option Error) (left : Option ℕ) (failing : ImageError) (budget : ℕ)
+    (r : Result X Halt) → (left ≡ None → failure' ≡ failure)
+    → IfErr (with_error failing budget r) (λ e. is_fault e ≡ true → IsLast failure e) → IfSome left (λ _. fault ≡ None) → failing ≡ kept_error fault
+    → IfErr (with_error failing budget r) (λ e. is_fault e ≡ true → IsLast failure' e)
+fault_settled failure failure' fault None failing budget (Ok x) stays last calm kept = tt
+fault_settled failure failure' fault None failing budget (Err halt) stays last calm kept = λ faults.
+    subst (λ f. IsLast f (error_by failing budget halt)) (sym (stays refl)) (last faults)
+fault_settled failure failure' fault (Some position) failing budget (Ok x) stays last calm kept = tt
+fault_settled failure failure' fault (Some position) failing budget (Err halt) stays last calm kept = λ faults.
+    let by = error_fault failing budget halt faults in
+    let none : failing ≡ kept_error None = kept ∙ ap kept_error calm in
+    absurd (let no = ap is_fault (sym none) ∙ ap is_fault (sym by.1) ∙ faults in cc)

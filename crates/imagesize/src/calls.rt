@@ -20,7 +20,7 @@ use crate::memory::{
 use crate::types::ImageType;
 use crate::{ImageResult, Told};
 use imagesize_io::counting::leave;
-use imagesize_io::reader::{ALLOWANCE, Opened, Origin, ReaderSource, open};
+use imagesize_io::reader::{ALLOWANCE, Opened, Origin, ReaderSource, open, settle};
 use imagesize_source::Halt;
 use imagesize_source::halt::with_error;
 use imagesize_source::source::Source;
@@ -354,7 +354,10 @@ fn size_opened<R: Told>(kind: ImageType, reader: &mut R, opened: Opened) -> Imag
 {
     let mut source = ReaderSource::new(reader, opened.told);
     let found = size(&mut source, kind);
-    with_error(found, &source)
+    let left = source.left();
+    let answer = with_error(found, &source);
+    settle(reader, left);
+    answer
 }
 
 // Type and size of the image in the bytes of a reader that was opened.
@@ -371,9 +374,13 @@ fn probe_opened<R: Told>(reader: &mut R, opened: Opened) -> Probed
 {
     let mut source = ReaderSource::new(reader, opened.told);
     let (kind, found) = probe(&mut source, opened.offset);
+    let taken = source.taken();
+    let left = source.left();
+    let answer = with_error(found, &source);
+    settle(reader, left);
     Probed {
         kind,
-        taken: source.taken(),
-        answer: with_error(found, &source),
+        answer,
+        taken,
     }
 }

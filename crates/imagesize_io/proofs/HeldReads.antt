@@ -1,8 +1,8 @@
--- A text out of the bytes that a reader holds: it is what byte by byte would be read.
-use Rattle.std.proofs.Common.{◌≡◌, ℕ, ◌+◌, ◌-◌, ◌^◌, ◌≤◌, ◌<◌, min, Bool, true, false, cond, leb, ◌||◌, List, [], ◌∷◌, ◌++◌, length, take, Option, Some, None, Ok, IfSome, ap, ◌∙◌, sym, subst, refl, arith}
+-- What is read from the bytes that a reader holds is what calls of the reader would give.
+use Rattle.std.proofs.Common.{◌≡◌, ℕ, ◌+◌, ◌-◌, ◌^◌, ◌≤◌, ◌<◌, min, Bool, true, false, cond, leb, ◌||◌, List, [], ◌∷◌, ◌++◌, length, take, drop, eqb, Option, Some, None, Ok, IfSome, ap, ◌∙◌, sym, subst, refl, arith}
 use Rattle.std.proofs.lemmas.Bool.Decides.{nat_tests}
-use Rattle.std.proofs.lemmas.List.{length-take}
-use Rattle.std.proofs.Math.Seq.{take-take}
+use Rattle.std.proofs.lemmas.List.{append-nil, drop-take, length-drop, length-take, take_all}
+use Rattle.std.proofs.Math.Seq.{drop-drop, take-take}
 use Rattle.imagesize_source.specs.declared.text.Text.{Text}
 use Rattle.imagesize_source.specs.Input.{part}
 use Rattle.imagesize_source.specs.Reading.{part_read, text_part, text_read}
@@ -13,18 +13,16 @@ use Rattle.imagesize_source.proofs.Counts.{total-span_of}
 use Rattle.imagesize_source.proofs.Runs.{part_is}
 use Rattle.imagesize_io.specs.declared.progress.Progress.{Progress}
 use Rattle.imagesize_io.specs.declared.reader.Ledger.{Ledger}
-use Rattle.imagesize_io.specs.declared.told.Stop.{Stop}
-use Rattle.imagesize_io.specs.Held.{IsWhole}
+use Rattle.imagesize_io.specs.Held.{Holds, HoldsFrom, IsWhole}
 use Rattle.imagesize_io.specs.ReaderState.{ReadsAt, kept_window}
-use Rattle.imagesize_io.specs.Standing.{Standing, advance_standing, steady, in_step, stand_of, stand, drift, GivesSome, GivesFrom, KeepsCounts, ReadsFrom}
-use Rattle.imagesize_io.specs.Telling.{Account, Telling, ReadTells, count_after}
-use Rattle.imagesize_io.proofs.Standings.{behind_given}
+use Rattle.imagesize_io.specs.Standing.{Standing, behind, steady, in_step, stand_of, stand, drift, GivesFrom, KeepsCounts, ReadsFrom}
+use Rattle.imagesize_io.specs.Telling.{Account, Telling}
 use Rattle.std.specs.declared.io.Error.{Error}
-use Rattle.std.specs.Prelude.{is_none}
 use Rattle.imagesize_io.proofs.Filling.{part-add}
 use Rattle.imagesize_io.proofs.TextReads.{took_text, rest_start, rest_some}
 use Rattle.imagesize_io.proofs.Layers.{reads_past}
-use Rattle.imagesize_source.proofs.Parts.{part_length}
+use Rattle.imagesize_source.proofs.Parts.{part_front, part_length, part_none, part_whole}
+use Rattle.imagesize_source.proofs.Slices.{slice_part}
 
 -- a whole text has a byte
 pub whole_some : (t : Text) (bs : List ℕ) → IsWhole t bs → 0 < length bs
@@ -35,53 +33,94 @@ whole_some t bs whole = by_length bs refl where
       absurd (omega (arith, rest_some t false 0 [], ap length (sym (rest_start t (0 ∷ [])) ∙ one)))
   by_length (c ∷ cs) is = omega (arith, ap length is)
 
--- what a reader gave as a read, with its interruptions hidden
-steady_if : (b : Bool) (s : Standing) (buffer : List ℕ) (n : ℕ) → take n buffer ≡ part s.bytes s.offset n
-    → n ≤ length s.bytes - s.offset
-    → (0 < length buffer → s.offset < length s.bytes → 0 < n)
-    → GivesSome (cond b (Some s) None) (cond b (Some (advance_standing s n)) None) buffer (Ok n)
-steady_if true s buffer n gave few some = (refl, gave, few, some)
-steady_if false s buffer n gave few some = tt
+-- what a reader holds from an offset on, by the slices that the code takes
+pub holds_from : (telling : Option Telling) (held : List ℕ) (present offset ahead n : ℕ) → Holds telling held
+    → ahead ≡ offset - present → ahead ≤ length held → n ≤ length (take (length held - ahead) (drop ahead held))
+    → HoldsFrom telling present offset (take n (take (length held - ahead) (drop ahead held)))
+unfolding part
+holds_from None held present offset ahead n holds is within few = tt
+holds_from (Some t) held present offset ahead n holds is within few =
+    let rest : take (length held - ahead) (drop ahead held) ≡ drop ahead held =
+    take_all (length held - ahead) (drop ahead held) (omega (arith, length-drop ahead held)) in
+    let short : n ≤ length held - ahead = omega (arith, few, ap length rest, length-drop ahead held) in
+    let long : length (take n (drop ahead held)) ≡ n = omega (arith, length-take n (drop ahead held), length-drop ahead held, short) in
+    let split : ahead + (length held - ahead) ≡ length held = omega (arith, within) in
+    let there : drop ahead held ≡ take (length held - ahead) (drop (t.offset + ahead) t.bytes) =
+    ap (drop ahead) holds ∙ ap (λ k. drop ahead (take k (drop t.offset t.bytes))) (sym split)
+    ∙ drop-take ahead (length held - ahead) (drop t.offset t.bytes)
+    ∙ ap (take (length held - ahead)) (drop-drop ahead t.offset t.bytes) in
+    ap (take n) rest ∙ ap (take n) there ∙ take-take n (length held - ahead) (drop (t.offset + ahead) t.bytes) short
+    ∙ ap (λ k. take k (drop (t.offset + ahead) t.bytes)) (sym (ap length (ap (take n) rest) ∙ long))
+    ∙ ap (λ k. take (length (take n (take (length held - ahead) (drop ahead held)))) (drop (t.offset + k) t.bytes)) is
 
-steady_gives : (telling telling' : Option Telling) (retries : ℕ) (buffer : List ℕ) (n : ℕ)
-    → ReadTells telling telling' buffer (Ok n)
-    → GivesSome (steady telling retries) (steady telling' retries) buffer (Ok n)
-steady_gives None telling' retries buffer n gave = tt
-steady_gives (Some t) telling' retries buffer n gave =
-    subst (λ u. GivesSome (steady (Some t) retries) (steady u retries) buffer (Ok n)) (sym gave.0)
-    (steady_if (t.can_fail || leb (t.interruptions + retries) 64)
-    (record { bytes = t.bytes; offset = t.offset; can_fail = t.can_fail })
-    buffer n gave.1 gave.2 gave.3)
+pub holds_none : (telling : Option Telling) → Holds telling []
+holds_none None = tt
+holds_none (Some t) = sym (part_none t.bytes t.offset)
 
-stands_if : (told offset offset' n : ℕ) (fault : Option Error) (s : Standing) (buffer : List ℕ) (b : Bool)
-    → in_step told offset fault s ≡ b → 0 < n
-    → take n buffer ≡ part s.bytes s.offset n → n ≤ length s.bytes - s.offset → n ≤ length buffer
-    → offset' ≡ min (offset + n) (2 ^ 64 - 1)
-    → GivesFrom (cond b (Some s) None) (stand_of told offset' fault (Some (advance_standing s n))) offset offset'
-    (take n buffer) (Ok n)
-stands_if told offset offset' n fault s buffer false step some gave few fits now = tt
-stands_if told offset offset' n fault s buffer true step some gave few fits now =
-    let at : offset ≡ s.offset = grind (arith, nat_tests) in
-    let long : told ≡ length s.bytes = grind (arith, nat_tests) in
-    let short : length s.bytes < 2 ^ 63 = grind (arith, nat_tests) in
-    let there : offset' ≡ s.offset + n = omega (arith, now, at, few, short, some) in
-    let calm : is_none fault ≡ true = grind (arith, nat_tests) in
-    let step' : in_step told offset' fault (advance_standing s n) ≡ true =
-    grind (arith, nat_tests, there, long, short, calm) in (
-      ap (λ b. cond b (Some (advance_standing s n)) None) step' ∙ ap (λ p. Some (record s { offset = p })) (sym there),
-      take-take n n buffer (omega arith) ∙ gave ∙ ap (λ p. part s.bytes p n) (sym at),
-      omega (arith, length-take n buffer, fits, few, at),
+-- what is left of the bytes of a cursor
+pub holds_rest : (d bytes : List ℕ) (p offset start : ℕ) → bytes ≡ d → offset ≡ p → start ≡ min (length bytes) offset
+    → take (length bytes - start) (drop start bytes)
+    ≡ part d p (length (take (length bytes - start) (drop start bytes)))
+holds_rest d bytes p offset start is at from =
+    let rest = slice_part bytes offset start (length bytes) (length (take (length bytes - start) (drop start bytes)))
+    (omega (arith, from)) (omega (arith, length-take (length bytes - start) (drop start bytes))) in
+    let all = take_all (length (take (length bytes - start) (drop start bytes))) (take (length bytes - start) (drop start bytes)) (omega arith) in
+    sym all ∙ rest
+    ∙ part_whole bytes offset (length bytes) (length (take (length bytes - start) (drop start bytes)))
+    (omega (arith, from, length-take (length bytes - start) (drop start bytes), length-drop start bytes))
+    ∙ ap (λ xs. part xs offset (length (take (length bytes - start) (drop start bytes)))) is
+    ∙ ap (λ o. part d o (length (take (length bytes - start) (drop start bytes)))) at
+
+-- the first of them are held too
+holds_front : (telling : Option Telling) (present offset n : ℕ) (held : List ℕ) → n ≤ length held
+    → HoldsFrom telling present offset held → HoldsFrom telling present offset (take n held)
+holds_front None present offset n held few holds = tt
+holds_front (Some t) present offset n held few holds =
+    let long : length (take n held) ≡ n = omega (arith, length-take n held, few) in
+    ap (take n) holds ∙ part_front t.bytes (t.offset + (offset - present)) n (length held) few
+    ∙ ap (part t.bytes (t.offset + (offset - present))) (sym long)
+
+-- a window that has no byte from the offset on, and has no room
+pub full_window : (window : List ℕ) (offset : ℕ) (bytes : List ℕ) → length window ≤ 32 → 32 ≤ offset
+    → kept_window window offset bytes ≡ window
+full_window window offset bytes small far = by_end (eqb offset (length window)) refl where
+  by_end : (b : Bool) → eqb offset (length window) ≡ b
+      → cond b (window ++ take (32 - length window) bytes) window ≡ window
+  by_end false is = refl
+  by_end true is =
+      let none : 32 - length window ≡ 0 = grind (arith, nat_tests) in
+      ap (λ k. window ++ take k bytes) none ∙ append-nil window
+
+-- bytes that the reader holds are those from the offset on, wherever the numbers agree with it
+stands_if : (told present offset : ℕ) (fault : Option Error) (s : Standing) (bytes : List ℕ) (b : Bool)
+    → in_step told present fault s ≡ b → present ≤ offset → bytes ≡ part s.bytes (s.offset + (offset - present)) (length bytes)
+    → GivesFrom (cond b (Some s) None) (cond b (Some s) None) offset present bytes (Ok (length bytes))
+stands_if told present offset fault s bytes false step ahead gave = tt
+stands_if told present offset fault s bytes true step ahead gave =
+    let at : present ≡ s.offset = grind (arith, nat_tests) in
+    let there : s.offset + (offset - present) ≡ offset = omega (arith, at, ahead) in
+    let is : bytes ≡ part s.bytes offset (length bytes) = gave ∙ ap (λ p. part s.bytes p (length bytes)) there in (
+      ap (λ p. Some (record s { offset = p })) (sym at),
+      take_all (length bytes) bytes (omega arith) ∙ is,
+      omega (arith, ap length is, part_length s.bytes offset (length bytes)),
     )
 
-stands_gives : (told offset offset' n : ℕ) (fault : Option Error) (st st' : Option Standing) (buffer : List ℕ)
-    → GivesSome st st' buffer (Ok n) → 0 < n → n ≤ length buffer
-    → offset' ≡ min (offset + n) (2 ^ 64 - 1)
-    → GivesFrom (stand_of told offset fault st) (stand_of told offset' fault st') offset offset' (take n buffer) (Ok n)
-stands_gives told offset offset' n fault None st' buffer gave some fits now = tt
-stands_gives told offset offset' n fault (Some s) st' buffer gave some fits now =
-    subst (λ u. GivesFrom (stand_of told offset fault (Some s)) (stand_of told offset' fault u) offset offset' (take n buffer)
-    (Ok n)) (sym gave.0)
-    (stands_if told offset offset' n fault s buffer (in_step told offset fault s) refl some gave.1 gave.2 fits now)
+steady_if : (c : Bool) (told present offset : ℕ) (fault : Option Error) (s : Standing) (bytes : List ℕ)
+    → present ≤ offset → bytes ≡ part s.bytes (s.offset + (offset - present)) (length bytes)
+    → GivesFrom (stand_of told present fault (cond c (Some s) None)) (stand_of told present fault (cond c (Some s) None))
+    offset present bytes (Ok (length bytes))
+steady_if false told present offset fault s bytes ahead gave = tt
+steady_if true told present offset fault s bytes ahead gave =
+    stands_if told present offset fault s bytes (in_step told present fault s) refl ahead gave
+
+gives_held : (telling : Option Telling) (told present offset retries : ℕ) (fault : Option Error) (bytes : List ℕ)
+    → present ≤ offset → HoldsFrom telling present offset bytes
+    → GivesFrom (stand_of told present fault (steady telling retries)) (stand_of told present fault (steady telling retries))
+    offset present bytes (Ok (length bytes))
+gives_held None told present offset retries fault bytes ahead holds = tt
+gives_held (Some t) told present offset retries fault bytes ahead holds =
+    steady_if (t.can_fail || leb (t.interruptions + retries) 64) told present offset fault
+    (record { bytes = t.bytes; offset = t.offset; can_fail = t.can_fail }) bytes ahead holds
 
 within_given : (st st' : Option Standing) (offset now n taken taken' : ℕ) (buffer : List ℕ)
     → GivesFrom st st' offset now buffer (Ok n)
@@ -89,83 +128,75 @@ within_given : (st st' : Option Standing) (offset now n taken taken' : ℕ) (buf
 within_given None st' offset now n taken taken' buffer gave took = tt
 within_given (Some s) st' offset now n taken taken' buffer gave took = omega (arith, gave.2, took)
 
-since_given : (count count' : Option ℕ) (taken taken' n : ℕ) → count' ≡ count_after {E = Stop} count (Ok n)
-    → taken' ≡ taken + n
-    → drift count' taken' ≡ drift count taken
-since_given None count' taken taken' n is took = rw is refl
-since_given (Some c) count' taken taken' n is took =
-    let above : c + n - taken' ≡ c - taken = omega (arith, took) in
-    let below : taken' - (c + n) ≡ taken - c = omega (arith, took) in
-    rw (is, above, below) refl
+-- bytes that a source counts, of a reader that was not called
+pub record Passed (old new : Ledger) (from n : ℕ) : Type 0 where
+  pub told : new.progress.told ≡ old.progress.told
+  pub budget : new.progress.budget ≡ old.progress.budget
+  pub offset : new.progress.offset ≡ old.progress.offset
+  pub retries : new.progress.retries ≡ old.progress.retries
+  pub fault : new.progress.fault ≡ old.progress.fault
+  pub taken : new.progress.taken ≡ old.progress.taken + n
+  pub position : new.progress.position ≡ min (from + n) (2 ^ 64 - 1)
 
--- A text that the reader held is a reading of as many bytes from where it stands.
-pub held_reads : {old new : Ledger} {a b : Account} {offset n : ℕ} (buffer : List ℕ) (t : Text)
-    → ReadTells a.telling b.telling buffer (Ok n) → b.count ≡ count_after {E = Stop} a.count (Ok n) → n ≤ length buffer
-    → IsWhole t (take n buffer)
-    → old.progress.offset ≡ offset → offset ≤ old.progress.told → length old.window.items ≤ offset
+-- Bytes that the reader holds are what a read from the offset on gives.
+pub held_reads : {old new : Ledger} {a : Account} {offset : ℕ} (bytes : List ℕ)
+    → HoldsFrom a.telling old.progress.offset offset bytes → a.count ≡ None → 0 < length bytes
+    → old.progress.offset ≤ offset → offset ≤ old.progress.told → length old.window.items ≤ offset
     → length old.window.items ≤ 32
-    → new.window.items ≡ kept_window old.window.items offset (take n buffer) → new.progress.told ≡ old.progress.told → new.progress.budget ≡ old.progress.budget
-    → new.progress.retries ≡ old.progress.retries → new.progress.fault ≡ old.progress.fault
-    → new.progress.taken ≡ old.progress.taken + n
-    → new.progress.offset ≡ min (offset + n) (2 ^ 64 - 1) → new.progress.taken ≤ old.progress.budget
-    → ReadsAt old new a b offset (take n buffer) (Ok n)
-held_reads {old} {new} {a} {b} {offset} {n} buffer t gave counts fits whole at near far small same told budget retries calm
-    taken now limit =
+    → new.window.items ≡ kept_window old.window.items offset bytes → Passed old new offset (length bytes)
+    → new.progress.taken ≤ old.progress.budget
+    → ReadsAt old new a a offset bytes (Ok (length bytes))
+held_reads {old} {new} {a} {offset} bytes holds uncounted many ahead near far small kept passed limit =
     let p : Progress = old.progress in
     let q : Progress = new.progress in
-    let long : length (take n buffer) ≡ n = omega (arith, length-take n buffer, fits) in
-    let some = whole_some t (take n buffer) whole in
-    let many : 0 < n = omega (arith, some, long) in
-    let since = since_given a.count b.count p.taken q.taken n counts taken in
+    let n : ℕ = length bytes in
+    let told = passed.told in
+    let at = passed.offset in
+    let retries = passed.retries in
+    let calm = passed.fault in
     let keeps : KeepsCounts p q = record {
       told = told;
-      budget = budget;
-      taken = omega (arith, taken);
+      budget = passed.budget;
+      taken = omega (arith, passed.taken);
       retries = omega (arith, retries);
       limit = λ few. omega (arith, few, retries);
     } in
-    let first = stands_gives p.told p.offset q.offset n p.fault (steady a.telling p.retries)
-    (steady b.telling p.retries) buffer
-    (steady_gives a.telling b.telling p.retries buffer n gave) many fits
-    (now ∙ ap (λ k. min (k + n) (2 ^ 64 - 1)) (sym at)) in
-    let gives : GivesFrom (stand a.telling p) (stand b.telling q) offset q.offset (take n buffer) (Ok n) =
-    rw (retries, told, calm)
-    (subst (λ k. GivesFrom (stand a.telling p) (stand_of p.told q.offset p.fault (steady b.telling p.retries)) k
-    q.offset (take n buffer) (Ok n)) at first) in
-    let read : ReadsFrom p q (stand a.telling p) (stand b.telling q) a b offset (take n buffer) (Ok n) = record {
-      bound = omega (arith, long);
+    let gives : GivesFrom (stand a.telling p) (stand a.telling q) offset q.offset bytes (Ok n) =
+    rw (told, at, retries, calm) (gives_held a.telling p.told p.offset offset p.retries p.fault bytes ahead holds) in
+    let since : drift a.count q.taken ≡ drift a.count p.taken = rw uncounted refl in
+    let behind : behind a.telling q ≡ behind a.telling p = rw (told, retries, calm) refl in
+    let read : ReadsFrom p q (stand a.telling p) (stand a.telling q) a a offset bytes (Ok n) = record {
+      bound = omega arith;
       stand = gives;
-      stands = λ told. now;
-      taken = taken;
-      within = within_given (stand a.telling p) (stand b.telling q) offset q.offset n p.taken q.taken
-          (take n buffer) gives taken;
+      stands = λ told. passed.position;
+      taken = passed.taken;
+      within = within_given (stand a.telling p) (stand a.telling q) offset q.offset n p.taken q.taken bytes gives passed.taken;
       pays = λ beyond some. absurd (omega (arith, near, beyond));
       since = since;
-      behind = rw (retries, told, calm) (behind_given p.told p.retries p.fault a.telling b.telling buffer n gave);
+      behind = behind;
       calm = calm;
       keeps = keeps;
       stops = tt;
     } in
-    reads_past small (omega (arith, far)) (omega (arith, long, many)) read
-    (same ∙ ap (kept_window old.window.items offset) (sym (take-take n n buffer (omega arith)))) limit
+    reads_past small (omega (arith, far)) many read
+    (kept ∙ ap (kept_window old.window.items offset) (sym (take_all n bytes (omega arith)))) limit
 
--- and where a buffer begins with what was read
-pub held_front : {old new : Ledger} {a b : Account} {offset n : ℕ} (front buffer : List ℕ) (t : Text)
-    → take n front ≡ take n buffer
-    → ReadTells a.telling b.telling buffer (Ok n) → b.count ≡ count_after {E = Stop} a.count (Ok n) → n ≤ length buffer
-    → IsWhole t (take n buffer)
-    → old.progress.offset ≡ offset → offset ≤ old.progress.told → length old.window.items ≤ offset
+-- and so are the first of them
+pub held_front : {old new : Ledger} {a : Account} {offset n : ℕ} (held bytes : List ℕ)
+    → HoldsFrom a.telling old.progress.offset offset held → (0 < length held → a.count ≡ None) → n ≤ length held → 0 < n
+    → bytes ≡ take n held
+    → old.progress.offset ≤ offset → offset ≤ old.progress.told → length old.window.items ≤ offset
     → length old.window.items ≤ 32
-    → new.window.items ≡ kept_window old.window.items offset (take n front) → new.progress.told ≡ old.progress.told → new.progress.budget ≡ old.progress.budget
-    → new.progress.retries ≡ old.progress.retries → new.progress.fault ≡ old.progress.fault
-    → new.progress.taken ≡ old.progress.taken + n
-    → new.progress.offset ≡ min (offset + n) (2 ^ 64 - 1) → new.progress.taken ≤ old.progress.budget
-    → ReadsAt old new a b offset (take n front) (Ok n)
-held_front {old} {new} {a} {b} {offset} {n} front buffer t same gave counts fits whole at near far small kept told budget
-    retries calm taken now limit =
-    subst (λ bs. ReadsAt old new a b offset bs (Ok n)) (sym same)
-    (held_reads buffer t gave counts fits whole at near far small (kept ∙ ap (kept_window old.window.items offset) same) told
-    budget retries calm taken now limit)
+    → new.window.items ≡ kept_window old.window.items offset bytes → Passed old new offset n
+    → new.progress.taken ≤ old.progress.budget
+    → ReadsAt old new a a offset bytes (Ok n)
+held_front {old} {new} {a} {offset} {n} held bytes holds uncounted few many is ahead near far small kept passed limit =
+    let long : length bytes ≡ n = ap length is ∙ omega (arith, length-take n held, few) in
+    let front : HoldsFrom a.telling old.progress.offset offset bytes =
+    subst (HoldsFrom a.telling old.progress.offset offset) (sym is) (holds_front a.telling old.progress.offset offset n held few holds) in
+    subst (λ k. ReadsAt old new a a offset bytes (Ok k)) long
+    (held_reads bytes front (uncounted (omega (arith, few, many))) (omega (arith, long, many)) ahead near far small kept
+    (subst (λ k. Passed old new offset k) (sym long) passed) limit)
 
 -- and what byte by byte would be read
 pub held_text : {a c : State} (t : Text) (offset n : ℕ) (buffer : List ℕ) → IsWhole t (take n buffer) → n ≤ length buffer

@@ -1,5 +1,5 @@
 -- The offset of a buffered reader, as far as it is known.
-use Rattle.std.specs.Prelude.{◌≡◌, ℕ, Bool, false, ◌==◌, List, length, take, drop, ◌≤◌, ◌+◌, ◌^◌, ◌<◌, ◌⊎◌, nat_lt, if◌then◌else◌, Option, None, Some, Result, Ok, Err, IfSome, ⊤}
+use Rattle.std.specs.Prelude.{◌≡◌, ℕ, Bool, false, ◌==◌, List, [], length, take, drop, ◌≤◌, ◌+◌, ◌^◌, ◌<◌, ◌⊎◌, nat_lt, if◌then◌else◌, Option, None, Some, Result, Ok, Err, IfSome, ⊤}
 use Rattle.imagesize_source.specs.Input.{part}
 use Rattle.imagesize_io.specs.ReaderState.{kept_window}
 use Rattle.std.specs.Io.Buffered.{reader_buffer, reader_inner}
@@ -36,12 +36,10 @@ LeavesBuffer offset ahead to = ⊤
 abbrev pub IsBack : Option ℕ → ℕ → ℕ → Type 0
 IsBack position distance target = IfSome position (λ p. p ≡ target + distance)
 
--- The first n bytes of `buffer` are those that the reader's buffer had. The buffer keeps the bytes after them, and the
--- inner reader is unchanged.
-abbrev pub HeldOf : {T A : Type 0} → BufReader T A → BufReader T A → List ℕ → ℕ → Type 0
-HeldOf old new buffer n =
-    (n ≤ length (reader_buffer old)) × (take n buffer ≡ take n (reader_buffer old)) × (reader_buffer new ≡ drop n (reader_buffer old))
-    × (reader_inner new ≡ reader_inner old)
+-- what a reader holds: nothing while it is not where its inner reader is
+abbrev pub held_now : Option ℕ → List ℕ → List ℕ
+held_now None buffer = buffer
+held_now (Some apart) buffer = []
 
 -- whether the offset is known to be the first
 abbrev pub is_start : Option ℕ → Bool

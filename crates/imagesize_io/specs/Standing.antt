@@ -140,7 +140,7 @@ pub record ReadsFrom (old new : Progress) (before after : Option Standing) (a b 
     (r : Result ℕ Halt) : Type 0 where
   pub bound : IfOk r (λ n. n ≤ length buffer)
   pub stand : GivesFrom before after offset new.offset buffer r
-  pub stands : IfOk r (λ n. offset ≤ old.told → new.offset ≡ min (offset + n) (2 ^ 64 - 1))
+  pub stands : IfOk r (λ n. offset ≤ old.told → new.position ≡ min (offset + n) (2 ^ 64 - 1))
   pub taken : IfOk r (λ n. new.taken ≡ old.taken + n)
   pub within : IfSome before (λ s. new.taken ≤ old.taken + min (length buffer) (length s.bytes - offset))
   pub pays : IfOk r (λ n. old.told < offset → 0 < n → old.taken < new.taken)

@@ -4,13 +4,10 @@ ghost use Rattle.std.specs.Io.Buffered.{reader_buffer, reader_inner, reader_posi
 ghost use Rattle.std.specs.Io.KnownBytes.{ReadConsumes};
 ghost use Rattle.std.specs.Io.Seek.{SeekMoves};
 ghost use Rattle.std.specs.declared.io.Error.{Error};
-ghost use Rattle.imagesize_io.specs.Held.{IsWhole};
-ghost use Rattle.imagesize_io.specs.Kept.{offset_after, read_offset, sought_offset, HeldOf, IsAt, IsBack, LeavesBuffer};
+ghost use Rattle.imagesize_io.specs.Kept.{offset_after, read_offset, sought_offset, IsAt, IsBack, LeavesBuffer};
 ghost use Rattle.imagesize_io.specs.StopOf.{stop_of};
 
-use crate::held::copy_text;
 use crate::{Stop, Told};
-use imagesize_source::Text;
 use std::io::{self, BufRead, BufReader, Read, Seek, SeekFrom};
 
 /// A buffered reader that keeps track of its offset. Once the offset is known, a seek within the buffer makes no call of the
@@ -85,18 +82,10 @@ impl<R: Read + Seek + Drop> Told for KeptReader<R> {
     }
 
     #[inline(always)]
-    fn read_held(&mut self, text: Text, buffer: &mut [u8]) -> Option<usize>
-        ensures bound { IfSome result (λ n. n ≤ length buffer.new) }
-        ensures whole { IfSome result (λ n. IsWhole text (take n buffer.new)) }
-        // The bytes given come from the buffer, and the inner reader is not called.
-        ensures stays { result ≡ None → (self.new.reader ≡ self.old.reader) × (self.new.offset ≡ self.old.offset) }
-        ensures held { IfSome result (HeldOf self.old.reader self.new.reader buffer.new) }
-        ensures offset { IfSome result (λ n. self.new.offset ≡ offset_after self.old.offset n) }
+    fn held(&self) -> &[u8]
+        ensures { result.now ≡ reader_buffer self.now.reader }
     {
-        let count = copy_text(text, self.reader.buffer(), buffer)?;
-        self.reader.consume(count);
-        advance(&mut self.offset, count);
-        Some(count)
+        self.reader.buffer()
     }
 
     fn seek_told(&mut self, to: SeekFrom) -> io::Result<u64>
@@ -127,29 +116,6 @@ fn offset_after(offset: Option<u64>, count: usize) -> Option<u64>
     ensures { result ≡ offset_after offset count }
 {
     offset?.checked_add(count as u64)
-}
-
-// Advances an offset. A branch decides whether it stays known: that saves five instructions a text.
-#[inline(always)]
-fn advance(offset: &mut Option<u64>, count: usize)
-    ensures { offset.new ≡ offset_after offset.old count }
-{
-    let Some(from) = *offset else {
-        return;
-    };
-    match from.checked_add(count as u64) {
-        Some(next) => *offset = Some(next),
-        None => forget(offset),
-    }
-}
-
-// Forgets an offset. Not inlined, since no input is that long.
-#[cold]
-#[inline(never)]
-fn forget(offset: &mut Option<u64>)
-    ensures { offset.new ≡ None }
-{
-    *offset = None;
 }
 
 // Seeks from an offset, if that is known.

@@ -14,6 +14,8 @@ pub struct Progress {
     pub taken: u64,
     /// The reader's offset.
     pub offset: u64,
+    /// The offset that the reader would have if each read had called it.
+    pub position: u64,
     /// How many interrupted reads were tried again.
     pub retries: u64,
     /// The error of the last failed call of the reader that ended a read; `None` if there was none.

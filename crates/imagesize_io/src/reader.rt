@@ -1,5 +1,6 @@
 //! A reader as a source.
-ghost use Rattle.std.specs.Prelude.{◌≡◌, IfErr, true, false};
+ghost use Rattle.std.specs.Prelude.{◌≡◌, ℕ, ◌≤◌, Result, None, IfErr, IfSome, true, false};
+ghost use Rattle.std.specs.declared.io.Error.{Error};
 ghost use Rattle.imagesize_source.specs.Errors.{is_fault, is_memory};
 ghost use Rattle.imagesize_io.specs.ReaderState.{reader_state, start_state, Opens};
 ghost use Rattle.imagesize_io.specs.Answers.{IsLast};
@@ -50,6 +51,7 @@ impl<'a, R: Told> ReaderSource<'a, R> {
             budget: told.saturating_add(ALLOWANCE),
             taken: 0,
             offset: told,
+            position: told,
             retries: 0,
             fault: None,
         };
@@ -59,6 +61,21 @@ impl<'a, R: Told> ReaderSource<'a, R> {
             present: told,
         };
         ReaderSource { reader, ledger }
+    }
+
+    /// The offset at which the reader is to be left, if it is not there: where the last read ended. Reads of the bytes that it
+    /// holds have not moved it. `None` after a fault.
+    #[inline(always)]
+    pub fn left(&self) -> Option<u64>
+        ensures told { IfSome result (λ position. position ≤ self.now.ledger.progress.told) }
+        ensures calm { IfSome result (λ _. self.now.ledger.progress.fault ≡ None) }
+    {
+        let progress = &self.ledger.progress;
+        let position = progress.position;
+        if position == progress.offset || position > progress.told || progress.fault.is_some() {
+            return None;
+        }
+        Some(position)
     }
 }
 
@@ -129,6 +146,19 @@ pub fn open<R: Told>(reader: &mut R, origin: Origin) -> ImageResult<Opened>
         seek(reader, SeekFrom::Start(offset))?;
     }
     Ok(Opened { offset, told })
+}
+
+/// Moves a reader that is not used as a source any more to an offset, if there is one. The call has its result by then, so it does
+/// not matter whether the seek fails.
+#[inline(always)]
+pub fn settle<R: Told>(reader: &mut R, left: Option<u64>)
+    ensures stays { left ≡ None → reader.new ≡ reader.old }
+    ensures seeks { IfSome left (λ position. (r : Result ℕ Error) × SeekTells (R.telling reader.old) (R.telling reader.new) (SeekFrom.Start position) r) }
+    ensures counts { R.count reader.new ≡ R.count reader.old }
+{
+    if let Some(position) = left {
+        let _ = reader.seek_told(SeekFrom::Start(position));
+    }
 }
 
 // Seeks. An error becomes a `Reason::Fault`.

@@ -4,14 +4,12 @@ ghost use Rattle.std.specs.Io.Buffered.{reader_buffer, reader_inner, reader_posi
 ghost use Rattle.std.specs.Io.KnownBytes.{ReadConsumes};
 ghost use Rattle.std.specs.Io.Seek.{SeekMoves};
 ghost use Rattle.std.specs.declared.io.Error.{Error};
-ghost use Rattle.imagesize_io.specs.Held.{IsWhole};
-ghost use Rattle.imagesize_io.specs.Kept.{front_after, GivesAgain, HeldOf, IsAt, LeavesBuffer};
+ghost use Rattle.imagesize_io.specs.Kept.{front_after, GivesAgain, IsAt, held_now, LeavesBuffer};
 ghost use Rattle.imagesize_io.specs.StopOf.{stop_of};
 
 use crate::kept::KeptReader;
 use crate::window::{Window, copy_kept, keep, keep_front};
 use crate::{Stop, Told};
-use imagesize_source::Text;
 use std::fs::OpenFile;
 use std::io::{self, BufReader, Read, Seek, SeekFrom};
 
@@ -139,19 +137,13 @@ impl<R: Read + Seek + Drop> Told for SizedReader<R> {
     }
 
     #[inline(always)]
-    fn read_held(&mut self, text: Text, buffer: &mut [u8]) -> Option<usize>
-        ensures bound { IfSome result (λ n. n ≤ length buffer.new) }
-        ensures whole { IfSome result (λ n. IsWhole text (take n buffer.new)) }
-        ensures stands { self.new.apart ≡ self.old.apart }
-        ensures length { self.new.length ≡ self.old.length }
-        ensures front { self.new.front ≡ self.old.front }
-        ensures stays { result ≡ None → self.new.reader.reader ≡ self.old.reader.reader }
-        ensures held { IfSome result (λ n. (self.old.apart ≡ None) × HeldOf self.old.reader.reader self.new.reader.reader buffer.new n) }
+    fn held(&self) -> &[u8]
+        ensures { result.now ≡ held_now self.now.apart (reader_buffer self.now.reader.reader) }
     {
-        if self.apart.is_some() {
-            return None;
+        match self.apart {
+            Some(_) => &[],
+            None => self.reader.held(),
         }
-        self.reader.read_held(text, buffer)
     }
 
     fn seek_told(&mut self, to: SeekFrom) -> io::Result<u64>

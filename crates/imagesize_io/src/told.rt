@@ -1,18 +1,15 @@
 //! Readers, and the models that they may have.
-ghost use Rattle.std.specs.Prelude.{◌≡◌, ℕ, ◌≤◌, length, Option, Some, None, false, ◌<◌, ◌^◌, IfOk, IfErr, IfSome, IsSome, Ok, take};
-ghost use Rattle.std.specs.Io.Buffered.{reader_inner, reader_position, reader_remaining};
+ghost use Rattle.std.specs.Prelude.{◌≡◌, ℕ, ◌≤◌, length, Option, Some, None, false, ◌<◌, ◌^◌, IfOk, IfErr, IfSome, IsSome, Ok};
+ghost use Rattle.std.specs.Io.Buffered.{reader_buffer, reader_inner, reader_position, reader_remaining};
 ghost use Rattle.std.specs.Io.Cursor.{cursor_inner, cursor_position};
 ghost use Rattle.std.specs.Io.KnownBytes.{ReadConsumes};
 ghost use Rattle.std.specs.Io.Seek.{SeekMoves, IsAtOffset};
 ghost use Rattle.std.specs.declared.io.Error.{Error};
-ghost use Rattle.imagesize_io.specs.Held.{IsWhole};
-ghost use Rattle.imagesize_io.specs.Kept.{HeldOf};
+ghost use Rattle.imagesize_io.specs.Held.{Holds};
 ghost use Rattle.imagesize_io.specs.Memory.{IsMemory};
 ghost use Rattle.imagesize_io.specs.Telling.{Telling, ReadTells, SeekTells, count_after, failure_after, failure_after_read};
 ghost use Rattle.imagesize_io.specs.StopOf.{stop_of};
 
-use crate::held::copy_text;
-use imagesize_source::Text;
 use imagesize_source::part::{copy_front, copy_part};
 use std::io::{self, BufRead, BufReader, Cursor, ErrorKind, Read, Seek, SeekFrom};
 
@@ -58,18 +55,14 @@ pub trait Told: Drop {
         ensures counts { count self.new ≡ count_after (count self.old) result }
         ensures fails { failure self.new ≡ failure_after_read (failure self.old) result };
 
-    /// Reads the text at the reader's offset, if the reader holds all of it, and returns how many bytes were read. It may
-    /// always return `None`, and then it has read nothing.
+    /// The bytes that the reader holds from its offset on. A read of them needs no call of the reader. This call may always
+    /// return no bytes. A reader that counts the bytes it gives returns none.
     #[inline(always)]
-    fn read_held(&mut self, _text: Text, _buffer: &mut [u8]) -> Option<usize>
-        ensures bound { IfSome result (λ n. n ≤ length _buffer.new) }
-        ensures whole { IfSome result (λ n. IsWhole _text (take n _buffer.new)) }
-        ensures told { IfSome result (λ n. ReadTells (telling self.old) (telling self.new) _buffer.new (Ok n)) }
-        ensures counts { IfSome result (λ n. count self.new ≡ count_after {E = Stop} (count self.old) (Ok n)) }
-        ensures none { result ≡ None → (telling self.new ≡ telling self.old) × (count self.new ≡ count self.old) }
-        ensures fails { failure self.new ≡ failure self.old }
+    fn held(&self) -> &[u8]
+        ensures told { Holds (telling self.now) result.now }
+        ensures counts { 0 < length result.now → count self.now ≡ None }
     {
-        None
+        &[]
     }
 
     /// All bytes of the reader, if they lie in memory. No call of such a reader fails or is interrupted, and it keeps no count
@@ -114,13 +107,9 @@ impl Told for Cursor<&[u8]> {
     }
 
     #[inline(always)]
-    fn read_held(&mut self, text: Text, buffer: &mut [u8]) -> Option<usize> {
+    fn held(&self) -> &[u8] {
         let bytes = *self.get_ref();
-        let offset = self.position();
-        let start = bytes.len().min(offset as usize);
-        let count = copy_text(text, &bytes[start..], buffer)?;
-        self.set_position(offset + count as u64);
-        Some(count)
+        &bytes[bytes.len().min(self.position() as usize)..]
     }
 
     // A call then reads the bytes where they lie, and makes no call of the cursor for each read.
@@ -168,16 +157,10 @@ impl<R: Read + Seek + Drop> Told for BufReader<R> {
     }
 
     #[inline(always)]
-    fn read_held(&mut self, text: Text, buffer: &mut [u8]) -> Option<usize>
-        ensures bound { IfSome result (λ n. n ≤ length buffer.new) }
-        ensures whole { IfSome result (λ n. IsWhole text (take n buffer.new)) }
-        // The bytes given come from the buffer, and the inner reader is not called.
-        ensures stays { result ≡ None → self.new ≡ self.old }
-        ensures held { IfSome result (HeldOf self.old self.new buffer.new) }
+    fn held(&self) -> &[u8]
+        ensures { result.now ≡ reader_buffer self.now }
     {
-        let count = copy_text(text, self.buffer(), buffer)?;
-        self.consume(count);
-        Some(count)
+        self.buffer()
     }
 
     // Inlined, so that no result with room for an error is built.

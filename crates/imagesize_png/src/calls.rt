@@ -12,7 +12,7 @@ ghost use Rattle.imagesize_source.specs.State.{total};
 
 use crate::Told;
 use crate::format::size;
-use imagesize_io::reader::{Opened, Origin, ReaderSource, open};
+use imagesize_io::reader::{Opened, Origin, ReaderSource, open, settle};
 use imagesize_source::ImageResult;
 use imagesize_source::halt::with_error;
 use imagesize_source::source::slice::SliceSource;
@@ -98,5 +98,8 @@ fn size_opened<R: Told>(reader: &mut R, opened: Opened) -> ImageResult<ImageSize
 {
     let mut source = ReaderSource::new(reader, opened.told);
     let found = size(&mut source, opened.offset);
-    with_error(found, &source)
+    let left = source.left();
+    let answer = with_error(found, &source);
+    settle(reader, left);
+    answer
 }

@@ -1,7 +1,10 @@
 //! Buffered readers keep their block if it has the offset of a seek. One that keeps track of its offset calls the inner
 //! reader no more than needed.
 
+use imagesize_io::reader::{Origin, ReaderSource, open, settle};
 use imagesize_io::{KeptReader, SizedReader, Stop, Told};
+use imagesize_source::Text;
+use imagesize_source::source::Source;
 use std::io::{self, BufReader, Cursor, ErrorKind, Read, Seek, SeekFrom};
 use std::process::Abort;
 use std::test::Fail;
@@ -197,4 +200,57 @@ fn an_interruption_may_be_tried_again(rt: HostRuntime) {
     assert!(rt; matches!(stop, Stop::Interrupted(_)));
     let fault = Stop::from(io::Error::from(ErrorKind::UnexpectedEof));
     assert!(rt; matches!(fault, Stop::Fault(_)));
+}
+
+#[test]
+fn reads_of_held_bytes_make_no_call_until_the_reader_is_left(rt: HostRuntime) -> Result<(), Fail> {
+    let mut bytes = Vec::from_elem(rt.alloc(), 7u8, 4096)?;
+    bytes[1000] = 1;
+    bytes[1003] = 2;
+    let mut made = NONE;
+    let counted = Counted {
+        inner: Cursor::new(bytes.as_slice()),
+        made: &mut made,
+    };
+    let mut reader = BufReader::new(rt.alloc(), counted)?;
+    let opened = open(&mut reader, Origin::Start)?;
+    let mut source = ReaderSource::new(&mut reader, opened.told);
+    let mut buffer = [0u8; 4];
+    assert!(rt; matches!(source.read_at(0, &mut buffer), Ok(4)));
+    assert!(rt; source.left().is_none());
+    assert!(rt; matches!(source.read_at(1000, &mut buffer), Ok(4)));
+    assert_eq!(rt; buffer, [1, 7, 7, 2]);
+    assert_eq!(rt; source.taken(), 8);
+    assert!(rt; matches!(source.read_at(996, &mut buffer), Ok(4)));
+    assert_eq!(rt; buffer, [7, 7, 7, 7]);
+    // The end of the input is not held.
+    let left = source.left();
+    assert_eq!(rt; left, Some(1000));
+    assert!(rt; matches!(source.read_at(4094, &mut buffer), Ok(2)));
+    assert!(rt; source.left().is_none());
+    settle(&mut reader, left);
+    assert_eq!(rt; reader.stream_position()?, 1000);
+    drop(reader);
+    // The block, and the end.
+    assert_eq!(rt; made.reads, 2);
+    Ok(())
+}
+
+#[test]
+fn a_line_goes_on_from_one_block_to_the_next(rt: HostRuntime) -> Result<(), Fail> {
+    let mut bytes = Vec::from_elem(rt.alloc(), b'a', 200)?;
+    bytes[39] = b'\n';
+    bytes[119] = b'\n';
+    let inner = Cursor::new(bytes.as_slice());
+    let mut reader = BufReader::with_capacity(rt.alloc(), 64, inner)?;
+    let opened = open(&mut reader, Origin::Start)?;
+    let mut source = ReaderSource::new(&mut reader, opened.told);
+    let mut buffer = [0u8; 100];
+    let line = Text::Line { delimiter: b'\n' };
+    assert!(rt; matches!(source.read_text(0, line, &mut buffer), Ok(40)));
+    assert!(rt; matches!(source.read_text(40, line, &mut buffer), Ok(80)));
+    assert!(rt; buffer[..79].iter().all(|byte| *byte == b'a') && buffer[79] == b'\n');
+    assert!(rt; matches!(source.read_text(120, line, &mut buffer), Ok(80)));
+    assert_eq!(rt; source.taken(), 200);
+    Ok(())
 }

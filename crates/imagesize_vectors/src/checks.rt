@@ -28,6 +28,7 @@ pub fn check(alloc: Global, row: &Row<'_>) -> Result<(), Wrong> {
     readers::check_counts(alloc, row)?;
     readers::check_offsets(alloc, row)?;
     readers::check_memory(alloc, row)?;
+    readers::check_held(alloc, row)?;
     check_followed(alloc, row)?;
     parts::check_parts(alloc, row)?;
     stream::check_stream(alloc, row)?;

@@ -231,5 +231,6 @@ pub(super) fn read_from<R: Told>(
         return Ok(0);
     }
     let count = fill(reader, progress, offset, buffer)?;
+    progress.position = progress.offset;
     Ok(count)
 }

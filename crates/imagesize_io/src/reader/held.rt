@@ -1,20 +1,51 @@
-//! A text from the bytes that the reader holds: it reads the same bytes as a read byte by byte would.
-ghost use Rattle.std.specs.Prelude.{◌≡◌, ◌+◌, ◌≤◌, true, IfSome, None, Ok, length, take};
-ghost use Rattle.imagesize_source.specs.Limits.{most_held};
-ghost use Rattle.imagesize_io.specs.Held.{IsWhole};
-ghost use Rattle.imagesize_io.specs.ReaderState.{ReadsAt};
+//! Reads of the bytes that a reader holds, without a call of the reader.
+ghost use Rattle.std.specs.Prelude.{◌≡◌, ◌+◌, ◌-◌, ◌^◌, ◌<◌, ◌≤◌, min, true, false, None, Ok, IfSome, length, take};
+ghost use Rattle.imagesize_io.specs.Held.{HoldsFrom, IsWhole};
+ghost use Rattle.imagesize_io.specs.ReaderState.{ReadsAt, ReadsOn};
 ghost use Rattle.imagesize_io.specs.Telling.{account};
 
 use super::Ledger;
 use crate::Told;
-use crate::window::keep;
+use crate::held::copy_text;
+use crate::window::{WINDOW, keep};
 use imagesize_source::Text;
 
-/// The text at an offset from the bytes that the reader holds. The reader must be at that offset and hold all of the text, and
-/// the budget must have it. Otherwise nothing is read, and the text has to be read byte by byte.
+/// Fills the buffer from an offset on, if the reader holds all of these bytes. Returns whether it did.
+///
+/// Most reads of a buffered reader are such. For them this saves the search of the first bytes, a seek and a read.
 #[inline(always)]
 pub(super) fn read_held<R: Told>(
-    reader: &mut R,
+    reader: &R,
+    ledger: &mut Ledger,
+    offset: u64,
+    buffer: &mut [u8],
+) -> bool
+    ensures none { result ≡ false → ledger.new ≡ ledger.old }
+    ensures reads { result ≡ true → ReadsOn reader.now reader.now ledger.old ledger.new
+        (account R.telling R.count R.failure reader.now) (account R.telling R.count R.failure reader.now) offset buffer.new
+        (Ok (length buffer.new)) }
+{
+    // The proof needs that the window is not longer than its capacity. It has no byte from there on, and keeps none.
+    let _length = ledger.window.len();
+    if offset < WINDOW as u64 || buffer.is_empty() {
+        return false;
+    }
+    let Some(bytes) = held_from(reader, ledger, offset) else {
+        return false;
+    };
+    let count = buffer.len();
+    if count > bytes.len() {
+        return false;
+    }
+    buffer.copy_from_slice(&bytes[..count]);
+    pass(ledger, offset, buffer.len());
+    true
+}
+
+/// Reads the text from an offset on, if the reader holds all of it, and returns how many bytes it has. Otherwise nothing is read.
+#[inline(always)]
+pub(super) fn read_held_text<R: Told>(
+    reader: &R,
     ledger: &mut Ledger,
     offset: u64,
     text: Text,
@@ -22,36 +53,61 @@ pub(super) fn read_held<R: Told>(
 ) -> Option<usize>
     ensures bound { IfSome result (λ n. n ≤ length buffer.new) }
     ensures whole { IfSome result (λ n. IsWhole text (take n buffer.new)) }
-    ensures none { result ≡ None → (account R.telling R.count R.failure reader.new ≡ account R.telling R.count R.failure reader.old)
-        × (ledger.new ≡ ledger.old) }
-    ensures reads { IfSome result (λ n. ReadsAt ledger.old ledger.new (account R.telling R.count R.failure reader.old)
-        (account R.telling R.count R.failure reader.new) offset (take n buffer.new) (Ok n)) }
+    ensures none { result ≡ None → ledger.new ≡ ledger.old }
+    ensures reads { IfSome result (λ n. ReadsAt ledger.old ledger.new (account R.telling R.count R.failure reader.now)
+        (account R.telling R.count R.failure reader.now) offset (take n buffer.new) (Ok n)) }
 {
-    if !stands_there(ledger, offset) {
+    if offset < ledger.window.len() as u64 {
         return None;
     }
-    // A text beyond the budget is left to the reads byte by byte. A buffer of which the budget has a part is not: at the end of
-    // an input that saves 200 instructions a line.
-    let left = ledger.progress.budget - ledger.progress.taken;
-    let most = buffer.len().min(left as usize);
-    let count = reader.read_held(text, &mut buffer[..most])?;
+    let bytes = held_from(reader, ledger, offset)?;
+    let count = copy_text(text, bytes, buffer)?;
     keep(&mut ledger.window, offset, &buffer[..count]);
-    ledger.progress.taken += count as u64;
-    ledger.progress.offset = offset.saturating_add(count as u64);
-    ledger.present = ledger.progress.offset;
+    pass(ledger, offset, count);
     Some(count)
 }
 
-// Whether the reader is at an offset. The offset must lie within the reported length, and the window must have no byte from
-// there on.
+// The bytes that the reader holds from an offset on, as many as the budget has. `None` if they begin later, or end earlier, or if the
+// offset is past the reported length.
 #[inline(always)]
-pub(super) fn stands_there(ledger: &Ledger, offset: u64) -> bool
-    ensures stands { result ≡ true → ledger.now.progress.offset ≡ offset }
-    ensures told { result ≡ true → offset ≤ ledger.now.progress.told }
-    ensures behind { result ≡ true → length ledger.now.window.items ≤ offset }
-    ensures small { length ledger.now.window.items ≤ most_held }
+fn held_from<'r, R: Told>(reader: &'r R, ledger: &Ledger, offset: u64) -> Option<&'r [u8]>
+    ensures there { IfSome result (λ bytes. HoldsFrom (R.telling reader.now) ledger.now.progress.offset offset bytes.now) }
+    ensures ahead { IfSome result (λ _. ledger.now.progress.offset ≤ offset) }
+    ensures told { IfSome result (λ _. offset ≤ ledger.now.progress.told) }
+    ensures paid { IfSome result (λ bytes. ledger.now.progress.taken + length bytes.now ≤ ledger.now.progress.budget) }
+    ensures counts { IfSome result (λ bytes. 0 < length bytes.now → R.count reader.now ≡ None) }
 {
-    let window = ledger.window.len() as u64;
     let progress = &ledger.progress;
-    offset == progress.offset && offset <= progress.told && offset >= window
+    if offset > progress.told || offset < progress.offset {
+        return None;
+    }
+    let ahead = offset - progress.offset;
+    let held = reader.held();
+    if ahead > held.len() as u64 {
+        return None;
+    }
+    let bytes = &held[ahead as usize..];
+    let left = progress.budget - progress.taken;
+    Some(&bytes[..bytes.len().min(left as usize)])
+}
+
+// Counts bytes that the reader holds. The reader stays where it is.
+#[inline(always)]
+fn pass(ledger: &mut Ledger, offset: u64, count: usize)
+    requires { ledger.old.progress.taken + count ≤ ledger.old.progress.budget }
+    ensures window { ledger.new.window ≡ ledger.old.window }
+    ensures told { ledger.new.progress.told ≡ ledger.old.progress.told }
+    ensures budget { ledger.new.progress.budget ≡ ledger.old.progress.budget }
+    ensures offset { ledger.new.progress.offset ≡ ledger.old.progress.offset }
+    ensures retries { ledger.new.progress.retries ≡ ledger.old.progress.retries }
+    ensures fault { ledger.new.progress.fault ≡ ledger.old.progress.fault }
+    ensures taken { ledger.new.progress.taken ≡ ledger.old.progress.taken + count }
+    ensures position { ledger.new.progress.position ≡ min (offset + count) (2 ^ 64 - 1) }
+    ensures present { ledger.new.present ≡ min (offset + count) (2 ^ 64 - 1) }
+{
+    // The proof needs that the budget fits its type.
+    let _budget = ledger.progress.budget;
+    ledger.progress.taken += count as u64;
+    ledger.present = offset.saturating_add(count as u64);
+    ledger.progress.position = ledger.present;
 }

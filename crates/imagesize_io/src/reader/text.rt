@@ -5,7 +5,7 @@ ghost use Rattle.imagesize_io.specs.ReaderState.{ReadsAt, ReadsText};
 ghost use Rattle.imagesize_io.specs.Telling.{account};
 
 use super::Ledger;
-use super::held::{read_held, stands_there};
+use super::held::read_held_text;
 use super::windowed::read_on;
 use crate::Told;
 use imagesize_source::text::is_end;
@@ -23,7 +23,7 @@ pub(super) fn read_text<R: Told>(
     ensures { ReadsText ledger.old ledger.new (account R.telling R.count R.failure reader.old)
         (account R.telling R.count R.failure reader.new) text offset buffer.new result }
 {
-    if let Some(count) = read_held(reader, ledger, offset, text, buffer) {
+    if let Some(count) = read_held_text(reader, ledger, offset, text, buffer) {
         return Ok(count);
     }
     read_by_bytes(reader, ledger, offset, text, buffer)
@@ -77,7 +77,7 @@ fn read_by_bytes<R: Told>(
 // then it may have filled its buffer. So few searches are in vain.
 #[inline(always)]
 fn read_rest<R: Told>(
-    reader: &mut R,
+    reader: &R,
     ledger: &mut Ledger,
     next: u64,
     text: Text,
@@ -88,16 +88,15 @@ fn read_rest<R: Told>(
     ensures bound { IfSome result (λ n. n ≤ length buffer.new) }
     ensures whole { IfSome result (λ n. IsWhole text (take n buffer.new)) }
     ensures line { IfSome result (λ _. is_line text ≡ true) }
-    ensures none { result ≡ None → (account R.telling R.count R.failure reader.new ≡ account R.telling R.count R.failure reader.old)
-        × (ledger.new ≡ ledger.old) }
-    ensures reads { IfSome result (λ n. ReadsAt ledger.old ledger.new (account R.telling R.count R.failure reader.old)
-        (account R.telling R.count R.failure reader.new) next (take n buffer.new) (Ok n)) }
+    ensures none { result ≡ None → ledger.new ≡ ledger.old }
+    ensures reads { IfSome result (λ n. ReadsAt ledger.old ledger.new (account R.telling R.count R.failure reader.now)
+        (account R.telling R.count R.failure reader.now) next (take n buffer.new) (Ok n)) }
 {
-    if count < *again || !is_line(text) || !stands_there(ledger, next) {
+    if count < *again || !is_line(text) {
         return None;
     }
     *again = count.saturating_add(count);
-    read_held(reader, ledger, next, text, buffer)
+    read_held_text(reader, ledger, next, text, buffer)
 }
 
 // Whether the text is a line.

@@ -6,7 +6,7 @@ use crate::table::{Row, Wrong, holds};
 use imagesize::{ImageType, Stop, Told, reader_probe, reader_size, reader_type};
 use imagesize_readers::readers::{Counting, Cutting};
 use std::alloc::{AllocError, Global};
-use std::io::{self, BufReader, Cursor, SeekFrom};
+use std::io::{self, BufReader, Cursor, Seek, SeekFrom};
 
 // Whether the calls on readers have the expected result. Each call gets one of the readers.
 fn are_answered<R: Told>(
@@ -158,6 +158,46 @@ pub fn check_memory(alloc: Global, row: &Row<'_>) -> Result<(), Wrong> {
         }
     }
     Ok(())
+}
+
+/// A buffered reader holds bytes, and most reads get theirs without a call of it. The calls over it do what they do over a reader
+/// that holds none: they have the same results, and leave the reader at the same offset.
+pub fn check_held(alloc: Global, row: &Row<'_>) -> Result<(), Wrong> {
+    let length = row.bytes.len() as u64;
+    for capacity in [1usize, 50, 8192] {
+        for offset in [0, 7, length] {
+            let mut reader = Cutting::one_byte(cursor_at(row, offset));
+            let mut buffered = BufReader::with_capacity(
+                alloc,
+                capacity,
+                cursor_at(row, offset),
+            ).map_err(|_| Wrong::new("memory is out"))?;
+            let probed = reader_probe(&mut buffered);
+            let other = reader_probe(&mut reader);
+            let same = format!(in alloc; "{probed:?}")? == format!(in alloc; "{other:?}")?;
+            holds(same, "a probe of held bytes")?;
+            check_left(&mut buffered, &reader)?;
+            let kind = probed.kind.unwrap_or(ImageType::Jpeg);
+            let size = kind.reader_size(&mut buffered);
+            let other = kind.reader_size(&mut reader);
+            let same = format!(in alloc; "{size:?}")? == format!(in alloc; "{other:?}")?;
+            holds(same, "a size of held bytes")?;
+            check_left(&mut buffered, &reader)?;
+        }
+    }
+    Ok(())
+}
+
+// Both readers are at the same offset.
+fn check_left(
+    buffered: &mut BufReader<Cursor<&[u8]>>,
+    reader: &Cutting<'_, Cursor<&[u8]>>,
+) -> Result<(), Wrong> {
+    let left = buffered.stream_position().ok();
+    holds(
+        left == Some(reader.reader.position()),
+        "an offset of a buffered reader",
+    )
 }
 
 /// The type reads the size, whatever the reader's offset is.

@@ -1,31 +1,37 @@
 use Rattle.std.proofs.Common.{refl, ap, arith, rules}
-use Rattle.imagesize.proofs.Endings.{budget_taken, fault_last, kept_plain, leaves_reader, no_memory}
+use Rattle.imagesize.proofs.Endings.{budget_taken, fault_last, fault_settled, kept_plain, leaves_reader, no_memory, settled}
 use Rattle.imagesize.proofs.Meanings.{probes_opened}
 use Rattle.imagesize.proofs.calls.probe_opened.Goals as goal
 
 pub returns-clause-probes : goal.returns-clause-probes
 returns-clause-probes g c = λ telling opens.
-    probes_opened telling _ _ _ c.args.opened _ _ _ _ c.with_error.ensures c.new-source.ensures.state refl opens
+    probes_opened telling _ _ _ c.args.opened _ _ _ _ c.with_error-answer.ensures c.new-source.ensures.state refl opens
     c.probe-kind.ensures.runs
     c.probe-kind.ensures.kind (omega arith)
 
 pub returns-clause-spent : goal.returns-clause-spent
 returns-clause-spent g c =
-    rw c.with_error.ensures (budget_taken c.args.opened.told _ _ _ (ap (λ s. s.frame.budget) c.new-source.ensures.state)
+    rw c.with_error-answer.ensures (budget_taken c.args.opened.told _ _ _ (ap (λ s. s.frame.budget) c.new-source.ensures.state)
     (kept_plain c.probe-kind.new.source.ledger.progress.fault _ refl) c.probe-kind.ensures.runs (omega arith))
 
 pub returns-clause-memory : goal.returns-clause-memory
 returns-clause-memory g c =
-    rw c.with_error.ensures (no_memory c.probe-kind.new.source.ledger.progress.fault _ _)
+    rw c.with_error-answer.ensures (no_memory c.probe-kind.new.source.ledger.progress.fault _ _)
 
 pub returns-clause-fault : goal.returns-clause-fault
 returns-clause-fault g c =
-    rw c.with_error.ensures
+    rw c.with_error-answer.ensures
+    (fault_settled _ _ c.probe-kind.new.source.ledger.progress.fault c.left-left.result _ _ _
+    (λ none. ap (λ r. g.R.Told.failure r) (c.settle.ensures.stays none))
     (fault_last _ c.probe-kind.new.source.ledger.progress.fault _ _ (search rules) c.probe-kind.ensures.runs)
+    c.left-left.ensures.calm refl)
 
 pub returns-clause-leaves : goal.returns-clause-leaves
 returns-clause-leaves g c = λ telling opens.
-    leaves_reader telling _ _ _ _ c.args.opened
+    settled telling _ _ _ c.args.opened c.left-left.result opens
+    (λ none. ap (λ r. g.R.Told.telling r) (c.settle.ensures.stays none))
+    (leaves_reader telling _ _ _ _ c.args.opened
     c.probe-kind.new.source.ledger.progress.told c.probe-kind.new.source.ledger.progress.retries
     c.probe-kind.new.source.ledger.progress.fault _ _
-    c.new-source.ensures.state (search rules) c.probe-kind.ensures.runs opens
+    c.new-source.ensures.state (search rules) c.probe-kind.ensures.runs opens)
+    c.settle.ensures.seeks (search rules)

@@ -1,5 +1,5 @@
 use Rattle.std.proofs.Common.{Result, IfErr, ◌≡◌, false, refl, sym, ap, subst, rules}
-use Rattle.imagesize.proofs.Endings.{budget_counted, fault_last, kept_plain, leaves_reader, no_memory}
+use Rattle.imagesize.proofs.Endings.{budget_counted, fault_last, fault_settled, kept_plain, leaves_reader, no_memory, settled}
 use Rattle.imagesize.proofs.Meanings.{size_answers}
 use Rattle.imagesize.specs.Meaning.{size_of}
 use Rattle.imagesize_io.specs.Answers.{Answers}
@@ -11,29 +11,35 @@ use Rattle.imagesize.proofs.calls.size_opened.Goals as goal
 
 pub returns-clause-answers : goal.returns-clause-answers
 returns-clause-answers g c =
-    λ telling opens. subst (λ r. Answers telling (λ d offset. size_of c.args.kind d) r) (sym c.with_error.ensures)
+    λ telling opens. subst (λ r. Answers telling (λ d offset. size_of c.args.kind d) r) (sym c.with_error-answer.ensures)
     (size_answers telling _ _ _ c.args.opened _ _ c.args.kind _ c.new-source.ensures.state refl opens
     c.size-found.ensures)
 
 pub returns-clause-spent : goal.returns-clause-spent
 returns-clause-spent g c =
-    rw c.with_error.ensures (budget_counted c.args.opened.told _ _ _ _ (ap (λ s. s.frame.budget) c.new-source.ensures.state)
+    rw c.with_error-answer.ensures (budget_counted c.args.opened.told _ _ _ _ (ap (λ s. s.frame.budget) c.new-source.ensures.state)
     (ap (λ s. since_of s.frame.backing) c.new-source.ensures.state) (kept_plain c.size-found.new.source.ledger.progress.fault _ refl)
     c.size-found.ensures (search rules))
 
 pub returns-clause-memory : goal.returns-clause-memory
 returns-clause-memory g c =
-    subst (λ (r : Result ImageSize ImageError). IfErr r (λ e. is_memory e ≡ false)) (sym c.with_error.ensures)
+    subst (λ (r : Result ImageSize ImageError). IfErr r (λ e. is_memory e ≡ false)) (sym c.with_error-answer.ensures)
     (no_memory c.size-found.new.source.ledger.progress.fault _ _)
 
 pub returns-clause-fault : goal.returns-clause-fault
 returns-clause-fault g c =
-    rw c.with_error.ensures
+    rw c.with_error-answer.ensures
+    (fault_settled _ _ c.size-found.new.source.ledger.progress.fault c.left-left.result _ _ _
+    (λ none. ap (λ r. g.R.Told.failure r) (c.settle.ensures.stays none))
     (fault_last _ c.size-found.new.source.ledger.progress.fault _ _ (search rules) c.size-found.ensures)
+    c.left-left.ensures.calm refl)
 
 pub returns-clause-leaves : goal.returns-clause-leaves
 returns-clause-leaves g c = λ telling opens.
-    leaves_reader telling _ _ _ _ c.args.opened
+    settled telling _ _ _ c.args.opened c.left-left.result opens
+    (λ none. ap (λ r. g.R.Told.telling r) (c.settle.ensures.stays none))
+    (leaves_reader telling _ _ _ _ c.args.opened
     c.size-found.new.source.ledger.progress.told c.size-found.new.source.ledger.progress.retries
     c.size-found.new.source.ledger.progress.fault _ _
-    c.new-source.ensures.state (search rules) c.size-found.ensures opens
+    c.new-source.ensures.state (search rules) c.size-found.ensures opens)
+    c.settle.ensures.seeks (search rules)

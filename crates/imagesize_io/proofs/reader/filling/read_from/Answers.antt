@@ -39,7 +39,13 @@ returns g c =
       since = filled.since ∙ goes.since;
       behind = filled.behind ∙ goes.behind;
       calm = filled.calm ∙ goes.calm;
-      keeps = keeps_both goes.keeps filled.keeps;
+      keeps = record {
+        told = filled.keeps.told ∙ goes.keeps.told;
+        budget = filled.keeps.budget ∙ goes.keeps.budget;
+        taken = omega (arith, goes.keeps.taken, filled.keeps.taken);
+        retries = omega (arith, goes.keeps.retries, filled.keeps.retries);
+        limit = λ few. filled.keeps.limit (goes.keeps.limit few);
+      };
       stops = tt;
     }
 

@@ -10,9 +10,9 @@ use Rattle.imagesize_io.proofs.TextReads.{kept_long, one_long, reader_sound, tak
 use Rattle.imagesize_io.proofs.reader.text.read_by_bytes.Goals as goal
 
 -- a reader that was not called
-same_state : {a a' : Account} {l l' : Ledger} (home : ℕ) → (a' ≡ a) × (l' ≡ l)
-    → reader_state a' home l'.progress l'.window.items ≡ reader_state a home l.progress l.window.items
-same_state home same = let first = same.0 in let second = same.1 in rw (first, second) refl
+same_state : (a : Account) {l l' : Ledger} (home : ℕ) → l' ≡ l
+    → reader_state a home l'.progress l'.window.items ≡ reader_state a home l.progress l.window.items
+same_state a home same = rw same refl
 
 -- the buffer's rest is as long as it was
 rest_long : (count : ℕ) (buffer rest : List ℕ) → length rest ≡ length (take (length buffer - count) (drop count buffer))
@@ -73,7 +73,7 @@ loop-count-preserved g c =
     let within : c.loop-count.count + m ≤ length c.loop-count.buffer = omega (arith, c.loop-count-test.true) in
     λ home.
     let read = c.in_ok-read_on.ensures.reads in
-    text_goes_on buffer (taking_kept c.loop-count.buffer m c.read_rest.new.buffer (c.loop-count.invariant home) (same_state home none) within long) c.saturating_add-next.result c.in_ok-read_on.field-0
+    text_goes_on buffer (taking_kept c.loop-count.buffer m c.read_rest.new.buffer (c.loop-count.invariant home) (same_state _ home none) within long) c.saturating_add-next.result c.in_ok-read_on.field-0
     (c.loop-count.count + 1 - c.loop-count.count) c.read_on.new.buffer
     (omega (arith, c.saturating_add-next.ensures)) fits (omega arith)
     (one_long c.loop-count.count buffer c.read_on.new.buffer fits c.read_on.auto.buffer) (read.runs home)
@@ -100,7 +100,7 @@ returns-in_err-read_on g c =
     record {
       bound = search rules;
       pays = search rules;
-      runs = λ home. rw is (text_stopped buffer (taking_kept c.loop-count.buffer m c.read_rest.new.buffer (c.loop-count.invariant home) (same_state home none) within long) c.saturating_add-next.result
+      runs = λ home. rw is (text_stopped buffer (taking_kept c.loop-count.buffer m c.read_rest.new.buffer (c.loop-count.invariant home) (same_state _ home none) within long) c.saturating_add-next.result
           (c.loop-count.count + 1 - c.loop-count.count) c.read_on.new.buffer
           (omega (arith, c.saturating_add-next.ensures)) fits (omega arith)
           (one_long c.loop-count.count buffer c.read_on.new.buffer fits c.read_on.auto.buffer)
@@ -136,9 +136,9 @@ returns-then-branch-eq0 g c =
     let none = c.read_rest.ensures.none c.in_default.is in
     let within : c.loop-count.count + m ≤ length c.loop-count.buffer = omega (arith, c.loop-count-test.true) in
     record {
-      bound = search (rules, (taking_kept c.loop-count.buffer m c.read_rest.new.buffer (c.loop-count.invariant 0) (same_state 0 none) within long).fits);
-      pays = λ some far. omega (arith, (taking_kept c.loop-count.buffer m c.read_rest.new.buffer (c.loop-count.invariant 0) (same_state 0 none) within long).pays some far, read.keeps.taken);
-      runs = λ home. input_ends buffer (taking_kept c.loop-count.buffer m c.read_rest.new.buffer (c.loop-count.invariant home) (same_state home none) within long) c.saturating_add-next.result c.in_ok-read_on.field-0
+      bound = search (rules, (taking_kept c.loop-count.buffer m c.read_rest.new.buffer (c.loop-count.invariant 0) (same_state _ 0 none) within long).fits);
+      pays = λ some far. omega (arith, (taking_kept c.loop-count.buffer m c.read_rest.new.buffer (c.loop-count.invariant 0) (same_state _ 0 none) within long).pays some far, read.keeps.taken);
+      runs = λ home. input_ends buffer (taking_kept c.loop-count.buffer m c.read_rest.new.buffer (c.loop-count.invariant home) (same_state _ home none) within long) c.saturating_add-next.result c.in_ok-read_on.field-0
           (c.loop-count.count + 1 - c.loop-count.count) c.read_on.new.buffer
           (omega (arith, c.saturating_add-next.ensures)) fits (omega arith)
           (one_long c.loop-count.count buffer c.read_on.new.buffer fits c.read_on.auto.buffer) (read.runs home)
@@ -162,14 +162,14 @@ returns-then-is_end g c =
     ) in
     let none = c.read_rest.ensures.none c.in_default.is in
     let within : c.loop-count.count + m ≤ length c.loop-count.buffer = omega (arith, c.loop-count-test.true) in
-    let told = ap (λ f. f.told) (taking_kept c.loop-count.buffer m c.read_rest.new.buffer (c.loop-count.invariant 0) (same_state 0 none) within long).took.frame in
+    let told = ap (λ f. f.told) (taking_kept c.loop-count.buffer m c.read_rest.new.buffer (c.loop-count.invariant 0) (same_state _ 0 none) within long).took.frame in
     record {
-      bound = search (rules, (taking_kept c.loop-count.buffer m c.read_rest.new.buffer (c.loop-count.invariant 0) (same_state 0 none) within long).fits);
+      bound = search (rules, (taking_kept c.loop-count.buffer m c.read_rest.new.buffer (c.loop-count.invariant 0) (same_state _ 0 none) within long).fits);
       pays = λ some far.
           let paid = read.pays (omega (arith, c.if-branch-eq0.false))
           (omega (arith, far, told, c.saturating_add-next.ensures, c.ranges.offset.fits)) in
-          omega (arith, paid.0, (taking_kept c.loop-count.buffer m c.read_rest.new.buffer (c.loop-count.invariant 0) (same_state 0 none) within long).took.taken);
-      runs = λ home. text_ends buffer (taking_kept c.loop-count.buffer m c.read_rest.new.buffer (c.loop-count.invariant home) (same_state home none) within long) c.saturating_add-next.result c.in_ok-read_on.field-0
+          omega (arith, paid.0, (taking_kept c.loop-count.buffer m c.read_rest.new.buffer (c.loop-count.invariant 0) (same_state _ 0 none) within long).took.taken);
+      runs = λ home. text_ends buffer (taking_kept c.loop-count.buffer m c.read_rest.new.buffer (c.loop-count.invariant home) (same_state _ home none) within long) c.saturating_add-next.result c.in_ok-read_on.field-0
           (c.loop-count.count + 1 - c.loop-count.count) c.read_on.new.buffer
           (omega (arith, c.saturating_add-next.ensures)) fits (omega arith)
           (one_long c.loop-count.count buffer c.read_on.new.buffer fits c.read_on.auto.buffer) (read.runs home)

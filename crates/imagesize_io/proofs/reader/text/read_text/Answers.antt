@@ -7,6 +7,6 @@ returns-in-Some g c =
     record {
       bound = held.bound;
       pays = λ some far. (held.reads.pays some far).0;
-      runs = λ home. held_text c.args.text c.args.offset c.in-Some.count c.read_held.new.buffer held.whole held.bound
+      runs = λ home. held_text c.args.text c.args.offset c.in-Some.count c.read_held_text.new.buffer held.whole held.bound
           (held.reads.runs home);
     }
