@@ -1,9 +1,7 @@
 -- The offset of a buffered reader, as far as it is known.
-use Rattle.std.specs.Prelude.{◌≡◌, ℕ, Bool, false, ◌==◌, List, [], length, take, drop, ◌≤◌, ◌+◌, ◌^◌, ◌<◌, ◌⊎◌, nat_lt, if◌then◌else◌, Option, None, Some, Result, Ok, Err, IfSome, ⊤}
+use Rattle.std.specs.Prelude.{◌≡◌, ℕ, Bool, false, ◌==◌, List, [], length, take, ◌+◌, ◌^◌, ◌<◌, ◌⊎◌, nat_lt, if◌then◌else◌, Option, None, Some, Result, Ok, Err, IfSome, ⊤}
 use Rattle.imagesize_source.specs.Input.{part}
 use Rattle.imagesize_io.specs.ReaderState.{kept_window}
-use Rattle.std.specs.Io.Buffered.{reader_buffer, reader_inner}
-use Rattle.std.specs.declared.io.buffered.BufReader.{BufReader}
 use Rattle.std.specs.declared.io.traits.SeekFrom.{SeekFrom}
 use Rattle.std.specs.declared.io.traits.SeekFrom.TheVariants.{Start}
 

@@ -1,5 +1,5 @@
 //! A buffered reader that keeps track of its offset.
-ghost use Rattle.std.specs.Prelude.{◌≡◌, ℕ, ◌+◌, ◌-◌, ◌≤◌, drop, length, take, Some, None, Ok, pos, IfOk, IfErr, IfSome};
+ghost use Rattle.std.specs.Prelude.{◌≡◌, ℕ, ◌+◌, ◌-◌, ◌≤◌, drop, length, Some, None, Ok, pos, IfOk, IfErr};
 ghost use Rattle.std.specs.Io.Buffered.{reader_buffer, reader_inner, reader_position, reader_remaining};
 ghost use Rattle.std.specs.Io.KnownBytes.{ReadConsumes};
 ghost use Rattle.std.specs.Io.Seek.{SeekMoves};

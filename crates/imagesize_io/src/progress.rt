@@ -14,7 +14,7 @@ pub struct Progress {
     pub taken: u64,
     /// The reader's offset.
     pub offset: u64,
-    /// The offset that the reader would have if each read had called it.
+    /// The offset that the reader would have if reads of the bytes that it holds had moved it.
     pub position: u64,
     /// How many interrupted reads were tried again.
     pub retries: u64,

@@ -63,16 +63,21 @@ impl<'a, R: Told> ReaderSource<'a, R> {
         ReaderSource { reader, ledger }
     }
 
-    /// The offset at which the reader is to be left, if it is not there: where the last read ended. Reads of the bytes that it
-    /// holds have not moved it. `None` after a fault.
+    /// The offset at which the reader is to be left, if it is elsewhere: where the last read past the first bytes ended. Reads of
+    /// bytes that the reader holds did not move it. `None` after a fault and after a spent budget.
     #[inline(always)]
     pub fn left(&self) -> Option<u64>
+        ensures position { IfSome result (λ position. position ≡ self.now.ledger.progress.position) }
         ensures told { IfSome result (λ position. position ≤ self.now.ledger.progress.told) }
         ensures calm { IfSome result (λ _. self.now.ledger.progress.fault ≡ None) }
     {
         let progress = &self.ledger.progress;
         let position = progress.position;
-        if position == progress.offset || position > progress.told || progress.fault.is_some() {
+        let is_spent = progress.taken == progress.budget;
+        if position == progress.offset || position > progress.told || is_spent {
+            return None;
+        }
+        if progress.fault.is_some() {
             return None;
         }
         Some(position)
@@ -148,8 +153,8 @@ pub fn open<R: Told>(reader: &mut R, origin: Origin) -> ImageResult<Opened>
     Ok(Opened { offset, told })
 }
 
-/// Moves a reader that is not used as a source any more to an offset, if there is one. The call has its result by then, so it does
-/// not matter whether the seek fails.
+/// Moves a reader that is no source any more to an offset, if there is one. The call has its result by then, so a seek that fails
+/// changes nothing of it.
 #[inline(always)]
 pub fn settle<R: Told>(reader: &mut R, left: Option<u64>)
     ensures stays { left ≡ None → reader.new ≡ reader.old }

@@ -1,5 +1,5 @@
 //! A reader at its start, with the length of its input.
-ghost use Rattle.std.specs.Prelude.{◌≡◌, ℕ, ◌<◌, ◌≤◌, length, take, None, Some, Ok, pos, false, true, [], Option, IsTrue, IfOk, IfErr, IfSome};
+ghost use Rattle.std.specs.Prelude.{◌≡◌, ℕ, ◌<◌, ◌≤◌, length, take, None, Some, Ok, pos, false, [], Option, IsTrue, IfOk, IfErr, IfSome};
 ghost use Rattle.std.specs.Io.Buffered.{reader_buffer, reader_inner, reader_position, reader_remaining};
 ghost use Rattle.std.specs.Io.KnownBytes.{ReadConsumes};
 ghost use Rattle.std.specs.Io.Seek.{SeekMoves};
@@ -91,9 +91,11 @@ impl<R: Read + Seek + Drop> SizedReader<R> {
         ensures { IsTrue result → target < length self.now.front.items }
     {
         match self.reader.offset() {
-            Some(offset) => target < self.front.len() as u64
-                && offset > BLOCK
-                && offset - BLOCK > target,
+            Some(offset) => {
+                // Where the buffer ends. It has at most the bytes of a block before.
+                let end = offset.saturating_add(self.reader.buffer().len() as u64);
+                target < self.front.len() as u64 && end > BLOCK && end - BLOCK > target
+            }
             None => false,
         }
     }

@@ -2,10 +2,12 @@
 
 use crate::inputs::GIF;
 use imagesize::{
-    ImageError, ImageResult, ImageSize, ImageType, Reason, reader_probe, reader_size, reader_type,
+    ImageError, ImageResult, ImageSize, ImageType, Reason, Told, reader_probe, reader_size,
+    reader_type,
 };
+use imagesize_io::SizedReader;
 use imagesize_readers::readers::{Calls, Claiming, Counting, Endless};
-use std::io::Cursor;
+use std::io::{self, BufReader, Cursor, Read, Seek, SeekFrom};
 use std::test::Fail;
 
 const GIF_SIZE: ImageSize = ImageSize {
@@ -195,6 +197,51 @@ fn an_endless_reader_is_read_until_the_budget_is_spent(rt: HostRuntime) -> Resul
             is_spent(&kind.reader_size(&mut endless(stream))),
             "{kind:?}"
         );
+    }
+    Ok(())
+}
+
+// A file that has grown: it reports its end at 100.
+#[derive(Drop)]
+struct Grown<'a> {
+    inner: Cursor<&'a [u8]>,
+}
+
+impl Read for Grown<'_> {
+    fn read(&mut self, buffer: &mut [u8]) -> io::Result<usize> {
+        self.inner.read(buffer)
+    }
+}
+
+impl Seek for Grown<'_> {
+    fn seek(&mut self, to: SeekFrom) -> io::Result<u64> {
+        match to {
+            SeekFrom::End(0) => self.inner.seek(SeekFrom::Start(100)),
+            _ => self.inner.seek(to),
+        }
+    }
+}
+
+#[test]
+fn a_buffered_reader_that_has_grown_is_read_until_the_budget_is_spent(
+    rt: HostRuntime,
+) -> Result<(), Fail> {
+    for stream in streams() {
+        let kind = stream.kind;
+        let mut bytes = Vec::from_elem(rt.alloc(), 0u8, 4096)?;
+        let mut endless = endless(stream).reader;
+        assert!(rt; matches!(endless.read_told(bytes.as_mut_slice()), Ok(4096)));
+        let inner = Grown {
+            inner: Cursor::new(bytes.as_slice()),
+        };
+        let mut reader = BufReader::new(rt.alloc(), inner)?;
+        let probed = reader_probe(&mut reader);
+        assert!(rt; is_spent(&probed.answer), "{kind:?}");
+        assert_eq!(rt; probed.taken, 164);
+        assert!(rt; is_spent(&kind.reader_size(&mut reader)), "{kind:?}");
+        let inner = Cursor::new(bytes.as_slice());
+        let sized = SizedReader::new(BufReader::new(rt.alloc(), inner)?, Some(100));
+        assert!(rt; is_spent(&reader_size(sized)), "{kind:?}");
     }
     Ok(())
 }

@@ -12,7 +12,7 @@ use imagesize_source::Text;
 
 /// Fills the buffer from an offset on, if the reader holds all of these bytes. Returns whether it did.
 ///
-/// Most reads of a buffered reader are such. For them this saves the search of the first bytes, a seek and a read.
+/// A buffered reader holds the bytes of most reads. This saves the search of the first bytes, a seek and a read.
 #[inline(always)]
 pub(super) fn read_held<R: Told>(
     reader: &R,
@@ -25,7 +25,7 @@ pub(super) fn read_held<R: Told>(
         (account R.telling R.count R.failure reader.now) (account R.telling R.count R.failure reader.now) offset buffer.new
         (Ok (length buffer.new)) }
 {
-    // The proof needs that the window is not longer than its capacity. It has no byte from there on, and keeps none.
+    // The window has no byte past its capacity, and keeps none. The proof needs that it is not longer.
     let _length = ledger.window.len();
     if offset < WINDOW as u64 || buffer.is_empty() {
         return false;
@@ -67,13 +67,16 @@ pub(super) fn read_held_text<R: Told>(
     Some(count)
 }
 
-// The bytes that the reader holds from an offset on, as many as the budget has. `None` if they begin later, or end earlier, or if the
-// offset is past the reported length.
+// The bytes that the reader holds from an offset on, up to the reported length and as many as the budget has. `None` if they begin
+// later or end earlier, or if the offset is past the reported length.
+//
+// A read past the reported length continues only where the last one ended, and calls the reader. So no byte past it is read here.
 #[inline(always)]
 fn held_from<'r, R: Told>(reader: &'r R, ledger: &Ledger, offset: u64) -> Option<&'r [u8]>
     ensures there { IfSome result (λ bytes. HoldsFrom (R.telling reader.now) ledger.now.progress.offset offset bytes.now) }
     ensures ahead { IfSome result (λ _. ledger.now.progress.offset ≤ offset) }
     ensures told { IfSome result (λ _. offset ≤ ledger.now.progress.told) }
+    ensures within { IfSome result (λ bytes. offset + length bytes.now ≤ ledger.now.progress.told) }
     ensures paid { IfSome result (λ bytes. ledger.now.progress.taken + length bytes.now ≤ ledger.now.progress.budget) }
     ensures counts { IfSome result (λ bytes. 0 < length bytes.now → R.count reader.now ≡ None) }
 {
@@ -88,7 +91,8 @@ fn held_from<'r, R: Told>(reader: &'r R, ledger: &Ledger, offset: u64) -> Option
     }
     let bytes = &held[ahead as usize..];
     let left = progress.budget - progress.taken;
-    Some(&bytes[..bytes.len().min(left as usize)])
+    let most = left.min(progress.told - offset);
+    Some(&bytes[..bytes.len().min(most as usize)])
 }
 
 // Counts bytes that the reader holds. The reader stays where it is.

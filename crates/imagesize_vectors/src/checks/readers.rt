@@ -165,7 +165,7 @@ pub fn check_memory(alloc: Global, row: &Row<'_>) -> Result<(), Wrong> {
 pub fn check_held(alloc: Global, row: &Row<'_>) -> Result<(), Wrong> {
     let length = row.bytes.len() as u64;
     for capacity in [1usize, 50, 8192] {
-        for offset in [0, 7, length] {
+        for offset in [0, 7, length, length.saturating_add(9)] {
             let mut reader = Cutting::one_byte(cursor_at(row, offset));
             let mut buffered = BufReader::with_capacity(
                 alloc,

@@ -1,4 +1,4 @@
-use Rattle.std.proofs.Common.{◌≡◌, ◌≤◌, ◌<◌, ◌+◌, ◌-◌, ◌^◌, ℕ, min, ap, arith, length, rules, sym, take, ◌∙◌}
+use Rattle.std.proofs.Common.{◌≡◌, ◌≤◌, ◌<◌, ℕ, ap, arith, length, rules, sym, take, ◌∙◌}
 use Rattle.imagesize_io.proofs.HeldReads.{Passed, full_window, held_front}
 use Rattle.imagesize_io.proofs.reader.held.read_held.Goals as goal
 

@@ -1,4 +1,4 @@
-use Rattle.std.proofs.Common.{arith, length, rules, take}
+use Rattle.std.proofs.Common.{arith, rules, take}
 use Rattle.std.proofs.lemmas.List.{length-take}
 use Rattle.imagesize_io.proofs.HeldReads.{held_front, whole_some}
 use Rattle.imagesize_io.proofs.reader.held.read_held_text.Goals as goal
