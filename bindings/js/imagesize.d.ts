@@ -134,6 +134,10 @@ export function probeFile(path: string | URL, options?: Options): Promise<Image 
  * cancelled as soon as there is a result, an error or an abort: a reader by `cancel()`, an iterator by `return()`, and a stream of
  * Node by `destroy()`.
  *
+ * A request in a Node server is not destroyed, because the reply goes through its socket. Its bytes are stored until there is a
+ * result, and are then given back: the server can reply, and can read the whole body as if nothing had been read. If the server does
+ * not read the body, it calls `request.resume()` after its reply, so that the connection can be used again.
+ *
  * @throws {ImageError} as `probe`; `'CUT_SHORT'` if the stream ends before `total` bytes, `'LIMIT_REACHED'`
  * @throws {RangeError} if `total` or `maxBytes` is no whole number of bytes
  * @throws {TypeError} if the argument is no stream, if it is locked, or if a chunk is not bytes

@@ -55,7 +55,7 @@ export async function probeUrl(url, options) {
   return probeSource(new Remote(url, options?.signal), MEBIBYTE, options);
 }
 
-/** Type and size of the image in a stream. It is read up to the result, and then cancelled. */
+/** Type and size of the image in a stream. It is read up to the result, and then cancelled; a request gets its bytes back. */
 export async function probeStream(stream, { total = Infinity, ...options } = {}) {
   const whole = new Body(stream, { expected: total, signal: options.signal });
   return probeSource({ total, whole, read: () => null }, 64 * MEBIBYTE, options);

@@ -25,6 +25,7 @@ HERE = pathlib.Path(__file__).resolve().parent
 TOP = HERE.parent.parent
 PACKAGE = "imagesize_proved"
 LIBRARY = "libimagesize.so"
+EXAMPLES = ("form.py", "remote.py", "upload.py")
 EPOCH = int(os.environ.get("SOURCE_DATE_EPOCH", "315532800"))
 
 Files = List[Tuple[str, bytes]]
@@ -98,7 +99,15 @@ def digest(data: bytes) -> str:
 def package() -> Files:
     """Each file of the package, with its path."""
     sources = sorted((HERE / PACKAGE).glob("*.py")) + [HERE / PACKAGE / "py.typed"]
-    return [(f"{PACKAGE}/{source.name}", source.read_bytes()) for source in sources] + [(f"{PACKAGE}/{LIBRARY}", library())]
+    files = [(f"{PACKAGE}/{source.name}", source.read_bytes()) for source in sources]
+    files += [(f"{PACKAGE}/examples/{name}", example(name)) for name in EXAMPLES]
+    return files + [(f"{PACKAGE}/{LIBRARY}", library())]
+
+
+def example(name: str) -> bytes:
+    """An example, which an sdist has in the package, and the repository in a folder of its own."""
+    packed = HERE / PACKAGE / "examples" / name
+    return (packed if packed.exists() else TOP / "examples" / name).read_bytes()
 
 
 def library() -> bytes:

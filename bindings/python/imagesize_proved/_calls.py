@@ -9,7 +9,7 @@ from typing import TYPE_CHECKING, Any, Awaitable, Callable, List, Optional, Prot
 
 from ._library import PNG, Told, png_spans, probe_front, probe_two, probe_whole, spans_of, type_of
 from ._parts import BLOCK, BUDGET, SPENT, WANTED, BytesLike, Parts, Stored, blocks, bytes_in, checked, first_block
-from ._stream import AsyncChunks, Chunks, is_read_once, read_once, read_once_async
+from ._stream import AsyncChunks, Chunks, Keep, is_read_once, read_once, read_once_async
 from ._types import ImageError, ImageType, Probed, Size, Span, Status, filename, known_type, probed
 
 if TYPE_CHECKING:
@@ -39,7 +39,7 @@ LIMIT = 1 << 16
 _FLAGS = (os.O_RDONLY | os.O_NONBLOCK,)  # so that a pipe without a writer does not wait
 
 
-def probe(image: Input, *, budget: int = BUDGET) -> Probed:
+def probe(image: Input, *, budget: int = BUDGET, keep: Keep = None) -> Probed:
     """Type and size in pixels of the image in some bytes, at a path, in an open binary file, or in an iterable of chunks.
 
         >>> probe("photo.gif").size
@@ -50,13 +50,16 @@ def probe(image: Input, *, budget: int = BUDGET) -> Probed:
 
     Some files are read once, from their offset on, up to the block with the last byte that the result depends on. They are those
     that cannot seek, such as a pipe, and those that decompress, such as a `gzip.GzipFile`. At most 4095 bytes after that byte are
-    read, and no byte is given back. Of chunks no more are fetched than are needed, and then a generator is closed.
+    read, and no byte is given back. Of chunks no more are fetched than are needed, and then a generator is closed. To go on with
+    what follows, pass a list as `keep`: the chunks that were read are appended to it, and a generator stays open.
 
     Raises `ImageError` if there is no type or no size: its `status` says why. It is `BUDGET_SPENT` if more than `budget` bytes of a
     file would be read, or if `budget` bytes of what is read once have no result. Raises `ValueError` if `budget` is not a whole
     number of at least 1. A file that cannot be read raises its `OSError`, and one that becomes shorter meanwhile `EOFError`.
     """
     budget = checked(budget)
+    if keep is not None:
+        return probed(_kept(image, budget, keep), image)
     if type(image) is str:
         return probed(_at(image, budget, _told_in), image)
     if type(image) is bytes:
@@ -103,21 +106,26 @@ async def probe_async(read: Callable[[int, int], Awaitable[BytesLike]], length: 
 
 
 @overload
-async def probe_async(read: AsyncChunks, length: Optional[int] = None, *, budget: int = BUDGET) -> Probed: ...
+async def probe_async(
+    read: AsyncChunks, length: Optional[int] = None, *, budget: int = BUDGET, keep: Keep = None
+) -> Probed: ...
 
 
-async def probe_async(read: Any, length: Any = None, *, budget: int = BUDGET) -> Probed:
+async def probe_async(read: Any, length: Any = None, *, budget: int = BUDGET, keep: Keep = None) -> Probed:
     """Type and size of the image in an input of `length` bytes. The coroutine function `read(start, length)` returns some of them.
 
         >>> await probe_async(request.stream())
 
     Instead of a function it also takes an asynchronous iterable of chunks, or a file whose `read(size)` is a coroutine function,
-    such as an `asyncio.StreamReader`. These are read once, as by `probe`, and their `length` may be left out. Other errors and
-    bounds are those of `probe_with`.
+    such as an `asyncio.StreamReader`. These are read once, as by `probe`, and their `length` may be left out. With a list `keep`
+    the chunks that were read are appended to it, and an asynchronous generator stays open, so that a server can go on with the
+    body. Other errors and bounds are those of `probe_with`.
     """
     budget = checked(budget)
     if not callable(read):
-        return probed(await read_once_async(read, length, budget))
+        return probed(await read_once_async(read, length, budget, keep))
+    if keep is not None:
+        raise TypeError("keep is for chunks and files: a function fetches any bytes again")
     first = first_block(length, budget)
     parts = Parts(await read(0, first) if first else b"", length, budget)
     while parts.length:
@@ -164,6 +172,12 @@ def _told(image: Input, budget: int) -> Told:
     if is_read_once(image):
         return read_once(image, budget)  # type: ignore[arg-type]
     return _parts(image, budget).told  # type: ignore[arg-type]
+
+
+def _kept(image: Input, budget: int, keep: Keep) -> Told:
+    if isinstance(image, (str, os.PathLike)) or not is_read_once(image):
+        raise TypeError("keep is for chunks and for files that are read once: this image can be read again")
+    return read_once(image, budget, keep)  # type: ignore[arg-type]
 
 
 def _parts(image: Image, budget: int, stored: Optional[Stored] = None) -> Parts:

@@ -5,7 +5,7 @@ from __future__ import annotations
 import mmap
 import sys
 from collections import abc
-from typing import AsyncIterable, AsyncIterator, Awaitable, Callable, Iterable, Iterator, NoReturn, Optional, Protocol, Union
+from typing import AsyncIterable, AsyncIterator, Awaitable, Callable, Iterable, Iterator, List, NoReturn, Optional, Protocol, Union
 
 from ._library import Stream, Told
 from ._parts import BLOCK, BUDGET, LONGEST, SPENT, WANTED, BytesLike, bytes_in, checked, checked_total
@@ -26,6 +26,7 @@ class AsyncReadableFile(Protocol):
 
 Chunks = Union[ReadableFile, Iterable[BytesLike]]
 AsyncChunks = Union[AsyncReadableFile, AsyncIterable[BytesLike]]
+Keep = Optional[List[BytesLike]]
 
 _PIECE = 1 << 16  # the bytes that are passed in one call: other threads run in between, and no more are copied
 
@@ -118,16 +119,21 @@ def _seeks(file: object) -> bool:
     return bool(seekable()) if seekable else hasattr(file, "seek")
 
 
-def read_once(image: Chunks, budget: int) -> Told:
-    """Type and size of the image in chunks, or in a file from its offset on. No more is read than is needed, but for its block."""
+def read_once(image: Chunks, budget: int, keep: Keep = None) -> Told:
+    """Type and size of the image in chunks, or in a file from its offset on. No more is read than is needed, but for its block.
+
+    With a list `keep`, the chunks that were read are appended to it, and a generator stays open.
+    """
     stream = StreamProbe(budget=budget)
     chunks = iter(_chunks(image, stream))
     try:
         for chunk in chunks:
+            if keep is not None:
+                keep.append(chunk)
             if stream._add(chunk):
                 break
     finally:
-        if isinstance(chunks, abc.Generator):
+        if keep is None and isinstance(chunks, abc.Generator):
             chunks.close()
     return stream._end()
 
@@ -139,16 +145,18 @@ def _chunks(image: Chunks, stream: StreamProbe) -> Iterable[BytesLike]:
     return iter(lambda: read(min(BLOCK, stream._left)), b"")
 
 
-async def read_once_async(image: AsyncChunks, total: Optional[int], budget: int) -> Told:
+async def read_once_async(image: AsyncChunks, total: Optional[int], budget: int, keep: Keep = None) -> Told:
     """The same of chunks that are awaited, in an input of this length if it is known."""
     stream = StreamProbe(total, budget=budget)
     chunks = _awaited_chunks(image, stream)
     try:
         async for chunk in chunks:
+            if keep is not None:
+                keep.append(chunk)
             if stream._add(chunk):
                 break
     finally:
-        if isinstance(chunks, abc.AsyncGenerator):
+        if keep is None and isinstance(chunks, abc.AsyncGenerator):
             await chunks.aclose()
     return stream._end()
 
