@@ -36,7 +36,8 @@ async function received(request, folder, paths) {
     form.on('file', (field, file) => {
       file.on('error', (error) => reject(new BadRequest(error.message))); // of a form that is cut
       paths.push(join(folder, randomUUID()));
-      const image = stored(file, paths.at(-1)).then(({ kind, width, height }) => `${field}: ${kind} ${width}x${height}`);
+      const image = stored(file.iterator({ destroyOnReturn: false }), paths.at(-1))
+        .then(({ kind, width, height }) => `${field}: ${kind} ${width}x${height}`);
       image.catch(reject);
       images.push(image);
     });
