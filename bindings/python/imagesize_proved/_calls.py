@@ -5,11 +5,13 @@ from __future__ import annotations
 import ctypes
 import os
 import sys
-from typing import TYPE_CHECKING, Any, Awaitable, Callable, List, Optional, Protocol, Tuple, TypeVar, Union, overload
+from contextlib import contextmanager
+from functools import partial
+from typing import TYPE_CHECKING, Any, Awaitable, Callable, Iterator, List, Optional, Protocol, Tuple, TypeVar, Union, overload
 
 from ._library import PNG, Told, png_spans, probe_front, probe_two, probe_whole, spans_of, type_of
-from ._parts import BLOCK, BUDGET, SPENT, WANTED, BytesLike, Parts, Stored, blocks, bytes_in, checked, first_block
-from ._stream import AsyncChunks, Chunks, Keep, is_read_once, read_once, read_once_async
+from ._parts import BLOCK, BUDGET, SPENT, WANTED, BytesLike, Parts, Stored, TypeParts, blocks, bytes_in, checked, checked_limit, first_block
+from ._stream import AsyncChunks, Chunks, Keep, check_binary, is_read_once, read_once, read_once_async
 from ._types import ImageError, ImageType, Probed, Size, Span, Status, filename, known_type, probed
 
 if TYPE_CHECKING:
@@ -75,10 +77,11 @@ def size(image: Input, *, budget: int = BUDGET) -> Size:
 def image_type(image: Input, *, budget: int = BUDGET) -> ImageType:
     """The type, also of an image whose size is an error. Takes and raises what `probe` does.
 
-    Of bytes only those are looked at that tell the type, so that the first twelve of a file are enough for most types.
+    Only those bytes are looked at that tell the type. For most types they are the first twelve, so that of a file one block is read.
+    An input that is read once is read up to its size.
     """
     budget = checked(budget)
-    status, told = type_of(image) if type(image) is bytes else _told(image, budget)
+    status, told = type_of(image) if type(image) is bytes else _type(image, budget)
     if not told[0]:
         raise ImageError(status, None, filename(image))
     return known_type(told[0], told[1])
@@ -138,9 +141,10 @@ def spans(image: Image, *, limit: int = LIMIT, budget: int = BUDGET) -> List[Spa
 
     Every other input of this length that has the same bytes there has the same type and size, or the same error. Takes what
     `probe` does. Raises `ImageError` with `BUFFER_TOO_SMALL` where there are more than `limit` spans, and with `OUT_OF_MEMORY`
-    where a file is longer than the addresses that the process may have. Else raises as `probe`, but not the errors of the image.
+    where a file is longer than the addresses that the process may have. Raises `ValueError` if `limit` is not a whole number of at
+    least 0. Else raises as `probe`, but not the errors of the image.
     """
-    status, told = _spans(image, limit, checked(budget))
+    status, told = _spans(image, checked_limit(limit), checked(budget))
     if status:
         raise ImageError(status, None, filename(image))
     return list(map(Span, told[::2], told[1::2]))
@@ -164,6 +168,30 @@ def _spans(image: Image, limit: int, budget: int) -> Tuple[int, List[int]]:
 
 def _within(limit: int, numbers: List[int]) -> Tuple[int, List[int]]:
     return (0, numbers) if len(numbers) <= 2 * limit else (Status.BUFFER_TOO_SMALL, [])
+
+
+def _type(image: Input, budget: int) -> Told:
+    if isinstance(image, (str, os.PathLike)):
+        return _at(image, budget, lambda file, most: _type_of(TypeParts(*_front(file, most), most), partial(_pread, file)))
+    if is_read_once(image):
+        return read_once(image, budget)  # type: ignore[arg-type]
+    try:
+        view = bytes_in(image)  # type: ignore[arg-type]
+    except TypeError:
+        return _type_of_file(image, budget)  # type: ignore[arg-type]
+    with view:
+        return _type_of(TypeParts(view[:BLOCK], view.nbytes, sys.maxsize), lambda start, length: view[start : start + length])
+
+
+def _type_of(parts: TypeParts, fetch: Callable[[int, int], BytesLike]) -> Told:
+    while parts.length:
+        parts.add(fetch(parts.start, parts.length))
+    return parts.told
+
+
+def _type_of_file(file: BinaryFile, budget: int) -> Told:
+    with _whole(file) as total:
+        return _type_of(TypeParts(_read(file, 0, first_block(total, budget)), total, budget), partial(_read, file))
 
 
 def _told(image: Input, budget: int) -> Told:
@@ -243,18 +271,29 @@ def _followed(file: int, parts: Parts) -> Parts:
 
 
 def _parts_of_file(file: BinaryFile, budget: int, stored: Optional[Stored] = None) -> Parts:
+    with _whole(file) as total:
+        parts = Parts(_read(file, 0, first_block(total, budget)), total, budget, stored)
+        while parts.length:
+            parts.add(_read(file, parts.start, parts.length))
+        return parts
+
+
+@contextmanager
+def _whole(file: BinaryFile) -> Iterator[int]:
+    """The length of an open file, which is left at its offset."""
+    check_binary(file)
     if not hasattr(file, "read"):
         raise TypeError(f"an image is bytes, a path or an open binary file, and not {type(file).__name__}")
     offset = file.tell()
     try:
         file.seek(0, os.SEEK_END)
-        total = file.tell()
-        parts = Parts(_read(file, 0, first_block(total, budget)), total, budget, stored)
-        while parts.length:
-            parts.add(_read(file, parts.start, parts.length))
-        return parts
+        yield file.tell()
     finally:
         file.seek(offset)
+
+
+def _pread(file: int, start: int, length: int) -> bytes:
+    return os.pread(file, length, start)
 
 
 def _read(file: BinaryFile, start: int, length: int) -> bytes:

@@ -337,8 +337,9 @@ class Iterables(unittest.TestCase):
 
     def test_other_things(self) -> None:
         things: List[Any] = [[71, 73], ["GIF89a"], [None], 7, object(), awaited([GIF]), awaited]
+        calls: List[Callable[..., Any]] = [imagesize.probe, imagesize.size, imagesize.image_type]
         for thing in things:
-            for call in (imagesize.probe, imagesize.size, imagesize.image_type):
+            for call in calls:
                 self.assertRaises(TypeError, call, thing)
         others: List[Any] = [GIF, [GIF], 7, None, io.BytesIO(GIF), awaited([1])]  # type: ignore[list-item]
         for other in others:
@@ -473,8 +474,9 @@ class Files(unittest.TestCase):
 
     def test_pipe(self) -> None:
         """Nobody waits for bytes that are not needed, though the other end is open."""
+        calls: List[Callable[..., Any]] = [imagesize.probe, imagesize.size, imagesize.image_type]
         for buffering in (-1, 0):
-            for call in (imagesize.probe, imagesize.size, imagesize.image_type):
+            for call in calls:
                 call(self.pipe(GIF, buffering)[0])
             file, _ = self.pipe(GIF + b"rest" * 2000, buffering)
             self.assertEqual(imagesize.probe(file).size, (640, 480))
@@ -612,7 +614,9 @@ class Kept(unittest.TestCase):
         self.assertEqual(b"".join([*kept, *chunks]), self.IMAGE)
 
     def test_files(self) -> None:
-        for file in (Once(self.IMAGE, 3000), OnlyRead(self.IMAGE), gzip.GzipFile(fileobj=io.BytesIO(gzip.compress(self.IMAGE)))):
+        packed = gzip.GzipFile(fileobj=io.BytesIO(gzip.compress(self.IMAGE)))
+        files: List[Any] = [Once(self.IMAGE, 3000), OnlyRead(self.IMAGE), packed]
+        for file in files:
             kept: List[Any] = []
             self.assertEqual(imagesize.probe(file, keep=kept).size, imagesize.size(self.IMAGE))
             self.assertLess(len(b"".join(kept)), 20000)
@@ -648,7 +652,8 @@ class Kept(unittest.TestCase):
         self.assertEqual((raised.exception.status, len(kept)), (Status.BUDGET_SPENT, 3))
 
     def test_images_that_can_be_read_again(self) -> None:
-        for image in (GIF, bytearray(GIF), "photo.gif", io.BytesIO(GIF)):
+        images: List[Any] = [GIF, bytearray(GIF), "photo.gif", io.BytesIO(GIF)]
+        for image in images:
             with self.assertRaisesRegex(TypeError, "keep is for chunks"):
                 imagesize.probe(image, keep=[])
 
