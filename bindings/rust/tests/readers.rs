@@ -366,8 +366,12 @@ impl Read for Boastful {
 }
 
 impl Seek for Boastful {
-    fn seek(&mut self, _: SeekFrom) -> io::Result<u64> {
-        Ok(100)
+    fn seek(&mut self, to: SeekFrom) -> io::Result<u64> {
+        Ok(if matches!(to, SeekFrom::End(_)) {
+            100
+        } else {
+            0
+        })
     }
 }
 

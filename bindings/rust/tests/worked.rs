@@ -136,7 +136,7 @@ fn bytes_have_the_worked_answers() {
 
 #[test]
 fn what_may_surprise_is_as_the_readme_says() {
-    assert_eq!(surprises().len(), 8);
+    assert_eq!(surprises().len(), 14);
     for (data, wanted) in surprises() {
         assert_eq!(line(image_type(&data), blob_size(&data)), wanted);
         let cursor = || Cursor::new(&data);
