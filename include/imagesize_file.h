@@ -185,12 +185,12 @@ static inline uint32_t imagesize_file_push(struct imagesize_file_forward *forwar
     size_t missing = sizeof forward->front - forward->length, kept = got < missing ? got : missing;
     memcpy(forward->front + forward->length, chunk, kept);
     forward->length += kept;
-    uint32_t status = imagesize_file_png(forward->front, forward->length, image);
+    uint32_t status = imagesize_file_png(forward->front, forward->length, image), wanted = IMAGESIZE_BYTES_WANTED;
     if (image->type == IMAGESIZE_PNG) {
-        return status == IMAGESIZE_END_OF_INPUT ? IMAGESIZE_BYTES_WANTED : status;
+        return status == IMAGESIZE_END_OF_INPUT ? wanted : status;
     }
     status = imagesize_stream_push(&forward->stream, chunk, got, &image->type, &image->compression, &image->width, &image->height);
-    return imagesize_file_may_be_png(forward) ? IMAGESIZE_BYTES_WANTED : status;
+    return imagesize_file_may_be_png(forward) ? wanted : status;
 }
 
 /* Ends an input. */
