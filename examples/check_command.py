@@ -63,8 +63,8 @@ def both(program, *arguments, status=0, err="", **how):
     """What both commands print for these arguments. They end with this status, and say this on the standard error."""
     ours, theirs = (Ran(command, arguments, **how) for command in ([program], IN_PYTHON))
     for ran in (ours, theirs):
-        assert (ran.status, ran.err) == (status, err), f"{arguments}: status {ran.status}, {ran.err!r}, {ran.out!r}"
-    assert ours.out == theirs.out, f"{arguments}: C printed {ours.out!r}, and Python {theirs.out!r}"
+        assert (ran.status, ran.err) == (status, err), f"{arguments}: status {ran.status}, {ran.err!r}, {ran.out!r}"[-1000:]
+    assert ours.out == theirs.out, f"{arguments}: C printed {ours.out!r}, and Python {theirs.out!r}"[-1000:]
     return (ours.out or b"").decode()
 
 

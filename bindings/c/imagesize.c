@@ -19,7 +19,7 @@
 #include <stdarg.h>
 #include <stdbool.h>
 #include <sys/mman.h>
-#include <sys/types.h>
+#include <sys/wait.h>
 
 #ifndef IMAGESIZE_VERSION
 #define IMAGESIZE_VERSION "unknown"
@@ -631,6 +631,18 @@ static void collect_all(struct run *run)
     }
 }
 
+/* Ends the processes, which wait for a batch. */
+static void stop_workers(struct run *run)
+{
+    for (size_t i = 0; run->workers != NULL && i < run->options.jobs; i++) {
+        close(run->workers[i].to);
+        close(run->workers[i].from);
+        waitpid(run->workers[i].process, NULL, 0);
+    }
+    free(run->workers);
+    free(run->batch);
+}
+
 static void add_to_batch(struct run *run, const char *path)
 {
     size_t length = strlen(path) + 1;
@@ -819,6 +831,7 @@ int main(int count, char **words)
         describe_names(&run);
     }
     collect_all(&run);
+    stop_workers(&run);
     if (run.options.json && run.names > 0) {
         print(run.rows ? "\n]\n" : "[]\n");
     }
