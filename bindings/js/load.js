@@ -16,7 +16,7 @@ export function init(source) {
   return loading;
 }
 
-/** The address of a bundle for Node that is an ES module. node.mjs sets it. */
+/** The address of a bundle for Node that is an ES module. bundle.mjs sets it. */
 init.address = undefined;
 
 /** The library. Node loads it at the first call, from the file beside this module. */

@@ -5,9 +5,8 @@ from __future__ import annotations
 import ctypes
 import os
 import sys
-from contextlib import contextmanager
 from functools import partial
-from typing import TYPE_CHECKING, Any, Awaitable, Callable, Iterator, List, Optional, Protocol, Tuple, TypeVar, Union, overload
+from typing import TYPE_CHECKING, Any, Awaitable, Callable, List, Optional, Protocol, Tuple, TypeVar, Union, overload
 
 from ._library import PNG, Told, png_spans, probe_front, probe_two, probe_whole, spans_of, type_of
 from ._parts import BLOCK, BUDGET, SPENT, WANTED, BytesLike, Parts, Stored, TypeParts, blocks, bytes_in, checked, checked_limit, first_block
@@ -190,8 +189,10 @@ def _type_of(parts: TypeParts, fetch: Callable[[int, int], BytesLike]) -> Told:
 
 
 def _type_of_file(file: BinaryFile, budget: int) -> Told:
-    with _whole(file) as total:
+    def read(total: int) -> Told:
         return _type_of(TypeParts(_read(file, 0, first_block(total, budget)), total, budget), partial(_read, file))
+
+    return _whole(file, read)
 
 
 def _told(image: Input, budget: int) -> Told:
@@ -271,23 +272,24 @@ def _followed(file: int, parts: Parts) -> Parts:
 
 
 def _parts_of_file(file: BinaryFile, budget: int, stored: Optional[Stored] = None) -> Parts:
-    with _whole(file) as total:
+    def read(total: int) -> Parts:
         parts = Parts(_read(file, 0, first_block(total, budget)), total, budget, stored)
         while parts.length:
             parts.add(_read(file, parts.start, parts.length))
         return parts
 
+    return _whole(file, read)
 
-@contextmanager
-def _whole(file: BinaryFile) -> Iterator[int]:
-    """The length of an open file, which is left at its offset."""
+
+def _whole(file: BinaryFile, read: Callable[[int], T]) -> T:
+    """What `read` returns for an open file of so many bytes, which is left at its offset."""
     check_binary(file)
     if not hasattr(file, "read"):
         raise TypeError(f"an image is bytes, a path or an open binary file, and not {type(file).__name__}")
     offset = file.tell()
     try:
         file.seek(0, os.SEEK_END)
-        yield file.tell()
+        return read(file.tell())
     finally:
         file.seek(offset)
 
