@@ -62,6 +62,11 @@ test('import and require need no flag and no init, and give one module', () => {
   assert.equal(run('wasm.cjs', `console.log(require.resolve('imagesize-proved/imagesize.wasm'))`), join(installed, 'out/imagesize.wasm'));
 });
 
+test('import does not compile a parser of CommonJS modules, which takes longer than the package', () => {
+  const loaded = `import 'imagesize-proved'; console.log(process.moduleLoadList.filter((name) => name.includes('cjs-module-lexer')).length);`;
+  assert.equal(run('loaded.mjs', loaded), '0');
+});
+
 test('the WebAssembly has the exports that are listed, and asks for nothing', () => {
   const module = new WebAssembly.Module(bytes);
   const listed = JSON.parse(readFileSync(join(here, 'exports.json'), 'utf8')).map((entry) => entry.export);
