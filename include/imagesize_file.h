@@ -92,7 +92,8 @@ struct imagesize_file_rounds {
     uint64_t end;
 };
 
-/* The block around a span. On long walks it is as long as all that was read, so that they take few rounds. */
+/* The block around a span. On long walks it is as long as all that was read, so that they take few rounds. The first one has the size of
+ * a PNG. */
 static inline imagesize_span imagesize_file_block(const struct imagesize_file_rounds *rounds, imagesize_span wanted, uint64_t total)
 {
     imagesize_span block = {wanted.start - wanted.start % IMAGESIZE_FILE_BLOCK, 0};
@@ -101,6 +102,9 @@ static inline imagesize_span imagesize_file_block(const struct imagesize_file_ro
         grown += rounds->length < IMAGESIZE_FILE_MOST - rounds->length ? rounds->length : IMAGESIZE_FILE_MOST - rounds->length;
     }
     end = end > grown ? end : grown;
+    if (block.start == 0 && end < IMAGESIZE_PNG_FRONT) {
+        end = IMAGESIZE_PNG_FRONT;
+    }
     end += (IMAGESIZE_FILE_BLOCK - end % IMAGESIZE_FILE_BLOCK) % IMAGESIZE_FILE_BLOCK;
     block.len = (end < total ? end : total) - block.start;
     return block;
