@@ -9,11 +9,13 @@ repository.
 import json
 import os
 import pathlib
+import pty
 import re
 import socket
 import subprocess
 import sys
 import tempfile
+import time
 
 HERE = pathlib.Path(__file__).resolve().parent
 PACKAGE = HERE.parent / "bindings" / "python"
@@ -241,6 +243,27 @@ def check_output(program):
     print("output: a full disk and a closed pipe are said in one line")
 
 
+def check_progress(program):
+    """On a terminal a line says how far it is, from the first second on. It is gone at the end, and never among the rows."""
+    for command in ([program], IN_PYTHON):
+        ours, terminal = pty.openpty()
+        environment = {**os.environ, "PYTHONPATH": str(PACKAGE)}
+        ran = subprocess.Popen([*command, "a.gif", "-", "none"], env=environment, stdin=subprocess.PIPE, stdout=subprocess.PIPE, stderr=terminal)
+        os.close(terminal)
+        time.sleep(2)
+        out, _ = ran.communicate(GIF)
+        said = b""
+        try:
+            while block := os.read(ours, 1000):
+                said += block
+        except OSError:  # the end of a terminal
+            pass
+        os.close(ours)
+        assert re.fullmatch(rb"(\r[23] files, \d+ a second, [01] errors\x1b\[K)+\r\x1b\[K", said), said
+        assert out.count(b"\n") == 3 and b"files" not in out, out
+    print("progress: a line on a terminal")
+
+
 def check_usage(program):
     version = re.search(r"^VERSION = (.*)$", (HERE.parent / "bindings/c/Makefile").read_text(), re.M)[1]
     assert both(program, "--version") == f"{version}\n"
@@ -275,7 +298,7 @@ def main(program, worked):
         for name, data in FILES.items():
             pathlib.Path(name).write_bytes(data)
         for check in (check_lines, check_json, check_spans, check_recursive, check_names, check_jobs, check_standard_input, check_pipes, check_output,
-                      check_usage):
+                      check_progress, check_usage):
             check(program)
         check_test_vectors(program, worked)
         os.chdir("/")

@@ -15,11 +15,13 @@
 #include <dirent.h>
 #include <getopt.h>
 #include <inttypes.h>
+#include <math.h>
 #include <signal.h>
 #include <stdarg.h>
 #include <stdbool.h>
 #include <sys/mman.h>
 #include <sys/wait.h>
+#include <time.h>
 
 #ifndef IMAGESIZE_VERSION
 #define IMAGESIZE_VERSION "unknown"
@@ -133,11 +135,17 @@ struct worker {
     size_t paths;
 };
 
+/* The line on a terminal that says how far a run is: when it began and when the line is written next, in seconds. */
+struct progress {
+    double begun, next;
+    bool shown;
+};
+
 /* A run of the command: how many paths are named, what was printed so far, and the processes that read files. `batch` has the paths that none of them has. */
 struct run {
     struct options options;
-    size_t names, rows;
-    bool refused;
+    size_t names, rows, errors;
+    struct progress progress;
     struct worker *workers;
     size_t next, paths, length;
     char *batch;
@@ -496,9 +504,49 @@ static bool print_found(const char *path, const struct options *options)
     return row.status != IMAGESIZE_ANSWERED;
 }
 
+static double now(void)
+{
+    struct timespec time;
+    clock_gettime(CLOCK_MONOTONIC, &time);
+    return (double)time.tv_sec + (double)time.tv_nsec / 1e9;
+}
+
+/* Begins the line, which is written from the first second on, and on a terminal alone. */
+static struct progress begin_progress(void)
+{
+    double begun = now();
+    return (struct progress){begun, isatty(STDERR_FILENO) ? begun + 1 : HUGE_VAL, false};
+}
+
+static void clear_progress(struct progress *progress)
+{
+    if (progress->shown) {
+        fputs("\r\x1b[K", stderr);
+        progress->shown = false;
+    }
+}
+
+/* Counts a row that was printed, and writes the line, at most ten times a second. */
+static void end_row(struct run *run, bool refused)
+{
+    struct progress *progress = &run->progress;
+    run->errors += refused;
+    if (progress->next == HUGE_VAL || now() < progress->next) {
+        return;
+    }
+    check_output(fflush(stdout) == 0);
+    double second = (double)run->rows / (now() - progress->begun);
+    fprintf(stderr, "\r%zu files, %.0f a second, %zu errors\x1b[K", run->rows, second, run->errors);
+    progress->next = now() + 0.1;
+    progress->shown = true;
+}
+
 /* Counts a row, and prints what is before it. */
 static void begin_row(struct run *run)
 {
+    if (run->progress.shown && isatty(STDOUT_FILENO)) {
+        clear_progress(&run->progress);
+    }
     if (run->options.json) {
         print(run->rows ? ",\n" : "[\n");
     }
@@ -600,7 +648,7 @@ static void collect(struct run *run, struct worker *worker)
         check_process(read_all(worker->from, text, reply.length), "a process that reads files has ended");
         begin_row(run);
         check_output(fwrite(text, 1, reply.length, output) == reply.length);
-        run->refused |= reply.refused;
+        end_row(run, reply.refused);
         free(text);
     }
 }
@@ -666,7 +714,7 @@ static void describe(struct run *run, const char *path)
     }
     collect_all(run);
     begin_row(run);
-    run->refused |= print_found(path, &run->options);
+    end_row(run, print_found(path, &run->options));
 }
 
 /* What a path is: a folder, a link to one, a regular file or nothing, or something else, which is passed over. */
@@ -824,6 +872,7 @@ int main(int count, char **words)
     signal(SIGPIPE, SIG_IGN); /* a pipe that is closed is an error of a write */
     check_output(fcntl(STDOUT_FILENO, F_GETFD) >= 0);
     run.options = options_of(count, words);
+    run.progress = begin_progress();
     for (int i = optind; i < count; i++) {
         describe_path(&run, words[i]);
     }
@@ -832,6 +881,7 @@ int main(int count, char **words)
     }
     collect_all(&run);
     stop_workers(&run);
+    clear_progress(&run.progress);
     if (run.options.json && run.names > 0) {
         print(run.rows ? "\n]\n" : "[]\n");
     }
@@ -840,5 +890,5 @@ int main(int count, char **words)
         fprintf(stderr, "%simagesize: no file is named\n", USAGE);
         return 2;
     }
-    return run.refused;
+    return run.errors > 0;
 }
