@@ -134,7 +134,7 @@ export function probeFile(path: string | URL, options?: Options): Promise<Image 
 
 /**
  * Returns type and size of the image in a file at once, for programs that read one file after another. It works only in Node. It takes
- * a tenth of the time of `probeFile`, and other code waits meanwhile.
+ * a fifth to a tenth of the time of `probeFile`, and other code waits meanwhile.
  *
  * @throws {ImageError} as `probeFile`
  * @throws {Error} the error of the system, such as `ENOENT`

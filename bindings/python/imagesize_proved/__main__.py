@@ -154,18 +154,15 @@ def by_jobs(paths: Iterable[str], with_spans: bool, null: bool, jobs: int) -> It
 
     waiting: Deque[Callable[[], List[Row]]] = collections.deque()
     with ProcessPoolExecutor(jobs) as pool:
-        try:
-            for batch in batches(paths, null):
-                if batch == ["-"] and not null:
-                    waiting.append(functools.partial(rows_of, batch, with_spans, null))
-                else:
-                    waiting.append(pool.submit(rows_of, batch, with_spans, null).result)
-                if len(waiting) > 2 * jobs:
-                    yield from waiting.popleft()()
-            while waiting:
+        for batch in batches(paths, null):
+            if batch == ["-"] and not null:
+                waiting.append(functools.partial(rows_of, batch, with_spans, null))
+            else:
+                waiting.append(pool.submit(rows_of, batch, with_spans, null).result)
+            if len(waiting) > 2 * jobs:
                 yield from waiting.popleft()()
-        finally:
-            pool.shutdown(wait=False)
+        while waiting:
+            yield from waiting.popleft()()
 
 
 def batches(paths: Iterable[str], null: bool) -> Iterator[List[str]]:

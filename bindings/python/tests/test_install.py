@@ -70,7 +70,7 @@ class Install(unittest.TestCase):
         with tempfile.TemporaryDirectory() as sources:
             with tarfile.open(pathlib.Path(sources) / build_wheel.build_sdist(sources)) as sdist:
                 sdist.extractall(sources)
-            (unpacked,) = pathlib.Path(sources).glob("imagesize_proved-*/")
+            unpacked = pathlib.Path(sources) / f"imagesize_proved-{imagesize_proved.__version__}"
             library = unpacked / "imagesize_proved" / "libimagesize.so"
             data = bytearray(library.read_bytes())
             data[18] = 183  # the machine of an ELF file: AArch64
