@@ -176,14 +176,7 @@ struct imagesize_file_forward {
     size_t length;
 };
 
-/* Whether the first bytes may yet be those of a PNG: too few came to tell. */
-static inline int imagesize_file_may_be_png(const struct imagesize_file_forward *forward)
-{
-    static const uint8_t signature[8] = {0x89, 0x50, 0x4e, 0x47, 0x0d, 0x0a, 0x1a, 0x0a};
-    return forward->length < sizeof signature && memcmp(forward->front, signature, forward->length) == 0;
-}
-
-/* Passes the next bytes of an input. */
+/* Passes the next bytes of an input. The push parser has no result before twelve bytes, and a PNG is known by eight. */
 static inline uint32_t imagesize_file_push(struct imagesize_file_forward *forward, const uint8_t *chunk, size_t got, imagesize_image *image)
 {
     size_t missing = sizeof forward->front - forward->length, kept = got < missing ? got : missing;
@@ -193,8 +186,7 @@ static inline uint32_t imagesize_file_push(struct imagesize_file_forward *forwar
     if (image->type == IMAGESIZE_PNG) {
         return status == IMAGESIZE_END_OF_INPUT ? wanted : status;
     }
-    status = imagesize_stream_push(&forward->stream, chunk, got, &image->type, &image->compression, &image->width, &image->height);
-    return imagesize_file_may_be_png(forward) ? wanted : status;
+    return imagesize_stream_push(&forward->stream, chunk, got, &image->type, &image->compression, &image->width, &image->height);
 }
 
 /* Ends an input. */
