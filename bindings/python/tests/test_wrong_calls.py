@@ -7,6 +7,7 @@ import os
 import pathlib
 import pickle
 import re
+import shutil
 import subprocess
 import sys
 import tempfile
@@ -281,3 +282,14 @@ class Libraries(unittest.TestCase):
 
     def test_wrong_library(self) -> None:
         self.assertRegex(self.importing("libc.so.6"), "ImportError: .*imagesize_type.*examples/run build")
+
+    def test_packed_library_of_another_platform(self) -> None:
+        """An installed package says where its library runs, and not how the repository builds one."""
+        with tempfile.TemporaryDirectory() as folder:
+            shutil.copytree(PACKAGE / "imagesize_proved", pathlib.Path(folder) / "imagesize_proved")
+            (pathlib.Path(folder) / "imagesize_proved" / "libimagesize.so").write_bytes(b"\xcf\xfa\xed\xfe")
+            environment = {**os.environ, "PYTHONPATH": folder}
+            environment.pop("IMAGESIZE_LIBRARY", None)
+            command = [sys.executable, "-c", "import imagesize_proved"]
+            said = subprocess.run(command, env=environment, stderr=subprocess.PIPE, text=True, cwd=folder).stderr
+        self.assertRegex(said, r"ImportError: .*libimagesize\.so.*; it runs on Linux on x86-64 processors, with glibc\n$")
