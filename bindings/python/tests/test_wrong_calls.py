@@ -169,6 +169,7 @@ class Arguments(unittest.TestCase):
             with self.assertRaisesRegex(ValueError, "a limit is a whole number of spans, at least 0, and not"):
                 imagesize.spans(GIF, limit=limit)
         self.assertEqual(len(imagesize.spans(GIF, limit=3)), 3)
+        self.assertEqual(imagesize.spans(b"", limit=0), [])
 
     def test_views(self) -> None:
         words = memoryview(GIF * 3).cast("I")
