@@ -77,6 +77,23 @@ def python_media():
     return lines
 
 
+def c_messages():
+    """The message of each error as a C array has it: that of Python."""
+    return [f"    [IMAGESIZE_{name}] = \"{MESSAGES.get(name, comment)}\","
+            for name, (_, comment) in constants("status").items() if name not in NO_ERRORS]
+
+
+def c_statuses():
+    """The name of each error, as a C array has it."""
+    return [f"    [IMAGESIZE_{name}] = \"{name}\"," for name in constants("status") if name not in NO_ERRORS]
+
+
+def c_media():
+    """The MIME types, as a C array has them."""
+    mimes = {name: MEDIA.search(comment)[1] for name, (_, comment) in constants("type_number").items()}
+    return [f"    [IMAGESIZE_{name}] = \"{mime}\"," for name, mime in mimes.items() if mime]
+
+
 def usual_names():
     """The usual name of each type, by its constant: `OpenEXR` of EXR."""
     return {constant: re.match("[^:;]+", comment)[0] for constant, (_, comment) in constants("type_number").items()}
@@ -150,6 +167,9 @@ LISTS = [
     ("bindings/python/imagesize_proved/_types.py", "media", python_media),
     ("bindings/python/imagesize_proved/_types.py", "compressions", lambda: python_enum("compression_number")),
     ("bindings/python/imagesize_proved/_types.py", "families", lambda: python_enum("family_number", {"NO_FAMILY"})),
+    ("bindings/c/imagesize.c", "statuses", c_statuses),
+    ("bindings/c/imagesize.c", "messages", c_messages),
+    ("bindings/c/imagesize.c", "media", c_media),
     ("bindings/js/imagesize.d.ts", "types", lambda: union(names("type_number"))),
     ("bindings/js/imagesize.d.ts", "errors", javascript_codes),
     ("bindings/js/library.js", "statuses", javascript_statuses),

@@ -1,5 +1,5 @@
 /*
- * Prints the type and the size of each image file that is named, as image does. It reads only the blocks of a file that the
+ * Prints the type and the size of each image file that is named, as image does, and PNG too. It reads only the blocks of a file that the
  * result depends on. A pipe is read forward until the result is known.
  *
  *     blocks [--stdio] FILE..

@@ -42,6 +42,7 @@ static void expect(int holds, const char *what)
 
 static const uint8_t frame[] = "\xff\xc0\0\x11\x08\0\x05\0\x07\x03\x01\x22\0\x02\x11\x01\x03\x11\x01";
 static const uint8_t gif[] = "GIF89a\x80\x02\xe0\x01\0\0";
+static const uint8_t png[] = "\x89PNG\r\n\x1a\n\0\0\0\rIHDR\0\0\x02\x80\0\0\x01\xe0\x08\0\0\0\0";
 
 /* A JPEG of 7x5 with segments of this length before its frame. Its length is returned. */
 static size_t jpeg(uint8_t *bytes, size_t segments, size_t length)
@@ -111,6 +112,33 @@ static uint32_t read_segments(void *reader, uint8_t *bytes, size_t length, uint6
     return IMAGESIZE_ANSWERED;
 }
 
+/* An input that is read forward, in pieces of at most this length. It may fail at one of its reads, or be a JPEG of segments without
+ * end. */
+struct forward {
+    const uint8_t *bytes;
+    size_t length, piece, place, readings, failing;
+    int endless;
+};
+
+static long read_forward(void *reader, uint8_t *bytes, size_t length)
+{
+    struct forward *input = reader;
+    size_t got = length < input->piece ? length : input->piece;
+    if (++input->readings == input->failing) {
+        return -1;
+    }
+    if (input->endless) {
+        struct segments of = {4, 0};
+        read_segments(&of, bytes, got, input->place);
+        input->place += got;
+        return (long)got;
+    }
+    got = got < input->length - input->place ? got : input->length - input->place;
+    memcpy(bytes, input->bytes + input->place, got);
+    input->place += got;
+    return (long)got;
+}
+
 static int is_size(uint32_t status, const imagesize_image *image, uint64_t width, uint64_t height)
 {
     return status == IMAGESIZE_ANSWERED && image->width == width && image->height == height;
@@ -147,6 +175,10 @@ static void sized(const uint8_t *bytes, size_t length, uint64_t width, uint64_t 
 static void images(uint8_t *bytes)
 {
     sized(gif, 12, 640, 480, 1, 12);
+    sized(png, 24, 640, 480, 1, 24);
+    memset(bytes, 0, 9000);
+    memcpy(bytes, png, sizeof png - 1);
+    sized(bytes, 9000, 640, 480, 1, 4096);
     sized(bytes, jpeg(bytes, 0, 0), 7, 5, 1, 4096);
     sized(bytes, jpeg(bytes, 3, 65533), 7, 5, 4, 5 * 4096);
     sized(bytes, jpeg(bytes, 100000, 2), 7, 5, 12, LONGEST);
@@ -205,6 +237,45 @@ static void refused_images(void)
         expect(imagesize_reader_probe(&of, read_segments, UINT64_C(1) << 40, &image) == IMAGESIZE_BUDGET_SPENT, "segments without end");
         expect(of.given == 64 << 20, "and 64 MiB of them are read");
     }
+}
+
+/* A PNG that is cut, at each of its first bytes, and one whose signature is wrong: by blocks, and forward by pieces. */
+static void cut_pngs(uint8_t *bytes)
+{
+    for (size_t length = 0; length < 24; length++) {
+        imagesize_image image = {1, 2, 3, 4}, by_pieces = image;
+        struct input input = {png, length, 0, 0, 0, 0};
+        struct forward pieces = {png, length, 1, 0, 0, 0, 0};
+        uint32_t status = imagesize_reader_probe(&input, read_input, length, &image);
+        expect(status == IMAGESIZE_END_OF_INPUT && image.type == (length < 8 ? 0 : IMAGESIZE_PNG) && image.width == 0, "a PNG that is cut");
+        status = imagesize_forward_probe(&pieces, read_forward, &by_pieces);
+        expect(status == IMAGESIZE_END_OF_INPUT && memcmp(&image, &by_pieces, sizeof image) == 0, "and the same by pieces");
+    }
+    for (size_t wrong = 0; wrong < 8; wrong++) {
+        imagesize_image image = {1, 2, 3, 4}, by_pieces = image;
+        memcpy(bytes, png, sizeof png - 1);
+        memset(bytes + sizeof png - 1, 0, 100);
+        bytes[wrong] ^= 1;
+        struct input input = {bytes, 100, 0, 0, 0, 0};
+        struct forward pieces = {bytes, 100, 1, 0, 0, 0, 0};
+        expect(imagesize_reader_probe(&input, read_input, 100, &image) == IMAGESIZE_NOT_SUPPORTED && is_none(&image), "no PNG");
+        expect(imagesize_forward_probe(&pieces, read_forward, &by_pieces) == IMAGESIZE_NOT_SUPPORTED && is_none(&by_pieces), "none by pieces");
+    }
+}
+
+/* The names of types, and the room that they need. */
+static void names(void)
+{
+    const imagesize_image images[] = {{IMAGESIZE_PNG, 0, 7, 5}, {IMAGESIZE_GIF, 0, 7, 5}};
+    char text[8] = "........";
+    size_t length = 0;
+    for (size_t i = 0; i < 2; i++) {
+        expect(imagesize_image_name(&images[i], text, 2, &length) == IMAGESIZE_BUFFER_TOO_SMALL && length == 3 && text[0] == '.', "no room");
+        expect(imagesize_image_name(&images[i], text, sizeof text, &length) == IMAGESIZE_ANSWERED && length == 3, "a name");
+        expect(memcmp(text, i ? "Gif....." : "Png.....", 8) == 0, "and nothing after it");
+        memset(text, '.', sizeof text);
+    }
+    expect(imagesize_image_name(&(imagesize_image){99, 0, 0, 0}, text, sizeof text, &length) == IMAGESIZE_UNKNOWN_TYPE, "no type");
 }
 
 /* A JPEG whose segments are far apart: after 64 blocks larger ones are read. */
@@ -284,33 +355,6 @@ static void named_pipes(void)
     remove(folder);
 }
 
-/* An input that is read forward, in pieces of at most this length. It may fail at one of its reads, or be a JPEG of segments without
- * end. */
-struct forward {
-    const uint8_t *bytes;
-    size_t length, piece, place, readings, failing;
-    int endless;
-};
-
-static long read_forward(void *reader, uint8_t *bytes, size_t length)
-{
-    struct forward *input = reader;
-    size_t got = length < input->piece ? length : input->piece;
-    if (++input->readings == input->failing) {
-        return -1;
-    }
-    if (input->endless) {
-        struct segments of = {4, 0};
-        read_segments(&of, bytes, got, input->place);
-        input->place += got;
-        return (long)got;
-    }
-    got = got < input->length - input->place ? got : input->length - input->place;
-    memcpy(bytes, input->bytes + input->place, got);
-    input->place += got;
-    return (long)got;
-}
-
 /* Inputs that are read forward: whole, cut, failing at each read in turn, and without end. */
 static void forward(uint8_t *bytes)
 {
@@ -319,6 +363,14 @@ static void forward(uint8_t *bytes)
     struct forward input = {bytes, length, 1000, 0, 0, 0, 0};
     expect(is_size(imagesize_forward_probe(&input, read_forward, &image), &image, 7, 5), "the size by pieces of an input");
     expect(image.type == IMAGESIZE_JPEG && image.compression == IMAGESIZE_NO_COMPRESSION, "the type by pieces of an input");
+    for (size_t piece = 1; piece <= 30; piece++) {
+        input = (struct forward){png, sizeof png - 1, piece, 0, 0, 0, 0};
+        expect(is_size(imagesize_forward_probe(&input, read_forward, &image), &image, 640, 480), "the size of a PNG by pieces");
+        expect(input.place <= 24 + piece - 1, "of which no more is read");
+        input = (struct forward){gif, 12, piece, 0, 0, 0, 0};
+        expect(is_size(imagesize_forward_probe(&input, read_forward, &image), &image, 640, 480), "the size of a GIF by pieces");
+        expect(input.readings == (12 + piece - 1) / piece, "with no read after its size");
+    }
     input = (struct forward){bytes, 100, 7, 0, 0, 0, 0};
     expect(imagesize_forward_probe(&input, read_forward, &image) == IMAGESIZE_END_OF_INPUT && image.type == IMAGESIZE_JPEG
                && image.width == 0, "a JPEG that is cut has a type");
@@ -386,6 +438,8 @@ int main(void)
     failing_readings(bytes);
     failing_allocations(bytes);
     refused_images();
+    cut_pngs(bytes);
+    names();
     many_blocks(bytes);
     no_files();
     pipes(bytes);

@@ -4,7 +4,7 @@
 #ifndef PRINT_H
 #define PRINT_H
 
-#include "imagesize.h"
+#include "imagesize_file.h"
 
 #include <inttypes.h>
 #include <stdio.h>
@@ -27,7 +27,7 @@ static void print_type(uint32_t type, uint32_t compression)
 {
     char text[TEXT_ROOM] = {0};
     size_t length = 0;
-    if (imagesize_type_name(type, compression, text, sizeof text, &length) == IMAGESIZE_ANSWERED) {
+    if (imagesize_image_name(&(imagesize_image){type, compression, 0, 0}, text, sizeof text, &length) == IMAGESIZE_ANSWERED) {
         printf("%.*s", (int)length, text);
     }
     if (imagesize_compression_name(type, compression, text, sizeof text, &length) == IMAGESIZE_ANSWERED && length > 0) {

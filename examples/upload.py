@@ -5,6 +5,8 @@
     $ curl --data-binary @photo.jpg http://127.0.0.1:8000/
     Jpeg 640x480
 
+form.py is the same for forms, as browsers and `curl -F` send them. In the installed package, both are in imagesize_proved/examples.
+
 The status of the response is 201 for an image, which is not stored here, and 413 for one of too many pixels or bytes. It is 415 for
 what has no size, 411 for a body without a length, and 400 for one that is cut. After an error the connection is closed.
 """
@@ -19,7 +21,7 @@ import socket
 import sys
 import time
 from http.server import BaseHTTPRequestHandler, ThreadingHTTPServer
-from typing import Any, Optional
+from typing import Any, Optional, Type
 
 sys.path.insert(0, str(pathlib.Path(__file__).resolve().parent.parent / "bindings" / "python"))
 
@@ -106,15 +108,17 @@ class Upload(BaseHTTPRequestHandler):
         pass
 
 
-def main() -> None:
+def main(handler: Type[Upload]) -> None:
+    """Runs a server until it is interrupted."""
     parser = argparse.ArgumentParser(description="Takes images by POST, and refuses those of too many pixels.")
     parser.add_argument("--port", type=int, default=8000, help="the port on 127.0.0.1 (8000)")
     parser.add_argument("--pixels", type=int, default=PIXELS, help=f"the most pixels of an image ({PIXELS})")
     asked = parser.parse_args()
-    Upload.pixels = asked.pixels
-    with ThreadingHTTPServer(("127.0.0.1", asked.port), Upload) as server:
+    handler.pixels = asked.pixels
+    with ThreadingHTTPServer(("127.0.0.1", asked.port), handler) as server, contextlib.suppress(KeyboardInterrupt):
+        print(f"http://127.0.0.1:{server.server_port}/", flush=True)
         server.serve_forever()
 
 
 if __name__ == "__main__":
-    main()
+    main(Upload)

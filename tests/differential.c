@@ -27,7 +27,8 @@
  *               as the spans have come. From then on each call returns it. Until then a call writes nothing
  *     ended     a stream that ends after some bytes, or whose length is that of these, has the result of these bytes
  *     typed     the size as the input's own type is its size; as another type, the whole input and its parts give the same size
- *     read      imagesize_file.h over a file, in blocks of 16 bytes, finds the result of the whole input, and reads within it
+ *     read      imagesize_file.h over a file, in blocks of 16 bytes, finds the result of the whole input, or that of
+ *               imagesize_png_size if it is a PNG, and reads within it
  *     cut       with each read cut short, and some interrupted, it finds the same
  *     failing   if a read fails, or the file ends there, it returns an error, with errno and without a size, and reads no further
  */
@@ -963,10 +964,24 @@ static struct answer probe_file(const struct input *of, size_t failing, int fail
     return (struct answer){memory.beyond ? STATUSES : status, image.type, image.compression, image.width, image.height};
 }
 
+/* The result that imagesize_file.h should find: PNG is tried first. */
+static struct answer with_png(const struct input *of, struct answer whole)
+{
+    struct answer png = {.type = IMAGESIZE_PNG};
+    uint32_t begins = 0;
+    imagesize_png_matches(of->bytes, of->length, &begins);
+    if (!begins) {
+        return whole;
+    }
+    png.status = imagesize_png_size(of->bytes, of->length, &png.width, &png.height);
+    return png;
+}
+
 /* The name of a law of files that an input breaks, or NULL. With `all` each read fails in turn, and otherwise one of them. */
 static const char *broken_reads(const struct input *of, struct answer whole, bool all)
 {
     const struct answer fault = {.status = IMAGESIZE_FAULT};
+    whole = with_png(of, whole);
     counted[READ]++;
     counted[CUT]++;
     if (!same(whole, probe_file(of, 0, 0, false))) {

@@ -2,6 +2,7 @@
 
 import { bytesIn } from './bytes.js';
 import { ImageError } from './errors.js';
+import { RequestReader, isRequest } from './request.js';
 
 /** A `ReadableStream`, or anything whose iterator gives bytes. */
 export class Body {
@@ -34,9 +35,9 @@ export class Body {
     if (this.expected < Infinity && this.length < this.expected) throw this.cutShort(this.length);
   }
 
-  /** Tells the source that the rest is not needed. */
+  /** Tells the source that the rest is not needed. A request gets its bytes back. */
   leave() {
-    if (!this.#ended) this.#reader.cancel().catch(() => {});
+    if (!this.#ended || this.#reader instanceof RequestReader) this.#reader.cancel().catch(() => {});
   }
 
   /** The error of a body that ends after so many bytes. */
@@ -50,6 +51,7 @@ export class Body {
 // and its iterator only after the chunk that it waits for.
 function readerOf(source) {
   if (typeof source?.getReader === 'function') return source.getReader();
+  if (isRequest(source)) return new RequestReader(source);
   const iterate = source?.[Symbol.asyncIterator] ?? source?.[Symbol.iterator];
   if (typeof iterate !== 'function') throw new TypeError('A stream is a ReadableStream, or an iterable of Uint8Arrays');
   const iterator = iterate.call(source);

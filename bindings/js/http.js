@@ -40,32 +40,54 @@ export class Remote {
 
   /** The bytes of a block, as many as the input has there. If the server gives no ranges, it is null, and sets `whole`. */
   async read({ start, end }) {
-    const response = await this.#fetched(`bytes=${start}-${end - 1}`);
-    const body = new ResponseBody(response.body ?? [], this.#signal);
+    const response = await this.#fetched({ Range: `bytes=${start}-${end - 1}` });
+    const body = this.#bodyOf(response);
     try {
-      if (response.status === 200 && this.#version === undefined) return this.#beginWhole(response, body);
+      const isFirst = this.#version === undefined;
+      if (isFirst && isWhole(response)) return this.#beginWhole(response, body);
       const range = rangeOf(response, start);
-      this.#checkVersion(response, range.total);
-      const wanted = Math.min(end, range.total) - start;
-      if (range.start !== start || range.length > wanted) {
-        throw new ImageError('WRONG_RANGE', 'The server gives another range than the one that was asked for');
-      }
-      body.expected = wanted;
-      if (range.length < wanted) throw body.cutShort(range.length);
-      return wanted === 0 ? new Uint8Array() : await rangeIn(body, wanted);
+      if (isFirst && range.length > end && range.length === range.total) return this.#beginWhole(response, body);
+      // A server may give a range, and not say which one. Then it is asked for the whole.
+      if (isFirst && range.total === undefined) return await this.#askForWhole(response);
+      return await this.#rangeIn(response, body, range, { start, end });
     } finally {
       if (this.whole !== body) body.leave();
     }
   }
 
-  async #fetched(range) {
-    const request = new Request(this.#url, { headers: { Range: range }, signal: this.#signal });
+  async #rangeIn(response, body, range, { start, end }) {
+    if (range.total === undefined) throw noRange(response);
+    this.#checkVersion(response, range.total);
+    const wanted = Math.min(end, range.total) - start;
+    if (range.start !== start || range.length > wanted) {
+      throw new ImageError('WRONG_RANGE', `${serverOf(response)} gives another range than the one that was asked for`);
+    }
+    body.expected = wanted;
+    if (range.length < wanted) throw body.cutShort(range.length);
+    return wanted === 0 ? new Uint8Array() : await bytesOf(body, wanted, response);
+  }
+
+  async #askForWhole(before) {
+    const response = await this.#fetched({});
+    const body = this.#bodyOf(response);
+    if (isWhole(response)) return this.#beginWhole(response, body);
+    body.leave();
+    throw response.status === 206 ? noRange(before) : badStatus(response);
+  }
+
+  async #fetched(headers) {
+    const request = new Request(this.#url, { headers, signal: this.#signal });
     try {
       return await fetch(request);
     } catch (cause) {
       this.#signal?.throwIfAborted();
-      throw new ImageError('UNREACHABLE', 'The server gives no answer, or none that this origin may read', { cause });
+      const why = reasonOf(cause);
+      throw new ImageError('UNREACHABLE', `${serverOf(request)} gives no answer, or none that this origin may read: ${why}`, { cause });
     }
+  }
+
+  #bodyOf(response) {
+    return new ResponseBody(response.body ?? [], this.#signal);
   }
 
   // A response from another origin may hide that it is compressed. Its length is then not that of the input.
@@ -80,42 +102,67 @@ export class Remote {
 
   // Each response has the same version of the input, as far as the server distinguishes them. If the first request was
   // redirected, later ranges are fetched from the new address.
-  #checkVersion({ headers, url }, total) {
+  #checkVersion(response, total) {
+    const { headers, url } = response;
     const version = JSON.stringify([headers.get('ETag'), headers.get('Last-Modified'), total]);
     if (this.#version === undefined && url) this.#url = url;
     this.#version ??= version;
-    if (this.#version !== version) throw new ImageError('CHANGED', 'The input changed between two ranges');
+    if (this.#version !== version) throw new ImageError('CHANGED', `The input of ${hostOf(response)} changed between two ranges`);
     this.total = total;
   }
 }
 
-// Which bytes a response says that it has, and of how many. It has none if the input ends before the requested start.
+// A proxy that changes a response may give it the status 203.
+const isWhole = ({ status }) => status === 200 || status === 203;
+
+// Which bytes a response says that it has, and of how many: no total if it does not say so. It has no bytes if the input ends before
+// the requested start.
 function rangeOf(response, start) {
   const { status, headers } = response;
   const range = headers.get('Content-Range') ?? '';
   const ended = /^bytes \*\/(\d+)$/.exec(range);
   if (status === 416 && ended) return { start, length: 0, total: Number(ended[1]) };
-  if (status === 200) throw new ImageError('NO_RANGES', 'The server gave ranges, and now it answers 200 with the whole');
-  if (status !== 206) throw new ImageError('HTTP_STATUS', `The server answers ${status}`, { status });
+  if (isWhole(response)) throw new ImageError('NO_RANGES', `${serverOf(response)} gave ranges, and now it answers ${status} with the whole`);
+  if (status !== 206) throw badStatus(response);
   checkEncoding(response);
   const [, first, last, total] = /^bytes (\d+)-(\d+)\/(\d+)$/.exec(range)?.map(Number) ?? [];
-  if (Number.isSafeInteger(total)) return { start: first, length: last + 1 - first, total };
-  throw new ImageError('NO_CONTENT_RANGE', 'The server does not tell this origin, by Content-Range, which bytes it gives');
+  return Number.isSafeInteger(total) ? { start: first, length: last + 1 - first, total } : {};
 }
 
 // The offsets and the length of a compressed input are not those of the input.
-function checkEncoding({ headers }) {
-  const encoding = headers.get('Content-Encoding') ?? 'identity';
+function checkEncoding(response) {
+  const encoding = response.headers.get('Content-Encoding') ?? 'identity';
   if (encoding.trim().toLowerCase() === 'identity') return;
-  throw new ImageError('CONTENT_ENCODING', `The server compresses the input (${encoding}), although it was asked not to`);
+  throw new ImageError('CONTENT_ENCODING', `${serverOf(response)} compresses the input (${encoding}), although it was asked not to`);
 }
 
 // The bytes of a range. The body has more of them if the response hides that it is compressed.
-async function rangeIn(body, wanted) {
+async function bytesOf(body, wanted, response) {
   const bytes = new Uint8Array(wanted);
   for await (const chunk of body) {
-    if (body.length > wanted) throw new ImageError('WRONG_RANGE', 'The server gives more bytes than its range has');
+    if (body.length > wanted) throw new ImageError('WRONG_RANGE', `${serverOf(response)} gives more bytes than its range has`);
     bytes.set(chunk, body.length - chunk.length);
   }
   return bytes;
+}
+
+function badStatus(response) {
+  return new ImageError('HTTP_STATUS', `${serverOf(response)} answers ${response.status}`, { status: response.status });
+}
+
+function noRange(response) {
+  const told = response.headers.get('Content-Range');
+  const what = told === null ? 'does not tell this origin, by Content-Range, which bytes it gives' : `gives the odd Content-Range "${told}"`;
+  return new ImageError('NO_CONTENT_RANGE', `${serverOf(response)} ${what}`);
+}
+
+// Where a request was sent to, or a response came from. A response that a program made has no address.
+const hostOf = ({ url }) => (url ? new URL(url).host : 'the server');
+const serverOf = (message) => (message.url ? `The server ${hostOf(message)}` : 'The server');
+
+// Why a fetch failed. In Node the cause of the error says it, or the first of several attempts.
+function reasonOf(error) {
+  const { cause = error } = error;
+  const [first = cause] = cause.errors ?? [];
+  return first.message || first.code || error.message;
 }

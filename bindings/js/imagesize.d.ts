@@ -95,7 +95,8 @@ export function probe(bytes: ArrayBufferLike | ArrayBufferView): Image;
 
 /**
  * Returns the spans that the result of `probe` depends on, in the order of the reads and with repeats, also if it is an error.
- * Every other input of this length that has the same bytes there has the same result. All bytes are copied once.
+ * Every other input of this length that has the same bytes there has the same result. All bytes are copied once, to memory that is
+ * freed afterwards.
  *
  * @throws {RangeError} if the copy does not fit into the library's memory (4 GiB, or what the engine gives)
  * @throws {ImageError} `'TOO_MANY_SPANS'` if there are more than `limit` spans, by default 65,536
@@ -106,6 +107,7 @@ export function spans(bytes: ArrayBufferLike | ArrayBufferView, options?: { limi
 /**
  * Returns type and size of the image in a `Blob` or `File`. Only a few slices are read.
  *
+ * @throws {TypeError} if the argument is no `Blob`
  * @throws {ImageError} as `probe`; `'CUT_SHORT'` if a slice is shorter than the blob reported, `'LIMIT_REACHED'`
  */
 export function probeBlob(blob: Blob, options?: Options): Promise<Image & Reads>;
@@ -114,7 +116,8 @@ export function probeBlob(blob: Blob, options?: Options): Promise<Image & Reads>
  * Returns type and size of the image at an address. Only a few ranges are fetched. A server that gives no ranges is read from
  * the beginning until there is a result. After a redirect, later ranges are fetched from the new address.
  *
- * A server of another origin must allow this one, and must expose the header `Content-Range` for ranges.
+ * A server of another origin must allow this one, and must expose the header `Content-Range` for ranges. If it does not, or if its
+ * `Content-Range` is odd, the input is requested whole, and is read from the beginning until there is a result.
  *
  * @throws {ImageError} as `probe`; see `SourceCode`
  * @throws {TypeError} if the argument is not an address
@@ -130,9 +133,24 @@ export function probeUrl(url: string | URL, options?: Options): Promise<Image & 
 export function probeFile(path: string | URL, options?: Options): Promise<Image & Reads>;
 
 /**
+ * Returns type and size of the image in a file at once, for programs that read one file after another. It works only in Node. It takes
+ * a fifth to a tenth of the time of `probeFile`, and other code waits meanwhile.
+ *
+ * @throws {ImageError} as `probeFile`
+ * @throws {Error} the error of the system, such as `ENOENT`
+ * @example
+ * const { kind, width, height } = probeFileSync('photo.jpg');
+ */
+export function probeFileSync(path: string | URL, options?: Omit<Options, 'signal'>): Image & Reads;
+
+/**
  * Returns type and size of the image in a stream. Each chunk is passed to the library once, and then forgotten. The stream is
  * cancelled as soon as there is a result, an error or an abort: a reader by `cancel()`, an iterator by `return()`, and a stream of
  * Node by `destroy()`.
+ *
+ * A request in a Node server is not destroyed, because the reply goes through its socket. Its bytes are stored until there is a
+ * result, and are then given back: the server can reply, and can read the whole body as if nothing had been read. If the server does
+ * not read the body, it calls `request.resume()` after its reply, so that the connection can be used again.
  *
  * @throws {ImageError} as `probe`; `'CUT_SHORT'` if the stream ends before `total` bytes, `'LIMIT_REACHED'`
  * @throws {RangeError} if `total` or `maxBytes` is no whole number of bytes
@@ -241,15 +259,18 @@ export type SourceCode =
   | 'CUT_SHORT'
   /** The path is a folder, a pipe or a device. */
   | 'NOT_A_FILE'
-  /** The server cannot be reached, or does not allow this origin. The error's `cause` is the error of `fetch`. */
+  /** The server cannot be reached, or does not allow this origin. The message says which one, and `cause` is the error of `fetch`. */
   | 'UNREACHABLE'
-  /** The HTTP status is neither 206 nor 200. The error's `status` has it. */
+  /** The HTTP status is none of 206, 200 and 203. The error's `status` has it. */
   | 'HTTP_STATUS'
   /** The server gave ranges first, and then status 200 with the whole input. */
   | 'NO_RANGES'
   /** The server compresses the response, although the request forbids it. */
   | 'CONTENT_ENCODING'
-  /** The response has no `Content-Range` with a length, or does not expose it to this origin. */
+  /**
+   * The response has no `Content-Range` with a length, or does not expose it to this origin, and the server does not give the whole
+   * input either.
+   */
   | 'NO_CONTENT_RANGE'
   /** The response is another range than the requested one, or has more bytes than its range. */
   | 'WRONG_RANGE'

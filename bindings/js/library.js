@@ -27,6 +27,9 @@ const TEXT_ROOM = 256;
 const STATE_SIZE = 1280;
 const LENGTH_UNKNOWN = 0xffff_ffff_ffff_ffffn;
 
+// Longer bytes are copied to a memory of their own.
+const SMALL = 2 ** 20;
+
 /** How many bytes a push parser or a probe over spans is passed at once, at most. */
 export const PIECE = 65536;
 
@@ -55,6 +58,11 @@ export class Library {
     this.#base = Math.ceil(Number(exports.__heap_base.value) / SPAN) * SPAN;
     this.#answers = Object.fromEntries(Object.entries(AT).map(([name, at]) => [name, this.#pointer(at)]));
     this.#lend(AT.lent + STATE_SIZE + PIECE);
+  }
+
+  /** How many bytes its memory has. */
+  get size() {
+    return this.#memory.buffer.byteLength;
   }
 
   /** The state of a probe over spans at the beginning of an input of `total` bytes. */
@@ -124,7 +132,8 @@ export class Library {
   /** The spans that type and size of these bytes depend on, if there are at most so many. */
   spans(bytes, most) {
     if (beginsPng(bytes)) return this.#spansOfPng(bytes, bytes.length, most);
-    return this.#spansOf([{ start: 0, bytes }], bytes.length, most);
+    const library = bytes.length > SMALL ? this.#apart() : this;
+    return library.#spansOf([{ start: 0, bytes }], bytes.length, most);
   }
 
   /**
@@ -135,6 +144,22 @@ export class Library {
     if (beginsPng(parts.pieces[0]?.bytes)) return this.#spansOfPng(parts.pieces[0].bytes, total, most);
     const apart = new Library(this.#module, await WebAssembly.instantiate(this.#module));
     return apart.#spansOf(parts.pieces, total, most);
+  }
+
+  /** The same at once, in Node. */
+  spansOfPartsSync(parts, total, most) {
+    if (beginsPng(parts.pieces[0]?.bytes)) return this.#spansOfPng(parts.pieces[0].bytes, total, most);
+    return this.#apart().#spansOf(parts.pieces, total, most);
+  }
+
+  // The library in another memory, which is freed after its use: a memory that has grown never shrinks. Some engines make none at once
+  // in the thread of a page. Then it is this memory that grows.
+  #apart() {
+    try {
+      return new Library(this.#module, new WebAssembly.Instance(this.#module));
+    } catch {
+      return this;
+    }
   }
 
   #spansOf(pieces, length, most) {

@@ -1,3 +1,8 @@
-// In Node `import` gives the same module as `require`, so that a program which does both has one ImageError.
+// In Node `import` gives the same module as `require`, so that a program which does both has one ImageError. It is required here too:
+// to import a CommonJS module, Node first compiles a parser of such modules, which takes longer than all of this package.
 
-export { ImageError, StreamProbe, init, probe, probeBlob, probeFile, probeStream, probeUrl, spans } from './out/imagesize.cjs';
+import { createRequire } from 'node:module';
+
+export const {
+  ImageError, StreamProbe, init, probe, probeBlob, probeFile, probeFileSync, probeStream, probeUrl, spans,
+} = createRequire(import.meta.url)('./out/imagesize.cjs');

@@ -8,6 +8,7 @@ from __future__ import annotations
 
 import ast
 import base64
+import ctypes
 import gzip
 import hashlib
 import io
@@ -25,6 +26,8 @@ HERE = pathlib.Path(__file__).resolve().parent
 TOP = HERE.parent.parent
 PACKAGE = "imagesize_proved"
 LIBRARY = "libimagesize.so"
+RUNS_ON = "Linux on x86-64 processors, with glibc 2.14 or later"
+EXAMPLES = ("examples/form.py", "examples/remote.py", "examples/upload.py")
 EPOCH = int(os.environ.get("SOURCE_DATE_EPOCH", "315532800"))
 
 Files = List[Tuple[str, bytes]]
@@ -98,15 +101,34 @@ def digest(data: bytes) -> str:
 def package() -> Files:
     """Each file of the package, with its path."""
     sources = sorted((HERE / PACKAGE).glob("*.py")) + [HERE / PACKAGE / "py.typed"]
-    return [(f"{PACKAGE}/{source.name}", source.read_bytes()) for source in sources] + [(f"{PACKAGE}/{LIBRARY}", library())]
+    files = [(f"{PACKAGE}/{source.name}", source.read_bytes()) for source in sources]
+    files += [(f"{PACKAGE}/{name}", shared(name)) for name in (*EXAMPLES, *pages())]
+    return files + [(f"{PACKAGE}/{LIBRARY}", library())]
+
+
+def pages() -> List[str]:
+    """The pages that the README names, so that each name in it is a file of the package."""
+    named = re.findall(r"docs/[A-Z]+\.md", (HERE / "README.md").read_text(encoding="utf-8"))
+    return sorted({*named, "docs/SURPRISES.md"})
+
+
+def shared(name: str) -> bytes:
+    """An example or a page, which an sdist has in the package, and the repository in a folder of its own."""
+    packed = HERE / PACKAGE / name
+    return (packed if packed.exists() else TOP / name).read_bytes()
 
 
 def library() -> bytes:
-    """The shared library, which is built where it is not there."""
+    """The shared library, which is built where it is not there. Ends the build if it does not load here."""
     packed, built = HERE / PACKAGE / LIBRARY, TOP / "examples" / "out" / LIBRARY
     if not packed.exists() and not built.exists():
         subprocess.run([str(TOP / "examples" / "run"), "build"], check=True)
-    return (packed if packed.exists() else built).read_bytes()
+    path = packed if packed.exists() else built
+    try:
+        ctypes.CDLL(str(path))
+    except OSError as error:
+        raise SystemExit(f"imagesize-proved: its library is for {RUNS_ON}. This machine ({sysconfig.get_platform()}) cannot load it: {error}")
+    return path.read_bytes()
 
 
 def licence() -> bytes:

@@ -6,7 +6,9 @@ use std::path::{Path, PathBuf};
 use std::process::{self, Command};
 
 const HELP: &str = "\
-This package stands on the proved library, libimagesize.a. In the library's repository, build it and name its folder:
+This package links the proved library, libimagesize.a. The package of a release has it, and links it with the feature `vendored`:
+    imagesize = { path = \"..\", features = [\"vendored\"] }
+In the library's repository, build it and name its folder:
     examples/run build
     export IMAGESIZE_LIB_DIR=$PWD/examples/out
 or install it where pkg-config finds it:

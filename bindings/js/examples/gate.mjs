@@ -1,7 +1,9 @@
 // An upload gate: a server that stores images, and refuses one with too many pixels before its body has come.
 //
-//     node bindings/js/examples/gate.mjs FOLDER [PORT]
+//     node node_modules/imagesize-proved/examples/gate.mjs FOLDER [PORT]
 //     curl --data-binary @photo.jpg http://127.0.0.1:8080/
+//
+// form.mjs is the same for forms, which browsers and `curl -F` send.
 
 import { randomUUID } from 'node:crypto';
 import { once } from 'node:events';
@@ -18,12 +20,17 @@ const PATIENCE = 1000;
 
 class TooManyPixels extends Error {}
 
+/** A request that is not as it should be. */
+export class BadRequest extends Error {}
+
 /** A server that stores images in a folder. */
 export function gate(folder) {
   return createServer(async (request, response) => {
     const path = join(folder, randomUUID());
     try {
-      const { kind, width, height } = await stored(request, path);
+      const total = Number(request.headers['content-length'] ?? Infinity);
+      // A loop over the request itself would close the connection where it is left, and no reply would be sent.
+      const { kind, width, height } = await stored(request.iterator({ destroyOnReturn: false }), path, total);
       reply(response, 201, `${kind} ${width}x${height}`).end();
     } catch (error) {
       await rm(path, { force: true });
@@ -32,13 +39,12 @@ export function gate(folder) {
   });
 }
 
-// Writes an image to a file as it comes. Throws as soon as it has too many pixels, or cannot be an image.
-async function stored(request, path) {
-  const probe = new StreamProbe({ total: Number(request.headers['content-length'] ?? Infinity) });
+/** Writes an image of `total` bytes to a file as it comes. Throws as soon as it has too many pixels, or cannot be an image. */
+export async function stored(chunks, path, total = Infinity) {
+  const probe = new StreamProbe({ total });
   const file = await open(path, 'wx');
   try {
-    // A loop over the request itself would close the connection where it is left, and no reply would be sent.
-    for await (const chunk of request.iterator({ destroyOnReturn: false })) {
+    for await (const chunk of chunks) {
       checkPixels(probe.feed(chunk));
       await file.appendFile(chunk);
     }
@@ -54,10 +60,12 @@ function checkPixels(image) {
   return image;
 }
 
-// The client has the reply at once, and its connection is closed when it stops, or a second later. To close it while bytes come
-// in would reset it, and the reply could be lost.
-async function refuse(request, response, error) {
-  const status = error instanceof TooManyPixels ? 413 : error instanceof ImageError ? 415 : 500;
+/**
+ * Replies why an image is not stored. The client has the reply at once, and its connection is closed when it stops, or a second later.
+ * To close it while bytes come in would reset it, and the reply could be lost.
+ */
+export async function refuse(request, response, error) {
+  const status = statusOf(error);
   response.shouldKeepAlive = false;
   reply(response, status, status === 500 ? 'The image could not be stored' : error.message);
   request.resume();
@@ -65,13 +73,24 @@ async function refuse(request, response, error) {
   response.end();
 }
 
-function reply(response, status, text) {
+function statusOf(error) {
+  if (error instanceof TooManyPixels) return 413;
+  if (error instanceof ImageError) return 415;
+  return error instanceof BadRequest ? 400 : 500;
+}
+
+/** Begins a reply of one text. */
+export function reply(response, status, text) {
   response.writeHead(status, { 'Content-Type': 'text/plain', 'Content-Length': Buffer.byteLength(text) });
   response.write(text);
   return response;
 }
 
-if (import.meta.url === pathToFileURL(process.argv[1] ?? '').href) {
+/** Runs a server, if the module at this address is the program. */
+export function runAs(address, server) {
+  if (address !== pathToFileURL(process.argv[1] ?? '').href) return;
   const [folder, port = '8080'] = process.argv.slice(2);
-  gate(folder).listen(Number(port), '127.0.0.1', () => console.log(`http://127.0.0.1:${port}/`));
+  const running = server(folder).listen(Number(port), '127.0.0.1', () => console.log(`http://127.0.0.1:${running.address().port}/`));
 }
+
+runAs(import.meta.url, gate);

@@ -9,8 +9,9 @@ import { join } from 'node:path';
 import { after, test } from 'node:test';
 import { fileURLToPath } from 'node:url';
 import { Worker } from 'node:worker_threads';
-import { ImageError, probe, probeBlob, probeFile, spans } from '../imagesize.js';
+import { ImageError, probe, probeBlob, probeFile, probeFileSync, spans } from '../imagesize.js';
 import { Library, PNG_SIGNATURE } from '../library.js';
+import { library } from '../load.js';
 import { firstBlock, nextBlock } from '../parts.js';
 import { iconOf, jpegBehind, tiffBehind, withGrow } from './support.js';
 
@@ -173,16 +174,32 @@ test('a trace has the bytes of a few blocks of a long input, or is null', async 
   assert.equal((await probeBlob(new Blob([jpegBehind(40000, 4)]), { trace: true })).trace, null);
 });
 
-test('memory grows, and is used again', () => {
+test('large bytes take no memory of the library', () => {
   const large = Buffer.alloc(20_000_000);
   large.set(gif);
+  spans(gif);
+  const before = library().size;
+  assert.ok(before > 0);
+  for (let count = 0; count < 3; count += 1) assert.equal(spans(large).length, 3);
+  assert.equal(library().size, before);
+});
+
+test('where an engine makes no second memory at once, the memory grows and is used again', () => {
+  const large = Buffer.alloc(20_000_000);
+  large.set(gif);
+  const { Instance } = WebAssembly;
   const counted = (use) => {
     let count = 0;
     withGrow((memory, grow, pages) => { const told = grow.call(memory, pages); count += 1; return told; }, use);
     return count;
   };
-  assert.ok(counted(() => assert.equal(spans(large).length, 3)) >= 1);
-  assert.equal(counted(() => assert.equal(spans(large).length, 3)), 0);
+  WebAssembly.Instance = function disallowed() { throw new RangeError('disallowed on the main thread'); };
+  try {
+    assert.ok(counted(() => assert.equal(spans(large).length, 3)) >= 1);
+    assert.equal(counted(() => assert.equal(spans(large).length, 3)), 0);
+  } finally {
+    WebAssembly.Instance = Instance;
+  }
 });
 
 test('a call that throws leaves the module usable', () => {
@@ -252,6 +269,37 @@ test('files, and what is none', async () => {
   await assert.rejects(probeFile(folder), { code: 'NOT_A_FILE' });
   await assert.rejects(probeFile(join(folder, 'pipe')), { code: 'NOT_A_FILE' });
   await assert.rejects(probeFile(join(folder, 'nothing')), { code: 'ENOENT' });
+});
+
+test('files at once have the results of probeFile', async () => {
+  const path = join(folder, 'b.tif');
+  const inputs = [tiffBehind(1_000_000), jpegBehind(40, 60_000), gif, gif.subarray(0, 11), Buffer.alloc(0), Buffer.alloc(10_000)];
+  const outcomeOf = ({ code, message, kind, width, height, total, reads, bytesRead, trace }) => (
+    { code, message, kind, width, height, total, reads, bytesRead, trace }
+  );
+  for (const bytes of inputs) {
+    writeFileSync(path, bytes);
+    for (const options of [undefined, { trace: true }, { maxBytes: 11 }]) {
+      let found;
+      try { found = probeFileSync(path, options); } catch (error) { found = error; }
+      const wanted = await probeFile(path, options).catch((error) => error);
+      assert.deepEqual(outcomeOf(found), outcomeOf(wanted));
+      assert.equal(found instanceof ImageError, wanted instanceof ImageError);
+    }
+  }
+  writeFileSync(path, gif);
+  assert.equal(probeFileSync(new URL(`file://${path}`)).width, 100);
+  for (const none of [folder, join(folder, 'pipe')]) refused(() => probeFileSync(none), 'NOT_A_FILE');
+  assert.throws(() => probeFileSync(join(folder, 'nothing')), { code: 'ENOENT' });
+  const opened = readdirSync('/proc/self/fd').length;
+  assert.throws(() => probeFileSync(path, { maxBytes: 0 }), RangeError);
+  assert.equal(readdirSync('/proc/self/fd').length, opened);
+});
+
+test('what is no blob says so', async () => {
+  for (const thing of [gif, gif.buffer, Buffer.from(gif), 'GIF89a', null, undefined, { size: 12 }]) {
+    await assert.rejects(probeBlob(thing), { name: 'TypeError', message: 'probeBlob takes a Blob or a File; probe takes the bytes of an image' });
+  }
 });
 
 test('a file that is cut while it is read is refused, and closed', async () => {

@@ -22,7 +22,8 @@ async function refused(answer, options = {}) {
 // Says that it gives this range, and gives these bytes.
 const say = (response, range, bytes, headers = {}) => response.writeHead(206, { 'Content-Range': range, ...headers }).end(bytes);
 
-const code = (error) => [error.code, error.message];
+// The code and the message of an error, without the port of the server.
+const code = (error) => [error.code, error.message.replace(/127\.0\.0\.1:\d+/, 'HOST')];
 
 // Writes bytes for as long as somebody takes them.
 function writeForever(response) {
@@ -85,7 +86,7 @@ test('a server that compresses its ranges is refused, and so is one that hides i
     assert.equal(error.code, 'CONTENT_ENCODING', encoding);
   }
   // A response of another origin does not show its encoding.
-  assert.deepEqual(code(await refused(give({}, icon))), ['WRONG_RANGE', 'The server gives more bytes than its range has']);
+  assert.deepEqual(code(await refused(give({}, icon))), ['WRONG_RANGE', 'The server HOST gives more bytes than its range has']);
   for (const headers of [{}, { 'Content-Length': packed.length }]) {
     const error = await refused((_, response) => response.writeHead(200, { ...known, ...headers }).end(packed));
     assert.deepEqual([error.code, error.total], ['CONTENT_ENCODING', Infinity]);
@@ -245,10 +246,50 @@ test('another range than the one that was asked for is refused', async () => {
   assert.equal(longer.code, 'WRONG_RANGE');
 });
 
-test('a range of which nothing is told is refused', async () => {
-  for (const range of ['bytes 0-4095/*', 'bytes 0-4095/99999999999999999999', 'pages 0-4095/9999', '']) {
+const ODD = ['bytes 0-4095/*', 'bytes 0-4095/99999999999999999999', 'pages 0-4095/9999', ''];
+
+test('a range of which nothing is told is refused, if there is no whole either', async () => {
+  for (const range of ODD) {
     const error = await refused((_, response) => say(response, range, jpeg.subarray(0, 4096)));
-    assert.equal(error.code, 'NO_CONTENT_RANGE', range);
+    assert.deepEqual(code(error), ['NO_CONTENT_RANGE', `The server HOST gives the odd Content-Range "${range}"`]);
+  }
+  const hidden = await refused((_, response) => response.writeHead(206).end(jpeg.subarray(0, 4096)));
+  assert.match(hidden.message, /^The server .* does not tell this origin, by Content-Range, which bytes it gives$/);
+  const gone = await refused((request, response) => {
+    if (request.headers.range) say(response, 'bytes 0-4095/*', jpeg.subarray(0, 4096));
+    else response.writeHead(403).end();
+  });
+  assert.deepEqual([gone.code, gone.status], ['HTTP_STATUS', 403]);
+  const late = await refused((request, response, index) => {
+    if (index === 1) giveRange(request, response, jpeg);
+    else say(response, 'bytes 0-4095/*', jpeg.subarray(0, 4096));
+  });
+  assert.deepEqual([late.code, late.reads], ['NO_CONTENT_RANGE', 1]);
+});
+
+test('a server whose ranges are odd, or not exposed, is asked for the whole', async () => {
+  for (const range of [...ODD, undefined]) {
+    await withServer((request, response) => {
+      if (!request.headers.range) response.writeHead(200).end(jpeg);
+      else response.writeHead(206, range === undefined ? {} : { 'Content-Range': range }).end(jpeg.subarray(0, 4096));
+    }, async (url, requests) => {
+      const { kind, width, reads, bytesRead } = await probeUrl(url, { signal: AbortSignal.timeout(10000) });
+      assert.deepEqual([kind, width, reads, requests.length], ['Jpeg', 7, 1, 2], range);
+      assert.ok(bytesRead >= 200_011 && bytesRead <= jpeg.length);
+    });
+  }
+});
+
+test('a 206 with the whole, and a 203, are read up to the answer', async () => {
+  const wholes = [
+    (response) => say(response, `bytes 0-${jpeg.length - 1}/${jpeg.length}`, jpeg, { 'Content-Length': jpeg.length }),
+    (response) => response.writeHead(203, { 'Content-Length': jpeg.length }).end(jpeg),
+  ];
+  for (const whole of wholes) {
+    await withServer((_, response) => whole(response), async (url, requests) => {
+      const { width, reads, total } = await probeUrl(url);
+      assert.deepEqual([width, reads, total, requests.length], [7, 1, jpeg.length, 1]);
+    });
   }
 });
 
@@ -321,6 +362,10 @@ test('no server, and no address', async () => {
   const error = await probeUrl(`http://127.0.0.1:${port}/`).then(assert.fail, (reason) => reason);
   assert.ok(error instanceof ImageError);
   assert.equal(error.code, 'UNREACHABLE');
+  const said = `The server 127.0.0.1:${port} gives no answer, or none that this origin may read: connect ECONNREFUSED 127.0.0.1:${port}`;
+  assert.equal(error.message, said);
   assert.ok(error.cause instanceof Error);
+  const nowhere = await probeUrl('http://nowhere.invalid/').catch((reason) => reason);
+  assert.match(nowhere.message, /^The server nowhere\.invalid gives no answer, .*: getaddrinfo E/);
   await assert.rejects(probeUrl('no address'), TypeError);
 });

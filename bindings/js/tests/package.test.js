@@ -5,7 +5,7 @@ import { execFileSync, spawnSync } from 'node:child_process';
 import { copyFileSync, cpSync, mkdirSync, mkdtempSync, readFileSync, readdirSync, rmSync, writeFileSync } from 'node:fs';
 import { createRequire } from 'node:module';
 import { tmpdir } from 'node:os';
-import { join } from 'node:path';
+import { dirname, extname, join } from 'node:path';
 import { after, test } from 'node:test';
 import { fileURLToPath, pathToFileURL } from 'node:url';
 import { createContext, runInContext } from 'node:vm';
@@ -23,7 +23,10 @@ after(() => rmSync(folder, { recursive: true }));
 function install() {
   const { files } = JSON.parse(readFileSync(join(here, 'package.json'), 'utf8'));
   mkdirSync(join(installed, 'out'), { recursive: true });
-  const listed = files.flatMap((name) => (name === '*.js' ? readdirSync(here).filter((file) => file.endsWith('.js')) : [name]));
+  // The pages of docs are packed by a release alone.
+  const named = (pattern) => readdirSync(join(here, dirname(pattern))).filter((name) => name.endsWith(extname(pattern)))
+    .map((name) => join(dirname(pattern), name));
+  const listed = files.filter((name) => !name.startsWith('docs/')).flatMap((name) => (name.includes('*') ? named(name) : [name]));
   for (const name of ['package.json', ...listed]) cpSync(join(here, name), join(installed, name));
 }
 install();
@@ -55,8 +58,13 @@ test('import and require need no flag and no init, and give one module', () => {
       const names = Object.keys(required);
       console.log(names.length, names.every((name) => module[name] === required[name]));
     });`;
-  assert.equal(run('both.cjs', both), '9 true');
+  assert.equal(run('both.cjs', both), '10 true');
   assert.equal(run('wasm.cjs', `console.log(require.resolve('imagesize-proved/imagesize.wasm'))`), join(installed, 'out/imagesize.wasm'));
+});
+
+test('import does not compile a parser of CommonJS modules, which takes longer than the package', () => {
+  const loaded = `import 'imagesize-proved'; console.log(process.moduleLoadList.filter((name) => name.includes('cjs-module-lexer')).length);`;
+  assert.equal(run('loaded.mjs', loaded), '0');
 });
 
 test('the WebAssembly has the exports that are listed, and asks for nothing', () => {
@@ -90,12 +98,18 @@ test('a library that a server gives, at the second attempt', async () => {
   });
 });
 
-test('what is no library is refused, and says how it is built', async () => {
+test('what is no library is refused, and the error says what is missing', async () => {
   const { init, probe, probeBlob, spans } = alone();
-  const missing = { code: 'NO_LIBRARY', message: /bindings\/js\/build builds it/ };
+  const error = (message) => ({ code: 'NO_LIBRARY', message });
+  const missing = error(/^The library cannot be loaded: there is no file \/.*\/imagesize\.wasm\. Copy imagesize\.wasm of the package there/);
   for (const call of [() => probe(gif), () => spans(gif)]) assert.throws(call, missing);
   await assert.rejects(probeBlob(new Blob([gif])), missing);
-  for (const source of [undefined, gif, join(folder, 'nothing'), 'http://127.0.0.1:1/']) await assert.rejects(init(source), missing);
+  await assert.rejects(init(), missing);
+  await assert.rejects(init(join(folder, 'nothing')), error(/there is no file .*nothing\. Copy/));
+  await assert.rejects(init(gif), error(/: the bytes are no WebAssembly that this engine runs \(/));
+  writeFileSync(join(folder, 'image.wasm'), gif);
+  await assert.rejects(init(join(folder, 'image.wasm')), error(/image\.wasm is no WebAssembly that this engine runs \(/));
+  await assert.rejects(init('http://127.0.0.1:1/'), error(/^The library cannot be loaded: http:\/\/127\.0\.0\.1:1\/ gives no answer \(.*\)$/));
 });
 
 test('outside Node a call before init says so', async () => {
@@ -134,6 +148,7 @@ test('bundles run, and are made without a warning', { skip: none('esbuild') }, a
   // A bundle for Node finds the library beside itself.
   copyFileSync(wasm, join(folder, 'imagesize.wasm'));
   assert.equal(run('beside.cjs', bundle('beside.cjs', beside, '--format=cjs', '--platform=node')), 'Gif 100 50');
+  assert.equal(run('beside.mjs', bundle('beside.mjs', beside, '--format=esm', '--platform=node')), 'Gif 100 50');
 });
 
 test('types for import and for require', { skip: none('tsc') }, () => {

@@ -2,12 +2,16 @@
 
 import assert from 'node:assert/strict';
 import { once } from 'node:events';
-import { createReadStream, mkdtempSync, rmSync, writeFileSync } from 'node:fs';
+import { createReadStream, createWriteStream, mkdtempSync, readFileSync, rmSync, writeFileSync } from 'node:fs';
+import { createServer } from 'node:http';
+import { connect as connectHttp2, createServer as createHttp2 } from 'node:http2';
+import { connect } from 'node:net';
 import { tmpdir } from 'node:os';
 import { join } from 'node:path';
 import { PassThrough, Readable } from 'node:stream';
+import { pipeline } from 'node:stream/promises';
 import { after, test } from 'node:test';
-import { StreamProbe, probe, probeStream } from '../imagesize.js';
+import { ImageError, StreamProbe, probe, probeStream } from '../imagesize.js';
 import { jpegBehind, lineOf, tiffBehind, withGrow, withServer, worked } from './support.js';
 
 const gif = new TextEncoder().encode('GIF89ad\0\x32\0\0\0');
@@ -205,6 +209,124 @@ test('the body of a request, to which a server replies', async () => {
     const response = await fetch(url, { method: 'POST', body: png });
     assert.equal(await response.text(), 'Png');
   });
+});
+
+// All bytes of a body, or of what is left of it.
+async function bodyOf(request) {
+  const chunks = [];
+  for await (const chunk of request) chunks.push(chunk);
+  return Buffer.concat(chunks);
+}
+
+test('a request that is passed as it is stays open, and has its whole body afterwards', async () => {
+  const tga = Buffer.concat([Buffer.from('000002000000000000000000070005001800', 'hex'), Buffer.alloc(7 * 5 * 3)]);
+  const inputs = [gif, png, jpegBehind(40, 60_000), tga, gif.subarray(0, 11), Buffer.alloc(100_000), Buffer.alloc(0)];
+  for (const bytes of inputs) {
+    const streams = [bytes, Readable.toWeb(Readable.from(bytes.length ? [...chunksOf(bytes, 50_000)] : []))];
+    for (const body of streams) {
+      await withServer(async (request, response) => {
+        const found = await lineOf(() => probeStream(request));
+        const rest = await bodyOf(request);
+        response.end(`${found} ${rest.equals(bytes)}`);
+      }, async (url) => {
+        const response = await fetch(url, { method: 'POST', body, duplex: 'half' });
+        assert.equal(await response.text(), `${await lineOf(() => probe(bytes))} true`);
+      });
+    }
+  }
+});
+
+test('a server replies before the body has come, and the connection stays', async () => {
+  await withServer(async (request, response) => {
+    const { kind } = await probeStream(request, { trace: true });
+    response.end(kind);
+    request.resume();
+  }, async (url) => {
+    const socket = connect(new URL(url).port, '127.0.0.1');
+    socket.setEncoding('utf8').on('error', () => {});
+    for (let count = 0; count < 3; count += 1) {
+      socket.write('POST / HTTP/1.1\r\nHost: a\r\nContent-Length: 100000\r\n\r\n');
+      socket.write(png);
+      const [reply] = await once(socket, 'data', { signal: AbortSignal.timeout(10000) });
+      assert.match(reply, /^HTTP\/1\.1 200 .*Png/s);
+      socket.write(Buffer.alloc(100_000 - png.length));
+    }
+    socket.destroy();
+  });
+});
+
+test('a request that has too many bytes, stalls, is cut or was read is not destroyed by a probe', async () => {
+  const found = [];
+  const said = async (request, options) => {
+    const { code, name } = await probeStream(request, options).catch((error) => error);
+    found.push(typeof code === 'string' ? code : name);
+  };
+  await withServer(async (request, response, index) => {
+    if (index === 1) await said(request, { maxBytes: 5 });
+    if (index === 2) await said(request, { signal: AbortSignal.timeout(50) });
+    if (index === 3) { request.resume(); await once(request, 'end'); await said(request); }
+    response.end(String(index < 3 && request.destroyed)); // Node itself destroys a request that has ended
+  }, async (url) => {
+    for (const body of [gif, gif.subarray(0, 6), gif]) {
+      // Of the second body no more comes.
+      const socket = connect(new URL(url).port, '127.0.0.1');
+      socket.write('POST / HTTP/1.1\r\nHost: a\r\nContent-Length: 12\r\n\r\n');
+      socket.write(body);
+      const [reply] = await once(socket, 'data', { signal: AbortSignal.timeout(10000) });
+      assert.match(String(reply), /^HTTP\/1\.1 200 .*\r\n\r\nfalse$/s);
+      socket.destroy();
+    }
+  });
+  assert.deepEqual(found, ['LIMIT_REACHED', 'TimeoutError', 'END_OF_INPUT']);
+});
+
+test('a request whose client goes away is an error', async () => {
+  const found = new Promise((resolve) => {
+    withServer((request) => probeStream(request).catch(resolve), async (url) => {
+      const socket = connect(new URL(url).port, '127.0.0.1').on('error', () => {});
+      socket.write('POST / HTTP/1.1\r\nHost: a\r\nContent-Length: 100\r\n\r\nGIF89a');
+      setTimeout(() => socket.destroy(), 50);
+      await once(socket, 'close');
+      await new Promise((wait) => { setTimeout(wait, 200); });
+    });
+  });
+  assert.equal((await found).code, 'ECONNRESET');
+});
+
+test('the server in docs/CHUNKS.md stores a whole body, or refuses it', async () => {
+  const page = readFileSync(new URL('../../../docs/CHUNKS.md', import.meta.url), 'utf8');
+  const [, code] = /^```js\n(createServer\(.*?);\n```$/ms.exec(page);
+  const path = join(folder, 'stored');
+  const names = { createServer, createWriteStream, pipeline, probeStream, ImageError, path };
+  const server = new Function(...Object.keys(names), `return ${code}`)(...Object.values(names)).listen(0, '127.0.0.1');
+  await once(server, 'listening');
+  const post = async (body) => {
+    const response = await fetch(`http://127.0.0.1:${server.address().port}/`, { method: 'POST', body });
+    return [response.status, await response.text()];
+  };
+  const jpeg = jpegBehind(4, 50000);
+  assert.deepEqual(await post(jpeg), [201, 'Jpeg 7x5']);
+  assert.ok(readFileSync(path).equals(jpeg));
+  const large = Buffer.from('89504e470d0a1a0a0000000d494844520000ea600000ea60080200000000000000', 'hex');
+  assert.equal((await post(Buffer.concat([large, Buffer.alloc(500_000)])))[0], 413);
+  assert.equal((await post(Buffer.alloc(500_000)))[0], 415);
+  assert.deepEqual(await post(gif), [201, 'Gif 100x50']);
+  server.closeAllConnections();
+  server.close();
+});
+
+test('a request of HTTP/2 stays open too', async () => {
+  const server = createHttp2(async (request, response) => {
+    const { kind } = await probeStream(request);
+    response.end(`${kind} ${(await bodyOf(request)).equals(png)}`);
+  }).listen(0, '127.0.0.1');
+  await once(server, 'listening');
+  const client = connectHttp2(`http://127.0.0.1:${server.address().port}`);
+  const stream = client.request({ ':method': 'POST' });
+  stream.end(png);
+  assert.equal((await bodyOf(stream)).toString(), 'Png true');
+  client.close();
+  server.close();
 });
 
 // A stream that gives these chunks, and what it was cancelled with.

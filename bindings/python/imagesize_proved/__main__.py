@@ -1,113 +1,236 @@
-"""Prints type and size of image files: `python -m imagesize_proved [--recursive] [--json] [--spans] PATH..`
+"""Prints type and size of image files, as the command `imagesize` does: `python -m imagesize_proved [OPTION].. PATH..`
 
 A line for each file has its type, its size and its path, and after the path the error where there is no size. The path `-` is
-standard input, which is read once where it cannot seek.
+standard input, which is read once where it cannot seek. A path with a control character, a backslash or bytes that are no UTF-8 is
+printed with escapes, so that each file has one line. The status is 0 if each file has a size, 1 if one has none or if the output
+cannot be written, and 2 if no file is named.
 """
 
 from __future__ import annotations
 
 import argparse
+import collections
+import contextlib
+import functools
 import io
 import json
 import os
+import re
 import shutil
+import stat
 import sys
 import time
-from typing import Any, Dict, Iterator, List, Optional, Sequence, TextIO, Union
+from typing import Any, Callable, Deque, Dict, Iterable, Iterator, List, Optional, Sequence, TextIO, Union
 
 from . import ImageError, Status, __version__, probe, spans
 
 Row = Dict[str, Any]
 
+# Characters that would fake another line or another path: controls, ends of lines, marks that turn the direction, a backslash, and
+# what stands for bytes that are no UTF-8.
+UNSAFE = re.compile("[\0-\x1f\x7f-\x9f\\\\\u200e\u200f\u2028-\u202e\u2066-\u2069\ud800-\udfff]")
+# How many paths a process gets at once.
+BATCH = 64
+ESCAPES = {0x5C: "\\\\", 0x0A: "\\n", 0x0D: "\\r", 0x09: "\\t"}
+
 
 def main(arguments: Optional[Sequence[str]] = None) -> int:
-    """Runs the program. Returns its status: 0 if each file has a size, and 1 if one has none."""
-    asked = parser().parse_args(arguments)
-    rows = described(files(asked.paths, asked.recursive), asked.spans)
+    """Runs the program. Returns its status."""
+    options = parser()
+    asked = options.parse_args(arguments)
+    if not asked.paths and not asked.null:
+        options.error("no file is named")
     try:
-        sized = print_json(rows) if asked.json else print_table(rows)
-        sys.stdout.flush()
-    except BrokenPipeError:  # `head`, for example, closes the pipe early
-        os.dup2(os.open(os.devnull, os.O_WRONLY), sys.stdout.fileno())
+        return run(options, asked)
+    except OSError as error:
+        print(f"imagesize: standard output: {error.strerror}", file=sys.stderr)
+        os.dup2(os.open(os.devnull, os.O_WRONLY), 1)  # what is still in the buffer cannot be written at the end either
         return 1
     except KeyboardInterrupt:
         return 130
-    return 0 if sized else 1
 
 
 def parser() -> argparse.ArgumentParser:
-    """The options. Without a path the status is 2."""
-    asked = argparse.ArgumentParser("imagesize-proved", description="Prints type and size in pixels of image files.")
-    asked.add_argument("paths", nargs="+", metavar="PATH", help="a file, - for standard input, or a folder with --recursive")
-    asked.add_argument("--recursive", action="store_true", help="read all files below folders")
+    """The options."""
+    asked = argparse.ArgumentParser("imagesize", description="Prints type and size in pixels of image files.")
+    asked.add_argument("paths", nargs="*", metavar="PATH", help="a file, - for standard input, or a folder with --recursive")
+    asked.add_argument("-0", "--null", action="store_true", help="read more paths from standard input, each ended by a zero byte; - is then a file")
+    asked.add_argument("-r", "--recursive", action="store_true", help="read all regular files below folders")
     asked.add_argument("--json", action="store_true", help="print a JSON array with an object for each file")
     asked.add_argument("--spans", action="store_true", help="print the bytes that each result depends on")
+    asked.add_argument("--jobs", type=whole, default=1, metavar="N", help="read files in N processes; the order of the lines stays")
     asked.add_argument("--version", action="version", version=__version__)
     return asked
 
 
-def files(paths: Sequence[str], recursive: bool) -> Iterator[str]:
+def whole(text: str) -> int:
+    """A number of processes."""
+    number = int(text)
+    if number < 1:
+        raise ValueError
+    return min(number, 1024)
+
+
+def run(options: argparse.ArgumentParser, asked: argparse.Namespace) -> int:
+    """Prints the rows. Only the output raises `OSError` here."""
+    if sys.stdout is None:
+        raise OSError(9, "Bad file descriptor")
+    if isinstance(sys.stdout, io.TextIOWrapper):
+        sys.stdout.reconfigure(errors="backslashreplace")  # for an output that is ASCII
+    # With --null standard input has the paths, and - is a file of that name.
+    names = Counted(named(asked))
+    rows = described(files(names, asked.recursive, asked.null), asked.spans, asked.null, asked.jobs)
+    sized = print_json(rows) if asked.json else print_table(rows)
+    sys.stdout.flush()
+    if not names.count:
+        options.error("no file is named")
+    return 0 if sized else 1
+
+
+class Counted:
+    """Paths, and how many there were."""
+
+    def __init__(self, paths: Iterator[str]) -> None:
+        self.paths = paths
+        self.count = 0
+
+    def __iter__(self) -> Iterator[str]:
+        for path in self.paths:
+            self.count += 1
+            yield path
+
+
+def named(asked: argparse.Namespace) -> Iterator[str]:
+    """The paths of the command, and with --null those that standard input has."""
+    yield from asked.paths
+    if asked.null:
+        rest = b""
+        for block in iter(functools.partial(os.read, 0, 1 << 16), b""):
+            *whole, rest = (rest + block).split(b"\0")
+            yield from map(os.fsdecode, whole)
+        if rest:
+            yield os.fsdecode(rest)
+
+
+def files(paths: Iterable[str], recursive: bool, null: bool = False) -> Iterator[str]:
     """The paths. Each folder is replaced by all files below it, sorted by name. Links to folders are not followed."""
     for path in paths:
-        if recursive and path != "-" and os.path.isdir(path):
+        if recursive and (path != "-" or null) and os.path.isdir(path):
             yield from below(path)
         else:
             yield path
 
 
 def below(folder: str) -> Iterator[str]:
-    """All files below a folder. A folder that cannot be read is among them, so that its error is seen."""
-    failed: List[OSError] = []
-    for path, folders, names in os.walk(folder, onerror=failed.append):
-        folders.sort()
-        yield from (os.path.join(path, name) for name in sorted(names))
-        while failed:
-            yield failed.pop().filename
-    for error in failed:
-        yield error.filename
+    """All regular files below a folder: first its own, then those of each folder in it. A folder that cannot be read is among them, so
+    that its error is seen."""
+    try:
+        with os.scandir(folder) as listed:
+            entries = sorted(listed, key=lambda entry: os.fsencode(entry.name))
+    except OSError:
+        yield folder
+        return
+    yield from (entry.path for entry in entries if not entry.is_dir() and (entry.is_file() or not os.path.exists(entry.path)))
+    for entry in entries:
+        if entry.is_dir(follow_symlinks=False):
+            yield from below(entry.path)
 
 
-def described(paths: Iterator[str], with_spans: bool) -> Iterator[Row]:
+def described(paths: Iterable[str], with_spans: bool, null: bool = False, jobs: int = 1) -> Iterator[Row]:
     """What is found of each file. On a terminal a line says how far it is."""
     progress = Progress(sys.stderr)
-    for number, path in enumerate(paths, 1):
-        progress.show(number, path)
-        row = row_of(path, with_spans)
+    rows = by_jobs(paths, with_spans, null, jobs) if jobs > 1 else (row_of(path, with_spans, null) for path in paths)
+    for row in rows:
+        progress.show(row)
         if sys.stdout.isatty():
             progress.clear()
         yield row
     progress.clear()
 
 
-def row_of(path: str, with_spans: bool) -> Row:
+def by_jobs(paths: Iterable[str], with_spans: bool, null: bool, jobs: int) -> Iterator[Row]:
+    """What is found of each file, in the order of the paths, by a pool of processes. Standard input is read by this process."""
+    from concurrent.futures import ProcessPoolExecutor
+
+    waiting: Deque[Callable[[], List[Row]]] = collections.deque()
+    with ProcessPoolExecutor(jobs) as pool:
+        for batch in batches(paths, null):
+            if batch == ["-"] and not null:
+                waiting.append(functools.partial(rows_of, batch, with_spans, null))
+            else:
+                waiting.append(pool.submit(rows_of, batch, with_spans, null).result)
+            if len(waiting) > 2 * jobs:
+                yield from waiting.popleft()()
+        while waiting:
+            yield from waiting.popleft()()
+
+
+def batches(paths: Iterable[str], null: bool) -> Iterator[List[str]]:
+    """Paths in lists for one process. Standard input has a list of its own."""
+    batch: List[str] = []
+    for path in paths:
+        if batch and (len(batch) == BATCH or (path == "-" and not null) or batch == ["-"]):
+            yield batch
+            batch = []
+        batch.append(path)
+    if batch:
+        yield batch
+
+
+def rows_of(batch: List[str], with_spans: bool, null: bool) -> List[Row]:
+    """What is found of some files."""
+    return [row_of(path, with_spans, null) for path in batch]
+
+
+def row_of(path: str, with_spans: bool, null: bool = False) -> Row:
     """What is found of a file, by names. Where there is no size, `status` and `error` say why."""
     row: Row = dict.fromkeys(("path", "type", "compression", "mime_type", "width", "height", "status", "error"))
     row["path"], found = path, None
     try:
-        found, (row["width"], row["height"]) = probe(input_at(path))
+        with input_at(path, null) as image:
+            found, (row["width"], row["height"]) = probe(image)
     except ImageError as error:
         found, row["status"], row["error"] = error.image_type, error.status.name, error.message
     except OSError as error:
         row["status"], row["error"] = Status.FAULT.name, error.strerror
     except EOFError:
         row["status"], row["error"] = Status.FAULT.name, "the file became shorter while it was read"
+    except ValueError:  # of a path with a zero byte in it, which no file has
+        row["status"], row["error"] = Status.FAULT.name, "Invalid argument"
     if found:
         row["type"], row["compression"], row["mime_type"] = found.name, found.compression_name, found.mime_type
     if with_spans:
-        row["spans"] = spans_of(path)
+        row["spans"] = spans_of(path, null)
     return row
 
 
-def input_at(path: str) -> Union[str, io.FileIO]:
-    """The path, or standard input, which stays open."""
-    return io.FileIO(0, closefd=False) if path == "-" else path
+@contextlib.contextmanager
+def input_at(path: str, null: bool = False) -> Iterator[Union[str, io.FileIO, Iterator[bytes]]]:
+    """The path, or what is read once: standard input that is no file, a pipe or a device. A pipe is not waited for until it has a
+    writer."""
+    if path == "-" and not null:
+        file = io.FileIO(0, closefd=False)
+        yield file if stat.S_ISREG(os.fstat(0).st_mode) else iter(functools.partial(file.read, 4096), b"")
+    elif is_read_once(path):
+        with io.FileIO(path, opener=lambda name, flags: os.open(name, flags | os.O_NONBLOCK)) as file:
+            os.set_blocking(file.fileno(), True)
+            yield iter(functools.partial(file.read, 4096), b"")
+    else:
+        yield path
 
 
-def spans_of(path: str) -> Optional[List[Sequence[int]]]:
+def is_read_once(path: str) -> bool:
+    """Whether a path is a pipe or a device. It is asked before the path is opened."""
+    mode = os.stat(path).st_mode
+    return stat.S_ISFIFO(mode) or stat.S_ISCHR(mode) or stat.S_ISSOCK(mode)
+
+
+def spans_of(path: str, null: bool = False) -> Optional[List[Sequence[int]]]:
     """Start and length of the spans that a result depends on; None where they cannot be had, as for an input that is read once."""
     try:
-        return list(spans(input_at(path)))
-    except (ImageError, OSError, EOFError):
+        with input_at(path, null) as image:
+            return list(spans(image)) if isinstance(image, (str, io.FileIO)) else None
+    except (ImageError, OSError, EOFError, ValueError):
         return None
 
 
@@ -137,8 +260,10 @@ def print_table(rows: Iterator[Row]) -> bool:
 
 
 def printable(path: str) -> str:
-    """A path of one line, whatever characters it has."""
-    return path if path.isprintable() else path.encode("unicode_escape").decode("ascii")
+    """A path of one line: as it is, or with escapes of its bytes if it has an unsafe character."""
+    if not UNSAFE.search(path):
+        return path
+    return "".join(ESCAPES.get(byte) or (chr(byte) if 0x20 <= byte < 0x7F else f"\\x{byte:02x}") for byte in os.fsencode(path))
 
 
 class Progress:
@@ -146,19 +271,23 @@ class Progress:
 
     def __init__(self, stream: TextIO) -> None:
         self.stream = stream
-        self.next = time.monotonic() + 1 if stream.isatty() else float("inf")
+        self.begun = time.monotonic()
+        self.next = self.begun + 1 if stream.isatty() else float("inf")
+        self.files = self.errors = 0
         self.shown = False
 
-    def show(self, number: int, path: str) -> None:
-        """Says which file is read, at most ten times a second."""
+    def show(self, row: Row) -> None:
+        """Counts a file, and says how many there were, at most ten times a second."""
+        self.files += 1
+        self.errors += row["error"] is not None
         now = time.monotonic()
         if now < self.next:
             return
         columns = shutil.get_terminal_size().columns - 1
-        self.stream.write(f"\r{f'{number}: {printable(path)}'[:columns]}\x1b[K")
+        text = f"{self.files} files, {self.files / (now - self.begun):.0f} a second, {self.errors} errors"
+        self.stream.write(f"\r{text[:columns]}\x1b[K")
         self.stream.flush()
-        self.next = now + 0.1
-        self.shown = True
+        self.next, self.shown = now + 0.1, True
 
     def clear(self) -> None:
         """Clears the line."""

@@ -5,11 +5,12 @@ from __future__ import annotations
 import ctypes
 import os
 import sys
+from functools import partial
 from typing import TYPE_CHECKING, Any, Awaitable, Callable, List, Optional, Protocol, Tuple, TypeVar, Union, overload
 
 from ._library import PNG, Told, png_spans, probe_front, probe_two, probe_whole, spans_of, type_of
-from ._parts import BLOCK, BUDGET, SPENT, WANTED, BytesLike, Parts, Stored, blocks, bytes_in, checked, first_block
-from ._stream import AsyncChunks, Chunks, is_read_once, read_once, read_once_async
+from ._parts import BLOCK, BUDGET, SPENT, WANTED, BytesLike, Parts, Stored, TypeParts, blocks, bytes_in, checked, checked_limit, first_block
+from ._stream import AsyncChunks, Chunks, Keep, check_binary, is_read_once, read_once, read_once_async
 from ._types import ImageError, ImageType, Probed, Size, Span, Status, filename, known_type, probed
 
 if TYPE_CHECKING:
@@ -39,7 +40,7 @@ LIMIT = 1 << 16
 _FLAGS = (os.O_RDONLY | os.O_NONBLOCK,)  # so that a pipe without a writer does not wait
 
 
-def probe(image: Input, *, budget: int = BUDGET) -> Probed:
+def probe(image: Input, *, budget: int = BUDGET, keep: Keep = None) -> Probed:
     """Type and size in pixels of the image in some bytes, at a path, in an open binary file, or in an iterable of chunks.
 
         >>> probe("photo.gif").size
@@ -50,13 +51,16 @@ def probe(image: Input, *, budget: int = BUDGET) -> Probed:
 
     Some files are read once, from their offset on, up to the block with the last byte that the result depends on. They are those
     that cannot seek, such as a pipe, and those that decompress, such as a `gzip.GzipFile`. At most 4095 bytes after that byte are
-    read, and no byte is given back. Of chunks no more are fetched than are needed, and then a generator is closed.
+    read, and no byte is given back. Of chunks no more are fetched than are needed, and then a generator is closed. To go on with
+    what follows, pass a list as `keep`: the chunks that were read are appended to it, and a generator stays open.
 
     Raises `ImageError` if there is no type or no size: its `status` says why. It is `BUDGET_SPENT` if more than `budget` bytes of a
     file would be read, or if `budget` bytes of what is read once have no result. Raises `ValueError` if `budget` is not a whole
     number of at least 1. A file that cannot be read raises its `OSError`, and one that becomes shorter meanwhile `EOFError`.
     """
     budget = checked(budget)
+    if keep is not None:
+        return probed(_kept(image, budget, keep), image)
     if type(image) is str:
         return probed(_at(image, budget, _told_in), image)
     if type(image) is bytes:
@@ -72,10 +76,11 @@ def size(image: Input, *, budget: int = BUDGET) -> Size:
 def image_type(image: Input, *, budget: int = BUDGET) -> ImageType:
     """The type, also of an image whose size is an error. Takes and raises what `probe` does.
 
-    Of bytes only those are looked at that tell the type, so that the first twelve of a file are enough for most types.
+    Only those bytes are looked at that tell the type. For most types they are the first twelve, so that of a file one block is read.
+    An input that is read once is read up to its size.
     """
     budget = checked(budget)
-    status, told = type_of(image) if type(image) is bytes else _told(image, budget)
+    status, told = type_of(image) if type(image) is bytes else _type(image, budget)
     if not told[0]:
         raise ImageError(status, None, filename(image))
     return known_type(told[0], told[1])
@@ -103,21 +108,26 @@ async def probe_async(read: Callable[[int, int], Awaitable[BytesLike]], length: 
 
 
 @overload
-async def probe_async(read: AsyncChunks, length: Optional[int] = None, *, budget: int = BUDGET) -> Probed: ...
+async def probe_async(
+    read: AsyncChunks, length: Optional[int] = None, *, budget: int = BUDGET, keep: Keep = None
+) -> Probed: ...
 
 
-async def probe_async(read: Any, length: Any = None, *, budget: int = BUDGET) -> Probed:
+async def probe_async(read: Any, length: Any = None, *, budget: int = BUDGET, keep: Keep = None) -> Probed:
     """Type and size of the image in an input of `length` bytes. The coroutine function `read(start, length)` returns some of them.
 
         >>> await probe_async(request.stream())
 
     Instead of a function it also takes an asynchronous iterable of chunks, or a file whose `read(size)` is a coroutine function,
-    such as an `asyncio.StreamReader`. These are read once, as by `probe`, and their `length` may be left out. Other errors and
-    bounds are those of `probe_with`.
+    such as an `asyncio.StreamReader`. These are read once, as by `probe`, and their `length` may be left out. With a list `keep`
+    the chunks that were read are appended to it, and an asynchronous generator stays open, so that a server can go on with the
+    body. Other errors and bounds are those of `probe_with`.
     """
     budget = checked(budget)
     if not callable(read):
-        return probed(await read_once_async(read, length, budget))
+        return probed(await read_once_async(read, length, budget, keep))
+    if keep is not None:
+        raise TypeError("keep is for chunks and files: a function fetches any bytes again")
     first = first_block(length, budget)
     parts = Parts(await read(0, first) if first else b"", length, budget)
     while parts.length:
@@ -130,9 +140,10 @@ def spans(image: Image, *, limit: int = LIMIT, budget: int = BUDGET) -> List[Spa
 
     Every other input of this length that has the same bytes there has the same type and size, or the same error. Takes what
     `probe` does. Raises `ImageError` with `BUFFER_TOO_SMALL` where there are more than `limit` spans, and with `OUT_OF_MEMORY`
-    where a file is longer than the addresses that the process may have. Else raises as `probe`, but not the errors of the image.
+    where a file is longer than the addresses that the process may have. Raises `ValueError` if `limit` is not a whole number of at
+    least 0. Else raises as `probe`, but not the errors of the image.
     """
-    status, told = _spans(image, limit, checked(budget))
+    status, told = _spans(image, checked_limit(limit), checked(budget))
     if status:
         raise ImageError(status, None, filename(image))
     return list(map(Span, told[::2], told[1::2]))
@@ -158,12 +169,44 @@ def _within(limit: int, numbers: List[int]) -> Tuple[int, List[int]]:
     return (0, numbers) if len(numbers) <= 2 * limit else (Status.BUFFER_TOO_SMALL, [])
 
 
+def _type(image: Input, budget: int) -> Told:
+    if isinstance(image, (str, os.PathLike)):
+        return _at(image, budget, lambda file, most: _type_of(TypeParts(*_front(file, most), most), partial(_pread, file)))
+    if is_read_once(image):
+        return read_once(image, budget)  # type: ignore[arg-type]
+    try:
+        view = bytes_in(image)  # type: ignore[arg-type]
+    except TypeError:
+        return _type_of_file(image, budget)  # type: ignore[arg-type]
+    with view:
+        return _type_of(TypeParts(view[:BLOCK], view.nbytes, sys.maxsize), lambda start, length: view[start : start + length])
+
+
+def _type_of(parts: TypeParts, fetch: Callable[[int, int], BytesLike]) -> Told:
+    while parts.length:
+        parts.add(fetch(parts.start, parts.length))
+    return parts.told
+
+
+def _type_of_file(file: BinaryFile, budget: int) -> Told:
+    def read(total: int) -> Told:
+        return _type_of(TypeParts(_read(file, 0, first_block(total, budget)), total, budget), partial(_read, file))
+
+    return _whole(file, read)
+
+
 def _told(image: Input, budget: int) -> Told:
     if isinstance(image, (str, os.PathLike)):
         return _at(image, budget, _told_in)
     if is_read_once(image):
         return read_once(image, budget)  # type: ignore[arg-type]
     return _parts(image, budget).told  # type: ignore[arg-type]
+
+
+def _kept(image: Input, budget: int, keep: Keep) -> Told:
+    if isinstance(image, (str, os.PathLike)) or not is_read_once(image):
+        raise TypeError("keep is for chunks and for files that are read once: this image can be read again")
+    return read_once(image, budget, keep)  # type: ignore[arg-type]
 
 
 def _parts(image: Image, budget: int, stored: Optional[Stored] = None) -> Parts:
@@ -229,18 +272,30 @@ def _followed(file: int, parts: Parts) -> Parts:
 
 
 def _parts_of_file(file: BinaryFile, budget: int, stored: Optional[Stored] = None) -> Parts:
+    def read(total: int) -> Parts:
+        parts = Parts(_read(file, 0, first_block(total, budget)), total, budget, stored)
+        while parts.length:
+            parts.add(_read(file, parts.start, parts.length))
+        return parts
+
+    return _whole(file, read)
+
+
+def _whole(file: BinaryFile, read: Callable[[int], T]) -> T:
+    """What `read` returns for an open file of so many bytes, which is left at its offset."""
+    check_binary(file)
     if not hasattr(file, "read"):
         raise TypeError(f"an image is bytes, a path or an open binary file, and not {type(file).__name__}")
     offset = file.tell()
     try:
         file.seek(0, os.SEEK_END)
-        total = file.tell()
-        parts = Parts(_read(file, 0, first_block(total, budget)), total, budget, stored)
-        while parts.length:
-            parts.add(_read(file, parts.start, parts.length))
-        return parts
+        return read(file.tell())
     finally:
         file.seek(offset)
+
+
+def _pread(file: int, start: int, length: int) -> bytes:
+    return os.pread(file, length, start)
 
 
 def _read(file: BinaryFile, start: int, length: int) -> bytes:

@@ -8,16 +8,15 @@ from __future__ import annotations
 
 import ctypes
 import os
-import pathlib
 from array import array
 from typing import List, Optional, Tuple, Union
 
 Told = Tuple[int, List[int]]
 """A status, and the numbers of type and compression, width and height, and start and length of the requested span."""
 
-_HERE = pathlib.Path(__file__).resolve().parent
-_PACKED = _HERE / "libimagesize.so"
-_BUILT = _HERE.joinpath("..", "..", "..", "examples", "out", "libimagesize.so")
+_HERE = os.path.dirname(os.path.realpath(__file__))
+_PACKED = os.path.join(_HERE, "libimagesize.so")
+_BUILT = os.path.join(_HERE, "..", "..", "..", "examples", "out", "libimagesize.so")
 
 PNG = 1000
 """PNG among the numbers of types. The library has calls of its own for PNG, and no number."""
@@ -33,6 +32,7 @@ _CALLS = (
     "imagesize_type",
     "imagesize_probe",
     "imagesize_probe_parts",
+    "imagesize_parts_type",
     "imagesize_spans",
     "imagesize_png_parts_size",
     "imagesize_parts_new",
@@ -52,19 +52,21 @@ _CALLS = (
 
 
 def _loaded() -> ctypes.CDLL:
-    path = os.environ.get("IMAGESIZE_LIBRARY") or str(_PACKED if _PACKED.exists() else _BUILT)
+    path = os.environ.get("IMAGESIZE_LIBRARY") or (_PACKED if os.path.exists(_PACKED) else _BUILT)
     try:
         library = ctypes.CDLL(path)
         for name in _CALLS:
             getattr(library, name).restype = ctypes.c_uint32
     except (OSError, AttributeError) as error:
-        raise ImportError(f"no library of imagesize_proved ({error}); `examples/run build` builds it", path=path) from error
+        hint = "it runs on Linux on x86-64 processors, with glibc" if path == _PACKED else "`examples/run build` builds it"
+        raise ImportError(f"no library of imagesize_proved ({error}); {hint}", path=path) from error
     return library
 
 
 _LIBRARY = _loaded()
 _type = _LIBRARY.imagesize_type
 _probe = _LIBRARY.imagesize_probe
+_parts_type = _LIBRARY.imagesize_parts_type
 _spans = _LIBRARY.imagesize_spans
 _png = _LIBRARY.imagesize_png_parts_size
 _parts_supply = _LIBRARY.imagesize_parts_supply
@@ -114,6 +116,18 @@ def type_of(data: bytes) -> Told:
         return 0, [PNG, 0, 0, 0, 0, 0]
     buffer = _buffer(len(data), 0)
     told = _type(data, buffer.length, *buffer.told[:2]), buffer.read()
+    _BUFFERS.append(buffer)
+    return told
+
+
+def type_of_parts(data: bytes, spans: List[int], total: int) -> Told:
+    """The type of the image in an input of `total` bytes, some of whose spans are known, or the span that it needs too."""
+    if data.startswith(_SIGNATURE):
+        return 0, [PNG, 0, 0, 0, 0, 0]
+    buffer, known = _buffer(len(data), total), array("Q", spans)
+    start, _ = known.buffer_info()
+    of_parts = buffer.length, ctypes.c_void_p(start), ctypes.c_size_t(len(spans) // 2), buffer.total
+    told = _parts_type(data, *of_parts, *buffer.told[:2], buffer.told[4]), buffer.read()
     _BUFFERS.append(buffer)
     return told
 

@@ -8,7 +8,7 @@ import operator
 from array import array
 from typing import TYPE_CHECKING, List, Optional, Tuple, Union
 
-from ._library import Rounds, Told, probe_front
+from ._library import Rounds, Told, probe_front, type_of_parts
 from ._types import Status
 
 if TYPE_CHECKING:
@@ -41,13 +41,25 @@ def checked(budget: int) -> int:
     """A budget. Raises `ValueError` where it is not a whole number of at least 1."""
     if budget is BUDGET:
         return budget
-    try:
-        whole = operator.index(budget)
-    except TypeError:
-        whole = 0
+    whole = _whole(budget)
     if whole < 1:
         raise ValueError(f"a budget is a whole number of bytes, at least 1, and not {budget!r}")
     return whole
+
+
+def checked_limit(limit: int) -> int:
+    """A limit of spans. Raises `ValueError` where it is not a whole number of at least 0."""
+    whole = _whole(limit)
+    if whole < 0:
+        raise ValueError(f"a limit is a whole number of spans, at least 0, and not {limit!r}")
+    return whole
+
+
+def _whole(number: int) -> int:
+    try:
+        return operator.index(number)
+    except TypeError:
+        return -1
 
 
 def checked_total(total: int) -> int:
@@ -63,7 +75,7 @@ def first_block(total: int, budget: int) -> int:
 
 
 def bytes_in(data: BytesLike) -> memoryview:
-    """A view of an object's bytes, one by one. It is copied where it has rows or longer items."""
+    """A view of an object's bytes, one by one. It is copied where it has rows or longer items. Raises `TypeError` for no bytes."""
     view = memoryview(data)
     return view if view.ndim == 1 and view.itemsize == 1 else memoryview(bytes(view))
 
@@ -74,6 +86,16 @@ def blocks(told: Told, total: int) -> Tuple[int, int]:
     end = start + length
     end += -end % BLOCK
     return start - start % BLOCK, end if end < total else total
+
+
+def exactly(data: BytesLike, start: int, length: int) -> bytes:
+    """The bytes from an offset on that were requested. Raises `EOFError` if there are fewer, and `ValueError` if there are more."""
+    if type(data) is not bytes:
+        data = bytes(memoryview(data))
+    if len(data) != length:
+        error = EOFError if len(data) < length else ValueError
+        raise error(f"{length} bytes from offset {start} on were wanted, and {len(data)} came")
+    return data
 
 
 class Parts:
@@ -125,11 +147,7 @@ class Parts:
         return memory
 
     def _taken(self, data: BytesLike) -> bytes:
-        if type(data) is not bytes:
-            data = bytes(memoryview(data))
-        if len(data) != self.length:
-            error = EOFError if len(data) < self.length else ValueError
-            raise error(f"{self.length} bytes from offset {self.start} on were wanted, and {len(data)} came")
+        data = exactly(data, self.start, self.length)
         if self.stored is not None:
             self.stored.append((self.start, data))
         self.taken += self.length
@@ -146,4 +164,31 @@ class Parts:
             end = min(max(end, self.start + (BLOCK << self.reads // 2 - 3)), self.total)
         self.length = end - self.start
         if self.taken + self.length > self.budget:
+            self.told, self.length = SPENT, 0
+
+
+class TypeParts:
+    """The blocks of an input that tell its type, beginning with the first one. They are used as those of `Parts`."""
+
+    __slots__ = ("total", "budget", "data", "spans", "start", "length", "told")
+
+    def __init__(self, front: BytesLike, total: int, budget: int) -> None:
+        self.total = total
+        self.budget = budget
+        self.data = b""
+        self.spans: List[int] = []
+        self.start = 0
+        self.length = first_block(total, budget)
+        self.add(front)
+
+    def add(self, data: BytesLike) -> None:
+        """Adds the requested bytes. Raises `EOFError` if there are fewer, and `ValueError` if there are more."""
+        self.data += exactly(data, self.start, self.length)
+        self.spans += self.start, self.length
+        self.told = type_of_parts(self.data, self.spans, self.total)
+        self.length = 0
+        if self.told[0] == WANTED:
+            self.start, end = blocks(self.told, self.total)
+            self.length = end - self.start
+        if len(self.data) + self.length > self.budget:
             self.told, self.length = SPENT, 0

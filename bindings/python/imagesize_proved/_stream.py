@@ -2,14 +2,16 @@
 
 from __future__ import annotations
 
+import io
 import mmap
+import os
 import sys
 from collections import abc
-from typing import AsyncIterable, AsyncIterator, Awaitable, Callable, Iterable, Iterator, NoReturn, Optional, Protocol, Union
+from typing import AsyncIterable, AsyncIterator, Awaitable, Callable, Iterable, Iterator, List, NoReturn, Optional, Protocol, Union
 
 from ._library import Stream, Told
 from ._parts import BLOCK, BUDGET, LONGEST, SPENT, WANTED, BytesLike, bytes_in, checked, checked_total
-from ._types import Probed, probed
+from ._types import ImageError, Probed, Status, probed
 
 
 class ReadableFile(Protocol):
@@ -26,6 +28,9 @@ class AsyncReadableFile(Protocol):
 
 Chunks = Union[ReadableFile, Iterable[BytesLike]]
 AsyncChunks = Union[AsyncReadableFile, AsyncIterable[BytesLike]]
+Keep = Optional[List[BytesLike]]
+
+END_OF_INPUT = Status.END_OF_INPUT
 
 _PIECE = 1 << 16  # the bytes that are passed in one call: other threads run in between, and no more are copied
 
@@ -94,13 +99,21 @@ def _pieces(chunk: BytesLike) -> Iterator[bytes]:
     if type(chunk) is bytes and len(chunk) <= _PIECE:
         yield chunk
         return
+    if isinstance(chunk, (str, os.PathLike)):
+        raise TypeError(f"a chunk is bytes, and not {type(chunk).__name__}: for several files, call probe with one path at a time")
     with bytes_in(chunk) as view:
         for start in range(0, len(view) or 1, _PIECE):
             yield bytes(view[start : start + _PIECE])
 
 
 def is_read_once(image: object) -> bool:
-    """Whether an input is chunks, a file that cannot seek, or one that seeks by decompressing what comes before."""
+    """Whether an input is chunks, a file that cannot seek, or one that seeks by decompressing what comes before.
+
+    Raises `TypeError` for a file of text, and `ImageError` for an empty list, which has neither a path nor a chunk.
+    """
+    check_binary(image)
+    if isinstance(image, (list, tuple)) and not image:
+        raise ImageError(END_OF_INPUT, message=f"the {type(image).__name__} is empty, and has no chunk of an image")
     if hasattr(image, "read") and not isinstance(image, mmap.mmap):
         return not _seeks(image)
     try:
@@ -108,6 +121,12 @@ def is_read_once(image: object) -> bool:
     except TypeError:
         return isinstance(image, abc.Iterable)
     return False
+
+
+def check_binary(file: object) -> None:
+    """Raises `TypeError` for a file of text."""
+    if isinstance(file, io.TextIOBase):
+        raise TypeError('an image is an open binary file, and not one of text: open it with the mode "rb"')
 
 
 def _seeks(file: object) -> bool:
@@ -118,16 +137,21 @@ def _seeks(file: object) -> bool:
     return bool(seekable()) if seekable else hasattr(file, "seek")
 
 
-def read_once(image: Chunks, budget: int) -> Told:
-    """Type and size of the image in chunks, or in a file from its offset on. No more is read than is needed, but for its block."""
+def read_once(image: Chunks, budget: int, keep: Keep = None) -> Told:
+    """Type and size of the image in chunks, or in a file from its offset on. No more is read than is needed, but for its block.
+
+    With a list `keep`, the chunks that were read are appended to it, and a generator stays open.
+    """
     stream = StreamProbe(budget=budget)
     chunks = iter(_chunks(image, stream))
     try:
         for chunk in chunks:
+            if keep is not None:
+                keep.append(chunk)
             if stream._add(chunk):
                 break
     finally:
-        if isinstance(chunks, abc.Generator):
+        if keep is None and isinstance(chunks, abc.Generator):
             chunks.close()
     return stream._end()
 
@@ -139,16 +163,18 @@ def _chunks(image: Chunks, stream: StreamProbe) -> Iterable[BytesLike]:
     return iter(lambda: read(min(BLOCK, stream._left)), b"")
 
 
-async def read_once_async(image: AsyncChunks, total: Optional[int], budget: int) -> Told:
+async def read_once_async(image: AsyncChunks, total: Optional[int], budget: int, keep: Keep = None) -> Told:
     """The same of chunks that are awaited, in an input of this length if it is known."""
     stream = StreamProbe(total, budget=budget)
     chunks = _awaited_chunks(image, stream)
     try:
         async for chunk in chunks:
+            if keep is not None:
+                keep.append(chunk)
             if stream._add(chunk):
                 break
     finally:
-        if isinstance(chunks, abc.AsyncGenerator):
+        if keep is None and isinstance(chunks, abc.AsyncGenerator):
             await chunks.aclose()
     return stream._end()
 

@@ -2,7 +2,6 @@
 
 from __future__ import annotations
 
-import dataclasses
 import functools
 import os
 from enum import IntEnum
@@ -223,7 +222,7 @@ class Span(NamedTuple):
     len: int
 
 
-@dataclasses.dataclass(frozen=True, order=True)
+@functools.total_ordering
 class ImageType:
     """A type of image, with its compression if the type has one.
 
@@ -231,14 +230,46 @@ class ImageType:
     type has this compression.
     """
 
-    kind: Kind
-    compression: Compression = Compression.NO_COMPRESSION
+    __slots__ = ("kind", "compression")
+    __match_args__ = ("kind", "compression")
 
-    def __post_init__(self) -> None:
-        object.__setattr__(self, "kind", Kind(self.kind))
-        object.__setattr__(self, "compression", Compression(self.compression))
+    kind: Kind
+    compression: Compression
+
+    def __init__(self, kind: Kind, compression: Compression = Compression.NO_COMPRESSION) -> None:
+        object.__setattr__(self, "kind", Kind(kind))
+        object.__setattr__(self, "compression", Compression(compression))
         if _name(self.kind, self.compression) is None:
             raise ValueError(f"no type is {self.kind!r} with {self.compression!r}")
+
+    def __setattr__(self, name: str, value: object) -> None:
+        raise AttributeError(f"an ImageType does not change, so {name} cannot be set")
+
+    def __delattr__(self, name: str) -> None:
+        raise AttributeError(f"an ImageType does not change, so {name} cannot be deleted")
+
+    def __eq__(self, other: object) -> bool:
+        if not isinstance(other, ImageType):
+            return NotImplemented
+        return self._key == other._key
+
+    def __lt__(self, other: ImageType) -> bool:
+        if not isinstance(other, ImageType):
+            return NotImplemented
+        return self._key < other._key
+
+    def __hash__(self) -> int:
+        return hash(self._key)
+
+    def __repr__(self) -> str:
+        return f"ImageType(kind={self.kind!r}, compression={self.compression!r})"
+
+    def __reduce__(self) -> Tuple[Any, ...]:
+        return type(self), self._key
+
+    @property
+    def _key(self) -> Tuple[Kind, Compression]:
+        return self.kind, self.compression
 
     @property
     def name(self) -> str:
@@ -311,16 +342,19 @@ class ImageError(Exception):
     if one was found, and `filename` the path if there is one; both can be None.
     """
 
-    def __init__(self, status: int, image_type: Optional[ImageType] = None, filename: Optional[str] = None) -> None:
+    def __init__(
+        self, status: int, image_type: Optional[ImageType] = None, filename: Optional[str] = None, *, message: Optional[str] = None
+    ) -> None:
         self.status = Status(status)
         self.image_type = image_type
         self.filename = filename
+        self._message = message
         super().__init__(self.status)
 
     @property
     def message(self) -> str:
         """Why there is no size, in words."""
-        return _MESSAGES.get(self.status) or self.text
+        return self._message or _MESSAGES.get(self.status) or self.text
 
     @property
     def text(self) -> str:

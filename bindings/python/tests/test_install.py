@@ -5,6 +5,7 @@ import pathlib
 import re
 import subprocess
 import sys
+import tarfile
 import tempfile
 import unittest
 import zipfile
@@ -63,6 +64,40 @@ class Install(unittest.TestCase):
             self.assertEqual(name, f"imagesize_proved-{imagesize_proved.__version__}.tar.gz")
             self.pip_install(str(pathlib.Path(sources) / name))
         self.assertEqual(self.said(SCRIPT), self.wanted(self.folder))
+
+    def test_sdist_on_another_platform(self) -> None:
+        """The build fails, and says why: a package that cannot be imported is not installed."""
+        with tempfile.TemporaryDirectory() as sources:
+            with tarfile.open(pathlib.Path(sources) / build_wheel.build_sdist(sources)) as sdist:
+                sdist.extractall(sources)
+            unpacked = pathlib.Path(sources) / f"imagesize_proved-{imagesize_proved.__version__}"
+            library = unpacked / "imagesize_proved" / "libimagesize.so"
+            data = bytearray(library.read_bytes())
+            data[18] = 183  # the machine of an ELF file: AArch64
+            library.write_bytes(data)
+            command = [sys.executable, "-c", "import build_wheel; build_wheel.build_wheel('.')"]
+            run = subprocess.run(command, cwd=unpacked, stdout=subprocess.PIPE, stderr=subprocess.PIPE, text=True)
+        self.assertRegex(run.stderr, r"^imagesize-proved: its library is for Linux on x86-64 processors, with glibc 2.14 or later\. This machine")
+        self.assertEqual(run.returncode, 1)
+
+    def test_examples(self) -> None:
+        """The examples are in the package, and run there."""
+        self.pip_install(str(HERE.parent))
+        folder = pathlib.Path(self.folder) / "imagesize_proved" / "examples"
+        self.assertEqual(sorted(path.name for path in folder.glob("*.py")), ["form.py", "remote.py", "upload.py"])
+        environment = {**os.environ, "PYTHONPATH": self.folder}
+        for module in ("upload", "remote"):
+            command = [sys.executable, str(folder / f"{module}.py"), *(["--help"] if module == "upload" else [])]
+            run = subprocess.run(command, env=environment, cwd=self.folder, stdout=subprocess.PIPE, stderr=subprocess.PIPE, text=True)
+            self.assertEqual((run.returncode, run.stderr), (0 if module == "upload" else 2, ""))
+
+    def test_import_loads_what_is_needed(self) -> None:
+        """These modules take longer than all of the package."""
+        script = "import sys; before = set(sys.modules); import imagesize_proved; print(*sorted(set(sys.modules) - before))"
+        environment = {**os.environ, "PYTHONPATH": str(HERE.parent)}
+        run = subprocess.run([sys.executable, "-S", "-c", script], env=environment, stdout=subprocess.PIPE, text=True, check=True)
+        for module in ("argparse", "asyncio", "dataclasses", "inspect", "json", "pathlib", "tempfile", "urllib"):
+            self.assertNotIn(module, run.stdout.split())
 
     def test_tag(self) -> None:
         name = build_wheel.build_wheel(self.folder, {"platform": "manylinux_2_17_x86_64.manylinux2014_x86_64"})

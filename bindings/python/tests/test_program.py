@@ -71,7 +71,7 @@ class Program(unittest.TestCase):
     def test_files_that_cannot_be_read(self) -> None:
         for error, text in (FileNotFoundError(2, "No such file or directory"), "No such file or directory"), (EOFError(), "became shorter"):
             with mock.patch("imagesize_proved.__main__.probe", side_effect=error):
-                row = program.row_of("a.gif", False)
+                row = program.row_of(str(self.folder / "a.gif"), False)
             self.assertEqual((row["status"], row["type"], row["width"]), ("FAULT", None, None))
             self.assertIn(text, row["error"])
 
@@ -81,11 +81,7 @@ class Program(unittest.TestCase):
         self.assertEqual([row["status"] for row in rows], [None, "END_OF_INPUT", None, "NOT_SUPPORTED"])
 
     def test_folder_that_cannot_be_read(self) -> None:
-        def walk(folder: str, onerror: Any) -> Any:
-            onerror(PermissionError(13, "Permission denied", folder))
-            return iter(())
-
-        with mock.patch("os.walk", walk):
+        with mock.patch("os.scandir", side_effect=PermissionError(13, "Permission denied")):
             self.assertEqual(list(program.files([str(self.folder)], True)), [str(self.folder)])
 
     def test_spans(self) -> None:
@@ -118,7 +114,7 @@ class Program(unittest.TestCase):
     def test_names_that_are_no_text(self) -> None:
         name = os.fsdecode(b"a\xff\n.gif")
         (self.folder / name).write_bytes(GIF)
-        self.assertEqual(self.run_it(name).stdout, "Gif                 640x480  a\\udcff\\n.gif\n")
+        self.assertEqual(self.run_it(name).stdout, "Gif                 640x480  a\\xff\\n.gif\n")
         self.assertEqual(json.loads(self.run_it("--json", name).stdout)[0]["path"], name)
 
     def test_output_that_is_closed(self) -> None:
@@ -126,7 +122,7 @@ class Program(unittest.TestCase):
         os.close(reader)
         for arguments in ("a.gif",), ("a.gif",) * 1000, ("--json", "a.gif"):
             said = self.run_it(*arguments, stdout=writer)
-            self.assertEqual((said.returncode, said.stderr), (1, ""))
+            self.assertEqual((said.returncode, said.stderr), (1, "imagesize: standard output: Broken pipe\n"))
         os.close(writer)
 
     def test_version(self) -> None:
@@ -136,17 +132,32 @@ class Program(unittest.TestCase):
         def written(seconds: List[float], stream: io.StringIO) -> str:
             clock = iter(seconds)
             with mock.patch("time.monotonic", lambda: next(clock)), mock.patch("sys.stderr", stream):
-                list(program.described(iter(["a.gif", "b.gif"]), False))
+                list(program.described(iter([str(self.folder / "a.gif"), "none"]), False))
             return stream.getvalue()
 
         self.assertEqual(written([0, 0.5, 0.9], Terminal()), "")
-        self.assertEqual(written([0, 0.5, 1.2], Terminal()), "\r2: b.gif\x1b[K\r\x1b[K")
-        self.assertEqual(written([0, 1.2, 1.25], Terminal()), "\r1: a.gif\x1b[K\r\x1b[K")
-        self.assertEqual(written([0, 1, 1.05], Terminal()), "\r1: a.gif\x1b[K\r\x1b[K")
+        self.assertEqual(written([0, 0.5, 2], Terminal()), "\r2 files, 1 a second, 1 errors\x1b[K\r\x1b[K")
+        self.assertEqual(written([0, 1.25, 1.3], Terminal()), "\r1 files, 1 a second, 0 errors\x1b[K\r\x1b[K")
         self.assertEqual(written([0, 1.2, 1.5], io.StringIO()), "")
         with mock.patch.dict(os.environ, {"COLUMNS": "6"}):
-            self.assertEqual(written([0, 0.5, 1.2], Terminal()), "\r2: b.\x1b[K\r\x1b[K")
+            self.assertEqual(written([0, 0.5, 1.2], Terminal()), "\r2 fil\x1b[K\r\x1b[K")
+
+    def test_jobs(self) -> None:
+        """A pool of processes prints what one process does, in the same order."""
+        for number in range(300):
+            (self.folder / "b" / f"{number}.gif").write_bytes(GIF[: number % 13])
+        forms: List[List[str]] = [[], ["--json", "--spans"]]
+        for options in forms:
+            wanted = self.run_it(*options, "--recursive", ".", "none", "-", stdin=subprocess.DEVNULL)
+            for jobs in ("1", "3"):
+                said = self.run_it(*options, "--jobs", jobs, "--recursive", ".", "none", "-", stdin=subprocess.DEVNULL, timeout=60)
+                self.assertEqual((said.stdout, said.stderr, said.returncode), (wanted.stdout, "", 1))
+        with open(self.folder / "a.gif") as file:
+            said = self.run_it("--jobs", "2", "c.jpg", "-", "a.gif", stdin=file, timeout=60)
+        self.assertEqual([line.split()[0] for line in said.stdout.splitlines()], ["Jpeg", "Gif", "Gif"])
+        for jobs in ("0", "-1", "many", ""):
+            self.assertEqual(self.run_it("--jobs", jobs, "a.gif").returncode, 2)
 
     def test_interrupt(self) -> None:
         with mock.patch.object(program, "probe", side_effect=KeyboardInterrupt):
-            self.assertEqual(program.main(["a.gif"]), 130)
+            self.assertEqual(program.main([str(self.folder / "a.gif")]), 130)

@@ -21,6 +21,7 @@ import imagesize_proved as imagesize
 from imagesize_proved import ImageError, Size, Status
 
 from . import GIF
+from .test_worked import rows
 
 FRAME = b"\xff\xc0\0\x11\x08\0\x05\0\x07" + bytes(8)
 """The frame of a JPEG of 7x5."""
@@ -292,6 +293,58 @@ class Reading(unittest.TestCase):
             except ImageError:
                 pass
             self.assertEqual(file.tell(), 5)
+
+
+class Types(unittest.TestCase):
+    """The type of a file: only the bytes that tell it are read."""
+
+    def test_type_of_a_hostile_file(self) -> None:
+        """A JPEG of segments without end, from one block of it: no budget is spent."""
+        hostile = b"\xff\xd8" + b"\xff\xe0\0\x02" * (1 << 18)
+        with tempfile.NamedTemporaryFile() as file:
+            file.write(hostile)
+            file.truncate(1 << 40)
+            file.flush()
+            images: List[Any] = [file.name, pathlib.Path(file.name), open(file.name, "rb")]
+            self.addCleanup(images[-1].close)
+            images[-1].seek(5)
+            for image in images:
+                with mock.patch("os.pread", side_effect=os.pread) as pread:
+                    self.assertEqual(imagesize.image_type(image, budget=12).kind, imagesize.Kind.JPEG)
+                self.assertLessEqual([call.args[1] for call in pread.mock_calls], [12])
+            self.assertEqual(images[-1].tell(), 5)
+        for view in (bytearray(hostile), memoryview(hostile)):
+            self.assertEqual(imagesize.image_type(view).kind, imagesize.Kind.JPEG)
+
+    def test_types_of_test_vectors(self) -> None:
+        """By a path, an open file and a view they are those of all bytes."""
+        def outcome(image: Any) -> Any:
+            try:
+                return imagesize.image_type(image)
+            except ImageError as error:
+                return error.status
+
+        with tempfile.NamedTemporaryFile() as file:
+            for data, _, _ in rows():
+                file.seek(0)
+                file.truncate()
+                file.write(data)
+                file.flush()
+                wanted = outcome(data)
+                for image in (file.name, file, bytearray(data)):
+                    self.assertEqual(outcome(image), wanted, data)
+
+    def test_budget_that_is_spent(self) -> None:
+        """The type of a TGA depends on its end too."""
+        tga = b"\0\0\x02" + bytes(9) + b"\x07\0\x05\0\x18\0" + bytes(10000)
+        self.assertEqual(imagesize.image_type(bytearray(tga)), imagesize.image_type(tga))
+        with tempfile.NamedTemporaryFile() as file:
+            file.write(tga)
+            file.flush()
+            self.assertEqual(imagesize.image_type(file.name), imagesize.image_type(tga))
+            with self.assertRaises(ImageError) as raised:
+                imagesize.image_type(file.name, budget=11)
+        self.assertEqual(raised.exception.status, Status.BUDGET_SPENT)
 
 
 class Failing(unittest.TestCase):

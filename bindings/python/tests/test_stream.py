@@ -337,8 +337,9 @@ class Iterables(unittest.TestCase):
 
     def test_other_things(self) -> None:
         things: List[Any] = [[71, 73], ["GIF89a"], [None], 7, object(), awaited([GIF]), awaited]
+        calls: List[Callable[..., Any]] = [imagesize.probe, imagesize.size, imagesize.image_type]
         for thing in things:
-            for call in (imagesize.probe, imagesize.size, imagesize.image_type):
+            for call in calls:
                 self.assertRaises(TypeError, call, thing)
         others: List[Any] = [GIF, [GIF], 7, None, io.BytesIO(GIF), awaited([1])]  # type: ignore[list-item]
         for other in others:
@@ -473,8 +474,9 @@ class Files(unittest.TestCase):
 
     def test_pipe(self) -> None:
         """Nobody waits for bytes that are not needed, though the other end is open."""
+        calls: List[Callable[..., Any]] = [imagesize.probe, imagesize.size, imagesize.image_type]
         for buffering in (-1, 0):
-            for call in (imagesize.probe, imagesize.size, imagesize.image_type):
+            for call in calls:
                 call(self.pipe(GIF, buffering)[0])
             file, _ = self.pipe(GIF + b"rest" * 2000, buffering)
             self.assertEqual(imagesize.probe(file).size, (640, 480))
@@ -597,3 +599,66 @@ class Files(unittest.TestCase):
                 with http.client.HTTPResponse(ours) as response:
                     response.begin()
                     self.assertEqual(line(imagesize.probe, response), found)
+
+
+class Kept(unittest.TestCase):
+    """A caller that goes on with an input after its result."""
+
+    IMAGE = jpeg(2, 5000) + bytes(30000)
+
+    def test_chunks(self) -> None:
+        chunks = (piece for piece in pieces(self.IMAGE, 1000))
+        kept: List[Any] = [b""]
+        self.assertEqual(imagesize.probe(chunks, keep=kept).size, imagesize.size(self.IMAGE))
+        self.assertEqual(len(kept), 12)
+        self.assertEqual(b"".join([*kept, *chunks]), self.IMAGE)
+
+    def test_files(self) -> None:
+        packed = gzip.GzipFile(fileobj=io.BytesIO(gzip.compress(self.IMAGE)))
+        files: List[Any] = [Once(self.IMAGE, 3000), OnlyRead(self.IMAGE), packed]
+        for file in files:
+            kept: List[Any] = []
+            self.assertEqual(imagesize.probe(file, keep=kept).size, imagesize.size(self.IMAGE))
+            self.assertLess(len(b"".join(kept)), 20000)
+            self.assertEqual(b"".join([*kept, *iter(partial(file.read, 1000), b"")]), self.IMAGE)
+
+    def test_awaited_chunks(self) -> None:
+        async def run() -> bytes:
+            chunks, kept = awaited(pieces(self.IMAGE, 1000)), []  # type: Any, List[Any]
+            await imagesize.probe_async(chunks, keep=kept)
+            return b"".join([*kept, *[chunk async for chunk in chunks]])
+
+        self.assertEqual(asyncio.run(run()), self.IMAGE)
+
+    def test_reader(self) -> None:
+        async def run() -> bytes:
+            reader, kept = asyncio.StreamReader(), []  # type: Any, List[Any]
+            reader.feed_data(self.IMAGE)
+            reader.feed_eof()
+            await imagesize.probe_async(reader, keep=kept)
+            return b"".join([*kept, await reader.read()])
+
+        self.assertEqual(asyncio.run(run()), self.IMAGE)
+
+    def test_errors(self) -> None:
+        """What was read of an input without a result is kept too."""
+        kept: List[Any] = []
+        with self.assertRaises(ImageError):
+            imagesize.probe(iter(pieces(CUT, 3)), keep=kept)
+        self.assertEqual(b"".join(kept), CUT)
+        kept.clear()
+        with self.assertRaises(ImageError) as raised:
+            imagesize.probe(iter(pieces(self.IMAGE, 1000)), budget=2500, keep=kept)
+        self.assertEqual((raised.exception.status, len(kept)), (Status.BUDGET_SPENT, 3))
+
+    def test_images_that_can_be_read_again(self) -> None:
+        images: List[Any] = [GIF, bytearray(GIF), "photo.gif", io.BytesIO(GIF)]
+        for image in images:
+            with self.assertRaisesRegex(TypeError, "keep is for chunks"):
+                imagesize.probe(image, keep=[])
+
+        async def read(start: int, length: int) -> bytes:
+            return GIF[start : start + length]
+
+        with self.assertRaisesRegex(TypeError, "keep is for chunks"):
+            asyncio.run(imagesize.probe_async(read, len(GIF), keep=[]))  # type: ignore[call-overload]

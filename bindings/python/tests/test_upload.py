@@ -2,6 +2,7 @@
 
 import asyncio
 import http.client
+import io
 import pathlib
 import re
 import socket
@@ -10,8 +11,10 @@ import threading
 import time
 import unittest
 from http.server import ThreadingHTTPServer
-from typing import Any, Dict, Iterable, List, Tuple
+from typing import Any, AsyncIterator, Dict, Iterable, List, Tuple
 from unittest import mock
+
+import imagesize_proved
 
 from . import GIF
 
@@ -113,15 +116,21 @@ class Uploads(unittest.TestCase):
         self.assertGreater(time.monotonic(), start + 0.5)
 
 
+def of_page(name: str) -> Any:
+    """A coroutine function in docs/CHUNKS.md."""
+    text = (pathlib.Path(__file__).resolve().parents[3] / "docs" / "CHUNKS.md").read_text()
+    (code,) = re.findall(rf"^```python\n([^`]*^async def {name}.*?)^```$", text, re.MULTILINE | re.DOTALL)
+    names: Dict[str, Any] = {"imagesize_proved": imagesize_proved}
+    exec(code, names)
+    return names[name]
+
+
 class Asgi(unittest.TestCase):
     """The application in docs/CHUNKS.md."""
 
     def respond(self, chunks: Iterable[bytes]) -> Tuple[int, int]:
         """The status that the application sends for a body, and how many chunks of it were received."""
-        text = (pathlib.Path(__file__).resolve().parents[3] / "docs" / "CHUNKS.md").read_text()
-        (code,) = re.findall(r"^```python\n([^`]*^async def application.*?)^```$", text, re.MULTILINE | re.DOTALL)
-        names: Dict[str, Any] = {}
-        exec(code, names)
+        application = of_page("application")
         body = [*chunks]
         events = iter([{"type": "http.request", "body": chunk, "more_body": chunk is not body[-1]} for chunk in body])
         sent: List[Dict[str, Any]] = []
@@ -135,7 +144,7 @@ class Asgi(unittest.TestCase):
         async def send(event: Dict[str, Any]) -> None:
             sent.append(event)
 
-        asyncio.run(names["application"]({"type": "http"}, receive, send))
+        asyncio.run(application({"type": "http"}, receive, send))
         self.assertEqual([event["type"] for event in sent], ["http.response.start", "http.response.body"])
         return sent[0]["status"], received
 
@@ -144,3 +153,15 @@ class Asgi(unittest.TestCase):
         self.assertEqual(self.respond([LARGE[:10], LARGE[10:], bytes(100)]), (413, 2))
         self.assertEqual(self.respond([GIF[:8], b""]), (415, 2))
         self.assertEqual(self.respond([]), (415, 1))
+
+    def test_store(self) -> None:
+        """All of a body is stored, that is read and that is not."""
+        body, file = [GIF[:7], GIF[7:], b"x" * 1000, b"y"], io.BytesIO()
+
+        class Request:
+            async def stream(self) -> AsyncIterator[bytes]:
+                for chunk in body:
+                    yield chunk
+
+        asyncio.run(of_page("store")(Request(), file))
+        self.assertEqual(file.getvalue(), b"".join(body))

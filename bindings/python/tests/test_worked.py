@@ -97,7 +97,7 @@ class Worked(unittest.TestCase):
                         self.assertEqual(line(imagesize.probe, form), wanted)
 
     def test_surprises(self) -> None:
-        self.assertEqual(len(list(surprises())), 8)
+        self.assertEqual(len(list(surprises())), 14)
         for data, wanted in surprises():
             self.path.write_bytes(data)
             with self.subTest(wanted=wanted):

@@ -2,10 +2,12 @@
 
 import copy
 import ctypes
+import io
 import os
 import pathlib
 import pickle
 import re
+import shutil
 import subprocess
 import sys
 import tempfile
@@ -141,6 +143,34 @@ class Arguments(unittest.TestCase):
             for call in calls:
                 self.assertRaises(TypeError, call, thing)
 
+    def test_clear_errors(self) -> None:
+        """What a caller mixes up is said in the error."""
+        calls: List[Callable[..., Any]] = [imagesize.probe, imagesize.size, imagesize.image_type]
+        spans: Callable[..., Any] = imagesize.spans
+        with open(__file__) as file:
+            for text in (file, io.StringIO("GIF89a")):
+                for call in (*calls, spans):
+                    with self.assertRaisesRegex(TypeError, 'open it with the mode "rb"'):
+                        call(text)
+        lists: List[Callable[[], Any]] = [lambda: ["a.gif", "b.gif"], lambda: (pathlib.Path("a.gif"),), lambda: iter(["a.gif"])]
+        for paths in lists:
+            for call in calls:
+                with self.assertRaisesRegex(TypeError, "a chunk is bytes, and not .*: for several files, call probe with one path at a time"):
+                    call(paths())
+        empty: List[Any] = [[], ()]
+        for nothing in empty:
+            for call in calls:
+                with self.assertRaisesRegex(ImageError, "^the (list|tuple) is empty, and has no chunk of an image$") as raised:
+                    call(nothing)
+                self.assertEqual((raised.exception.status, raised.exception.text), (Status.END_OF_INPUT, "failed to fill whole buffer"))
+                self.assertEqual(str(pickle.loads(pickle.dumps(raised.exception))), str(raised.exception))
+        limits: List[Any] = [None, -1, 1.5, "many"]
+        for limit in limits:
+            with self.assertRaisesRegex(ValueError, "a limit is a whole number of spans, at least 0, and not"):
+                imagesize.spans(GIF, limit=limit)
+        self.assertEqual(len(imagesize.spans(GIF, limit=3)), 3)
+        self.assertEqual(imagesize.spans(b"", limit=0), [])
+
     def test_views(self) -> None:
         words = memoryview(GIF * 3).cast("I")
         self.assertEqual(imagesize.probe(words).size, (640, 480))
@@ -178,7 +208,8 @@ class Buffers(unittest.TestCase):
         self.assertGreaterEqual(ctypes.sizeof(room), 8 * len(places) + 8 * (length == 5))
 
     def test_bytes(self) -> None:
-        for call, use, count in ("_probe", imagesize.probe, 4), ("_type", imagesize.image_type, 2):
+        calls: List[Tuple[str, Callable[..., Any], int]] = [("_probe", imagesize.probe, 4), ("_type", imagesize.image_type, 2)]
+        for call, use, count in calls:
             ((data, length, *references),) = self.passed(call, lambda: use(GIF))
             self.assertEqual((data, length, len(references)), (GIF, len(GIF), count))
             self.results(references, count)
@@ -252,3 +283,14 @@ class Libraries(unittest.TestCase):
 
     def test_wrong_library(self) -> None:
         self.assertRegex(self.importing("libc.so.6"), "ImportError: .*imagesize_type.*examples/run build")
+
+    def test_packed_library_of_another_platform(self) -> None:
+        """An installed package says where its library runs, and not how the repository builds one."""
+        with tempfile.TemporaryDirectory() as folder:
+            shutil.copytree(PACKAGE / "imagesize_proved", pathlib.Path(folder) / "imagesize_proved")
+            (pathlib.Path(folder) / "imagesize_proved" / "libimagesize.so").write_bytes(b"\xcf\xfa\xed\xfe")
+            environment = {**os.environ, "PYTHONPATH": folder}
+            environment.pop("IMAGESIZE_LIBRARY", None)
+            command = [sys.executable, "-c", "import imagesize_proved"]
+            said = subprocess.run(command, env=environment, stderr=subprocess.PIPE, text=True, cwd=folder).stderr
+        self.assertRegex(said, r"ImportError: .*libimagesize\.so.*; it runs on Linux on x86-64 processors, with glibc\n$")

@@ -36,6 +36,8 @@ fn admit<R: BufRead + Seek>(upload: &mut R) -> Result<ImageSize, Refusal> {
     let kind = imagesize::reader_type(&mut *upload)?;
     match kind {
         ImageType::Jpeg | ImageType::Gif | ImageType::Webp => {}
+        #[cfg(feature = "png")]
+        ImageType::Png => {}
         ImageType::Heif(Compression::Av1) => {}
         other => return Err(Refusal::Type(other)),
     }

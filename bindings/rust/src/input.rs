@@ -3,7 +3,7 @@
 use crate::sys::{self, Parts, Rounds, Span, Told};
 use crate::{ImageError, ImageResult, ImageSize, ImageType};
 use std::fs::File;
-use std::io::{Read, Seek, SeekFrom};
+use std::io::{self, ErrorKind, Read, Seek, SeekFrom};
 
 /// Blocks begin and end at multiples of this, or where the input ends.
 pub(crate) const BLOCK: u64 = 4096;
@@ -136,7 +136,7 @@ impl<R: Read + Seek> Input<R> {
             self.reader.seek(SeekFrom::Start(offset))?;
         }
         self.bytes.resize(known + block.len as usize, 0);
-        self.reader.read_exact(&mut self.bytes[known..])?;
+        read_whole(&mut self.reader, &mut self.bytes[known..])?;
         self.offset = offset + block.len;
         self.held += block.len as usize;
         match self.spans.last_mut() {
@@ -164,4 +164,36 @@ impl<R: Read + Seek> Input<R> {
             len: end.min(self.total) - start,
         }
     }
+}
+
+/// Reads some bytes, or none at the end of the reader. A read that is interrupted is tried again.
+///
+/// A reader that claims more bytes than its buffer has gives an error: `read_exact` would panic.
+pub(crate) fn read_some<R: Read>(reader: &mut R, buffer: &mut [u8]) -> io::Result<usize> {
+    loop {
+        match reader.read(buffer) {
+            Err(error) if error.kind() == ErrorKind::Interrupted => {}
+            Ok(count) if count > buffer.len() => {
+                let room = buffer.len();
+                let reason =
+                    format!("the reader claims to have read {count} bytes into a buffer of {room}");
+                return Err(io::Error::new(ErrorKind::InvalidData, reason));
+            }
+            read => return read,
+        }
+    }
+}
+
+/// Fills a buffer.
+fn read_whole<R: Read>(reader: &mut R, mut buffer: &mut [u8]) -> io::Result<()> {
+    while !buffer.is_empty() {
+        match read_some(reader, buffer)? {
+            0 => {
+                let reason = "failed to fill whole buffer";
+                return Err(io::Error::new(ErrorKind::UnexpectedEof, reason));
+            }
+            count => buffer = &mut buffer[count..],
+        }
+    }
+    Ok(())
 }

@@ -44,8 +44,9 @@ pub use image_type::ImageType;
 pub use stream::{stream_probe, stream_size, Probed, StreamProbe};
 
 use input::Input;
-use std::fs::File;
+use std::fs::OpenOptions;
 use std::io::{BufRead, Seek};
+use std::os::unix::fs::OpenOptionsExt;
 use std::path::Path;
 
 /// Detects the image type from the first bytes, with its compression if the type has one. The compression is `Unknown` if the
@@ -77,7 +78,8 @@ pub fn image_type(header: &[u8]) -> ImageResult<ImageType> {
 ///
 /// # Errors
 ///
-/// The errors of [`reader_size`], and [`ImageError::IoError`] with the error of the system if the file cannot be opened.
+/// The errors of [`reader_size`], and [`ImageError::IoError`] with the error of the system if the file cannot be opened. The kind is
+/// `NotSeekable` for a pipe, which is not waited for.
 ///
 /// ```
 /// # let path = std::env::temp_dir().join(format!("imagesize-doc-{}.gif", std::process::id()));
@@ -88,8 +90,13 @@ pub fn image_type(header: &[u8]) -> ImageResult<ImageType> {
 /// # Ok::<(), imagesize::ImageError>(())
 /// ```
 pub fn size<P: AsRef<Path>>(path: P) -> ImageResult<ImageSize> {
-    Input::of_file(File::open(path)?)?.probe()?.size()
+    let mut options = OpenOptions::new();
+    options.read(true).custom_flags(O_NONBLOCK);
+    Input::of_file(options.open(path)?)?.probe()?.size()
 }
+
+/// `O_NONBLOCK` of Linux on x86-64, the only system that this package is for. Without it, a call that opens a pipe waits for a writer.
+const O_NONBLOCK: i32 = 0o4000;
 
 /// Reads the size of an image from its bytes, in pixels: all bytes of its file, or its first bytes.
 ///

@@ -1,10 +1,10 @@
 //! An image whose bytes arrive in order, and cannot be fetched at an offset.
 
-use crate::input::{BLOCK, MOST_BYTES};
+use crate::input::{read_some, BLOCK, MOST_BYTES};
 use crate::sys::{self, Parts, Stream, Told};
 use crate::{ImageError, ImageResult, ImageSize, ImageType};
 use std::fmt;
-use std::io::{self, ErrorKind, Read};
+use std::io::Read;
 
 /// A PNG has its size within so many first bytes.
 const HEAD: usize = 24;
@@ -158,7 +158,7 @@ pub fn stream_size<R: Read>(reader: R) -> ImageResult<ImageSize> {
 /// # Errors
 ///
 /// [`ImageError::IoError`] with the reader's own error if a read fails. The kind is `InvalidData` if there is no result after
-/// 64 MiB.
+/// 64 MiB, or if the reader claims more bytes than its buffer has.
 ///
 /// ```
 /// use imagesize::{stream_probe, ImageType};
@@ -171,28 +171,22 @@ pub fn stream_size<R: Read>(reader: R) -> ImageResult<ImageSize> {
 /// assert!(read <= 4096);
 /// # Ok::<(), imagesize::ImageError>(())
 /// ```
-pub fn stream_probe<R: Read>(reader: R) -> ImageResult<(Probed, u64)> {
-    let mut reader = reader.take(MOST_BYTES as u64);
+pub fn stream_probe<R: Read>(mut reader: R) -> ImageResult<(Probed, u64)> {
     let mut probe = StreamProbe::new(None);
     let mut block = [0; BLOCK as usize];
+    let mut length = 0;
     let found = loop {
-        let count = read_some(&mut reader, &mut block)?;
+        if length == MOST_BYTES {
+            return Err(ImageError::of_status(sys::BUDGET_SPENT));
+        }
+        let most = block.len().min(MOST_BYTES - length);
+        let count = read_some(&mut reader, &mut block[..most])?;
+        length += count;
         match probe.push(&block[..count]) {
             Some(found) => break found,
             None if count > 0 => {}
-            None if reader.limit() == 0 => return Err(ImageError::of_status(sys::BUDGET_SPENT)),
             None => break probe.finish(),
         }
     };
-    Ok((found, MOST_BYTES as u64 - reader.limit()))
-}
-
-/// Reads some bytes, or none at the end of the reader.
-fn read_some<R: Read>(reader: &mut R, block: &mut [u8]) -> io::Result<usize> {
-    loop {
-        match reader.read(block) {
-            Err(error) if error.kind() == ErrorKind::Interrupted => {}
-            read => return read,
-        }
-    }
+    Ok((found, length as u64))
 }

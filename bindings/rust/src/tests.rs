@@ -35,9 +35,17 @@ fn library_name(kind: u32, compression: u32) -> String {
     }
 }
 
+/// A file of the repository, which the package of a release has in its folder `vendor`.
+fn shared(path: &str) -> String {
+    let package = std::path::Path::new(env!("CARGO_MANIFEST_DIR"));
+    let name = path.rsplit('/').next().unwrap_or(path);
+    std::fs::read_to_string(package.join("vendor").join(name))
+        .or_else(|_| std::fs::read_to_string(package.join("../..").join(path)))
+        .expect("a file that examples/run or a release has")
+}
+
 fn header_text() -> String {
-    let path = concat!(env!("CARGO_MANIFEST_DIR"), "/../../include/imagesize.h");
-    std::fs::read_to_string(path).expect("the header of the repository")
+    shared("include/imagesize.h")
 }
 
 /// The constants of the header, by their names without `IMAGESIZE_`.
@@ -150,8 +158,7 @@ fn families_are_those_of_the_header() {
 
 /// The bytes of each test vector of the repository that is no PNG.
 fn worked() -> Vec<Vec<u8>> {
-    let path = concat!(env!("CARGO_MANIFEST_DIR"), "/../../examples/out/worked.tsv");
-    let text = std::fs::read_to_string(path).expect("the test vectors, which examples/run writes");
+    let text = shared("examples/out/worked.tsv");
     let digits = |row: &str| row.split('\t').next().map(|hex| hex.replace('-', ""));
     let byte = |digits: &str| u8::from_str_radix(digits, 16).expect("two digits a byte");
     text.lines()

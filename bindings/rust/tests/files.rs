@@ -68,11 +68,11 @@ fn a_pipe_is_the_error_of_the_system() {
     let pipe = folder.0.join("pipe");
     let made = std::process::Command::new("mkfifo").arg(&pipe).status();
     assert!(made.is_ok_and(|status| status.success()), "a pipe");
-    let name = pipe.clone();
-    let writer = std::thread::spawn(move || fs::write(name, GIF));
-    assert_eq!(io_error(size(&pipe)).kind(), ErrorKind::NotSeekable);
-    // Whether the writer was told that nobody reads is not the matter here.
-    let _ = writer.join();
+    // No writer is waited for.
+    let (found, seen) = std::sync::mpsc::channel();
+    std::thread::spawn(move || found.send(io_error(size(&pipe)).kind()));
+    let kind = seen.recv_timeout(std::time::Duration::from_secs(10));
+    assert_eq!(kind, Ok(ErrorKind::NotSeekable));
 }
 
 #[cfg(unix)]

@@ -41,6 +41,12 @@ fn cargo(program: &str) -> Command {
         "--offline",
         "--manifest-path",
         manifest,
+        "--features",
+        if cfg!(feature = "vendored") {
+            "vendored"
+        } else {
+            ""
+        },
         "--example",
         program,
         "--",
@@ -101,6 +107,15 @@ fn a_gate_takes_some_types_of_some_sizes() {
          d.gif: failed to fill whole buffer\n\
          e.gif: 65535x65535 is too large\n"
     );
+}
+
+#[cfg(feature = "png")]
+#[test]
+fn a_gate_takes_png() {
+    let png = b"\x89PNG\r\n\x1a\n\0\0\0\rIHDR\0\0\x02\x80\0\0\x01\xe0\x08\0\0\0\0";
+    let folder = Folder::new("gate-png", &[("a.png", png)]);
+    let output = run("gate", &folder.0, &["a.png"]);
+    assert_eq!(text(&output.stdout), "a.png: taken, 640x480\n");
 }
 
 #[test]

@@ -355,3 +355,45 @@ fn a_reader_that_stands_behind_its_end_holds_no_image() {
         reader.set_position(u64::MAX);
     }
 }
+
+/// A reader that claims to have read more bytes than its buffer has.
+struct Boastful;
+
+impl Read for Boastful {
+    fn read(&mut self, block: &mut [u8]) -> io::Result<usize> {
+        Ok(block.len() + 1)
+    }
+}
+
+impl Seek for Boastful {
+    fn seek(&mut self, to: SeekFrom) -> io::Result<u64> {
+        Ok(if matches!(to, SeekFrom::End(_)) {
+            100
+        } else {
+            0
+        })
+    }
+}
+
+impl BufRead for Boastful {
+    fn fill_buf(&mut self) -> io::Result<&[u8]> {
+        Ok(&[])
+    }
+
+    fn consume(&mut self, _: usize) {}
+}
+
+#[test]
+fn a_reader_that_claims_more_than_its_buffer_is_an_error() {
+    let calls = [
+        reader_size(&mut Boastful).map(|_| ()),
+        reader_type(Boastful).map(|_| ()),
+        ImageType::Gif.reader_size(&mut Boastful).map(|_| ()),
+    ];
+    for call in calls {
+        match call {
+            Err(ImageError::IoError(error)) => assert_eq!(error.kind(), ErrorKind::InvalidData),
+            other => panic!("{other:?}"),
+        }
+    }
+}

@@ -182,3 +182,24 @@ fn a_limit_of_the_reader_ends_a_walk() -> ImageResult<()> {
     }
     Ok(())
 }
+
+/// A reader that claims to have read more bytes than its buffer has.
+struct Boastful;
+
+impl Read for Boastful {
+    fn read(&mut self, block: &mut [u8]) -> io::Result<usize> {
+        Ok(block.len() + 1)
+    }
+}
+
+#[test]
+fn a_reader_that_claims_more_than_its_buffer_is_an_error() {
+    match stream_size(Boastful) {
+        Err(ImageError::IoError(error)) => {
+            assert_eq!(error.kind(), ErrorKind::InvalidData);
+            let said = "the reader claims to have read 4097 bytes into a buffer of 4096";
+            assert_eq!(error.to_string(), said);
+        }
+        other => panic!("{other:?}"),
+    }
+}

@@ -6,15 +6,23 @@ use imagesize::{
 };
 use std::fs::{self, File};
 use std::io::{self, BufRead, BufReader, Cursor, ErrorKind, Read, Seek, SeekFrom};
-use std::path::PathBuf;
+use std::path::{Path, PathBuf};
 
 /// A PNG that ends before its size. The table has the result of the calls that leave PNG out.
 const PNG: &[u8] = b"\x89PNG\r\n\x1a\n\0\0\0\r";
 
+/// A file of the repository, which the package of a release has in its folder `vendor`.
+fn shared(path: &str) -> String {
+    let package = Path::new(env!("CARGO_MANIFEST_DIR"));
+    let name = path.rsplit('/').next().unwrap_or(path);
+    fs::read_to_string(package.join("vendor").join(name))
+        .or_else(|_| fs::read_to_string(package.join("../..").join(path)))
+        .expect("a file that examples/run or a release has")
+}
+
 /// The bytes of each test vector, and the line that is printed of it.
 fn rows() -> Vec<(Vec<u8>, String)> {
-    let path = concat!(env!("CARGO_MANIFEST_DIR"), "/../../examples/out/worked.tsv");
-    let text = fs::read_to_string(path).expect("the test vectors, which examples/run writes");
+    let text = shared("examples/out/worked.tsv");
     text.lines()
         .map(|row| {
             let mut cells = row.split('\t');
@@ -31,8 +39,7 @@ fn rows() -> Vec<(Vec<u8>, String)> {
 
 /// The bytes of each input that README says may surprise, and the line that is printed of it.
 fn surprises() -> Vec<(Vec<u8>, String)> {
-    let path = concat!(env!("CARGO_MANIFEST_DIR"), "/../../examples/surprises.tsv");
-    let text = fs::read_to_string(path).expect("the inputs that may surprise");
+    let text = shared("examples/surprises.tsv");
     text.lines()
         .filter(|line| !line.starts_with('#'))
         .map(|row| {
@@ -129,7 +136,7 @@ fn bytes_have_the_worked_answers() {
 
 #[test]
 fn what_may_surprise_is_as_the_readme_says() {
-    assert_eq!(surprises().len(), 8);
+    assert_eq!(surprises().len(), 14);
     for (data, wanted) in surprises() {
         assert_eq!(line(image_type(&data), blob_size(&data)), wanted);
         let cursor = || Cursor::new(&data);

@@ -15,6 +15,8 @@ const GIF = `new TextEncoder().encode('GIF89ad\\0\\x32\\0\\0\\0')`;
 const SIZE = `probe(${GIF}).width`;
 const FILES = {
   '/': '<!doctype html><title>module</title>',
+  '/strict': '<!doctype html><title>strict</title>',
+  '/allowed': '<!doctype html><title>allowed</title>',
   '/worker.js': `import { init, probe } from '/imagesize.js'; await init(); postMessage(${SIZE});`,
   '/classic.js': `importScripts('/bundle.js'); const { init, probe } = bundled;
     init('/out/imagesize.wasm').then(() => postMessage(${SIZE}));`,
@@ -26,6 +28,10 @@ if (hasBundler) {
     'imagesize.js', '--bundle', '--format=iife', '--global-name=bundled', '--log-level=error',
   ], { cwd: folder, encoding: 'utf8' });
 }
+
+// The content security policy that the README names, and one that leaves WebAssembly out.
+const [, POLICY] = /`(script-src [^`]*)`/.exec(readFileSync(`${folder}README.md`, 'utf8'));
+const POLICIES = { '/allowed': `default-src 'none'; ${POLICY}`, '/strict': `default-src 'none'; ${POLICY.replace("'wasm-unsafe-eval'", '')}` };
 
 const leaving = new EventEmitter();
 
@@ -41,6 +47,7 @@ function serve({ url }, response) {
     return;
   }
   response.setHeader('Content-Type', TYPES[url.split('.')[1] ?? 'html'] ?? 'text/plain');
+  if (POLICIES[url]) response.setHeader('Content-Security-Policy', POLICIES[url]);
   try {
     response.end(FILES[url] ?? readFileSync(`${folder}${url.slice(1)}`));
   } catch {
@@ -88,6 +95,16 @@ test('the module', async (t) => {
 
     await t.test('in a worker that is a script', { skip: hasBundler ? false : 'no esbuild here' }, async () => {
       assert.equal(await inWorker(`new Worker('/classic.js')`), 100);
+    });
+
+    await t.test('under the content security policy of the README, and not without', async () => {
+      const open = async (name) => {
+        await tab.send('Page.navigate', { url: new URL(name, address).href });
+        await tab.until(`document.title === '${name.slice(1)}'`);
+        return inModule(`await init(); return ${SIZE}`);
+      };
+      assert.equal(await open('/allowed'), 100);
+      assert.match(await open('/strict'), /^ImageError NO_LIBRARY .*the content security policy of the page needs 'wasm-unsafe-eval' in script-src/);
     });
   }));
 });

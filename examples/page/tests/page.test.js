@@ -506,6 +506,7 @@ test('the page', async (t) => {
         open: { ...allowed, 'Access-Control-Expose-Headers': 'Content-Range, ETag', ETag: '"1"' },
         unexposed: allowed,
         closed: {},
+        ranged: allowed,
         whole: allowed,
         packed: { ...allowed, 'Access-Control-Expose-Headers': 'Content-Range', 'Content-Encoding': 'gzip' },
       };
@@ -514,21 +515,23 @@ test('the page', async (t) => {
         const as = new URL(request.url, origin).searchParams.get('as');
         const headers = given[as];
         if (request.method === 'OPTIONS') return response.writeHead(204, headers).end();
-        if (as === 'whole') return response.writeHead(200, headers).end(jpeg);
+        if (as === 'whole' || (as === 'unexposed' && !request.headers.range)) return response.writeHead(200, headers).end(jpeg);
+        if (as === 'ranged' && !request.headers.range) return response.writeHead(206, headers).end(jpeg);
         if (as === 'packed') return giveRange(request, response, packed, headers);
         return giveRange(request, response, jpeg, headers);
       }, async (url) => {
         await lookUp(tab, [...Object.keys(given).map((name) => `${url}?as=${name}`), 'http://']);
         const rows = await tab.value(ROWS);
-        assert.deepEqual(rows.slice(0, 4).map(({ cells }) => cells[3]), [
+        assert.deepEqual(rows.slice(0, 5).map(({ cells }) => cells[3]), [
           '7 × 5',
-          'The server does not tell this page which part of the file it sends.',
+          '7 × 5',
           'The server does not answer, or does not allow this page to read the file.',
+          'The server does not tell this page which part of the file it sends.',
           '7 × 5',
         ]);
         // Some browsers reject such a response themselves.
-        assert.ok(rows[4].refused);
-        assert.equal(rows[5].cells[3], 'This is no web address.');
+        assert.ok(rows[5].refused);
+        assert.equal(rows[6].cells[3], 'This is no web address.');
       });
       await press(tab, '#clear');
     });
