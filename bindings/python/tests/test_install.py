@@ -7,6 +7,7 @@ import subprocess
 import sys
 import tempfile
 import unittest
+import unittest.mock
 import zipfile
 
 import build_wheel
@@ -73,3 +74,39 @@ class Install(unittest.TestCase):
 
     def test_one_version(self) -> None:
         self.assertEqual(build_wheel.project()["version"], imagesize_proved.__version__)
+
+
+class Portable(Install):
+    """The sdist where no wheel fits: a C compiler builds the portable library."""
+
+    def setUp(self) -> None:
+        super().setUp()
+        if not build_wheel.portable():
+            self.skipTest("no portable library here: bindings/portable/build makes its source")
+        chosen = unittest.mock.patch.dict(os.environ, IMAGESIZE_PORTABLE="1")
+        chosen.start()
+        self.addCleanup(chosen.stop)
+
+    def test_sdist(self) -> None:
+        super().test_sdist()
+        library = pathlib.Path(self.folder) / "imagesize_proved" / build_wheel.LIBRARY
+        self.assertNotEqual(library.read_bytes(), build_wheel.library())
+        licences = [str(path) for path in pathlib.Path(self.folder).glob("*.dist-info/licenses/*")]
+        self.assertEqual(sorted(pathlib.Path(path).name for path in licences), ["LICENSE", "LICENSE-wasm2c"])
+
+    def test_no_compiler(self) -> None:
+        with tempfile.TemporaryDirectory() as empty:
+            environment = {**os.environ, "PATH": empty, "CC": "no-such-compiler"}
+            run = subprocess.run([sys.executable, "-c", "import build_wheel; build_wheel.compiled()"], cwd=HERE.parent, env=environment,
+                                 stdout=subprocess.PIPE, stderr=subprocess.PIPE)
+        self.assertEqual(run.returncode, 1)
+        self.assertRegex(run.stderr.decode(), "^imagesize-proved: .* no C compiler was found .*\n$")
+
+    def test_named_library(self) -> None:
+        named = pathlib.Path(self.folder) / "other.so"
+        named.write_bytes(b"the library of another machine")
+        name = build_wheel.build_wheel(self.folder, {"platform": "musllinux_1_2_aarch64", "library": str(named)})
+        with zipfile.ZipFile(pathlib.Path(self.folder) / name) as wheel:
+            self.assertEqual(wheel.read(f"imagesize_proved/{build_wheel.LIBRARY}"), named.read_bytes())
+            records = wheel.read(f"imagesize_proved-{imagesize_proved.__version__}.dist-info/METADATA").decode()
+        self.assertIn("\nLicense-Expression: MIT AND Apache-2.0\nLicense-File: LICENSE\nLicense-File: LICENSE-wasm2c\n", records)
