@@ -15,11 +15,11 @@
 /* As in imagesize_portable.h. */
 #define IMAGESIZE_TRAPPED 255
 
-#if defined __GNUC__ && !defined __clang__
-#pragma GCC diagnostic ignored "-Wunused-but-set-variable"
+/* The module does not use all of the runtime. Nothing that is used after a trap has changed since the mark. */
+#if defined __GNUC__ || defined __clang__
 #pragma GCC diagnostic ignored "-Wunused-function"
-#pragma GCC diagnostic ignored "-Wunused-label"
-#pragma GCC diagnostic ignored "-Wconversion"
-#pragma GCC diagnostic ignored "-Wunused-value"
+#endif
+#if defined __GNUC__ && !defined __clang__
+#pragma GCC diagnostic ignored "-Wclobbered"
 #endif
 

@@ -34,6 +34,26 @@ FRAME = re.compile(r"""  w2c_j0 = instance->w2c_g0;
 MOVED = re.compile(r"  instance->w2c_g0 = ")
 
 
+MODULE = """
+/* The module, by wasm2c. It sets variables that it does not use, and takes numbers as signed or not. */
+#if defined __GNUC__ || defined __clang__
+#pragma GCC diagnostic push
+#pragma GCC diagnostic ignored "-Wunused-parameter"
+#pragma GCC diagnostic ignored "-Wunused-but-set-variable"
+#pragma GCC diagnostic ignored "-Wunused-value"
+#pragma GCC diagnostic ignored "-Wconversion"
+#pragma GCC diagnostic ignored "-Wsign-conversion"
+#endif
+
+"""
+CALLS = """#if defined __GNUC__ || defined __clang__
+#pragma GCC diagnostic pop
+#endif
+
+/* The module's calls by their exported names. */
+"""
+
+
 def stop(why):
     sys.exit(f"portable.py: {why}")
 
@@ -157,13 +177,14 @@ def main(source, out):
     licence = (HERE / "LICENSE-wasm2c").read_text()
     pieces = [
         (HERE / "head.c").read_text(),
-        f"#define TOP UINT64_C({top})\n#define ROOM UINT64_C({room}) /* the deepest call takes {deepest} bytes, and half as much is left over */\n",
+        f"/* The module's stack. The deepest call takes {deepest} bytes of it, and there is room for half as much again. */\n",
+        f"#define TOP UINT64_C({top})\n#ifndef ROOM\n#define ROOM UINT64_C({room})\n#endif\n\n/* The module's constants. */\n",
         f"#define DATA UINT64_C({first})\n",
         "static const unsigned char constants[] = {\n" + "".join(f"    {row},\n" for row in rows) + "};\n\n",
-        (HERE / "runtime.h").read_text(), "\n/* The module, by wasm2c. */\n\n",
+        (HERE / "runtime.h").read_text(), MODULE,
         "".join(f"{head};\n" for head, _ in kept.values()), "\n",
         "".join(f"{head}\n{{\n{whole_addresses(name, body)}}}\n\n" for name, (head, body) in kept.items()),
-        "/* The module's calls by their exported names. */\n",
+        CALLS,
         "#define MODULE(name) MODULE_##name\n",
         "".join(f"#define MODULE_{name} {exports[name]}\n" for name in wanted),
         (HERE / "calls.c").read_text(),

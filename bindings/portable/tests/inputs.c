@@ -1,7 +1,8 @@
 /*
- * Writes inputs for results.c: each sample, and inputs that tests/differential.c makes by the grammars of the formats and by mutations.
+ * Writes inputs for results.c: each image that is named, each sample, and inputs that tests/differential.c makes by the grammars of the
+ * formats and by mutations, COUNT in all besides the images.
  *
- *     inputs SAMPLES SEED COUNT > FILE
+ *     inputs SAMPLES SEED COUNT [IMAGE..] > FILE
  *
  * SAMPLES has one input a line, in hex. An input of FILE is its length in four bytes, the lowest first, and its bytes.
  */
@@ -20,9 +21,17 @@ static void write_input(const struct input *of)
 int main(int argc, char **argv)
 {
     static struct input made;
-    if (argc != 4 || !read_samples(argv[1])) {
-        fprintf(stderr, "usage: inputs SAMPLES SEED COUNT\n");
+    if (argc < 4 || !read_samples(argv[1])) {
+        fprintf(stderr, "usage: inputs SAMPLES SEED COUNT [IMAGE..]\n");
         return 2;
+    }
+    for (int at = 4; at < argc; at++) {
+        FILE *file = fopen(argv[at], "rb");
+        made.length = file ? fread(made.bytes, 1, ROOM, file) : 0;
+        if (!file || fclose(file)) {
+            return 2;
+        }
+        write_input(&made);
     }
     state = strtoull(argv[2], NULL, 10);
     for (unsigned long long at = 0, count = strtoull(argv[3], NULL, 10); at < count; at++) {

@@ -14,9 +14,8 @@ static int failures;
 
 static void expect(int holds, const char *what)
 {
-    if (!holds) {
+    if (!holds && failures++ < 10) {
         fprintf(stderr, "not so: %s\n", what);
-        failures++;
     }
 }
 
