@@ -34,6 +34,7 @@ typedef Z_imagesize_instance_t instance;
 static void begin(instance *in, const uint8_t *bytes, size_t length)
 {
     in->w2c_g0 = FRAME;
+    SET_VARIABLES(in)
     in->w2c_memory.bytes = bytes;
     in->w2c_memory.length = length;
     in->w2c_memory.items = NULL;

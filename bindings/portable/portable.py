@@ -25,14 +25,15 @@ FILL = re.compile(rf"( +)memory_fill\({MEMORY}, w2c_i(\d+), (w2c_i\d+), w2c_i(\d
 CUT = re.compile(r" +w2c_i(\d+) = \(u32\)\(w2c_j\1\);")
 SET = re.compile(r" +w2c_([ij])(\d+) (?:[-+*&|^]|<<|>>)?= ")
 CALL = re.compile(r"\b(w2c_\w+)\(instance\b")
-FRAME = re.compile(r"""  w2c_j0 = instance->w2c_g0;
-  w2c_j1 = (\d+)ull;
-  w2c_j0 -= w2c_j1;
-(?:  w2c_[lp]\d+ = w2c_j0;
-)?  instance->w2c_g0 = w2c_j0;
+SPACE = re.compile(r""" +w2c_j0 = instance->w2c_g0;
+(?: +w2c_l\d+ = w2c_j0;
+)? +w2c_j1 = (\d+)ull;
+ +(w2c_j0 -= w2c_j1;|w2c_i0 = \(u64\)\(\(s64\)w2c_j0 [<>] \(s64\)w2c_j1\);)
 """)
-MOVED = re.compile(r"  instance->w2c_g0 = ")
-
+MOVED = re.compile(r""" +w2c_j0 (?:-|\+)?= \w+;
+(?: +w2c_[lp]\d+ = w2c_j0;
+)? +instance->w2c_g0 = w2c_j0;
+""")
 
 MODULE = """
 /* The module, by wasm2c. It sets variables that it does not use, and takes numbers as signed or not. */
@@ -63,9 +64,9 @@ def parts_of(text):
     functions, exports = {}, {}
     pattern = re.compile(r"^(?:/\* export: '(\w+)' \*/\n)?((?:static )?[\w*]+ (\w+)\(Z_\w+_instance_t\*? ?\*?instance[^)]*\)) \{\n(.*?)^\}\n", re.M | re.S)
     for exported, head, name, body in pattern.findall(text):
-        if exported and exported != "memory":
-            (inner,) = CALL.findall(body)
-            exports[exported] = inner
+        inner = CALL.findall(body)
+        if exported and inner:
+            (exports[exported],) = inner
         elif not exported and not name.startswith("init_") and not name.startswith("Z_"):
             functions[name] = (head, body)
     return functions, exports
@@ -116,11 +117,12 @@ def depths(functions):
         if name not in known:
             open_ones.add(name)
             body = functions[name][1]
-            frames = FRAME.findall(body)
-            if len(frames) > 1 or (not frames and MOVED.search(body)):
+            spaces = SPACE.findall(body)
+            frames = [int(size) for size, what in spaces if what == "w2c_j0 -= w2c_j1;"]
+            # Each use of the stack pointer takes a frame, compares, or sets it.
+            if len(frames) > 1 or body.count("w2c_g0") != len(spaces) + len(MOVED.findall(body)):
                 stop(f"{name}: its frame on the stack has no known form")
-            below = max((depth(called) for called in CALL.findall(body)), default=0)
-            known[name] = sum(map(int, frames)) + below
+            known[name] = sum(frames) + max((depth(called) for called in CALL.findall(body)), default=0)
             open_ones.remove(name)
         return known[name]
 
@@ -144,13 +146,13 @@ def constants_of(text):
     return first, bytes(found)
 
 
-def stack_of(text, header):
-    """The first address above the module's stack."""
+def globals_of(text, header):
+    """The module's variables that its functions use, as members of an instance, with their first values."""
     (members,) = re.findall(r"^typedef struct Z_\w+_instance_t \{\n(.*?)^\}", header, re.M | re.S)
-    kinds = re.findall(r"^  (\S+) (\w+);$", members, re.M)
-    (set_to,) = re.findall(r"instance->w2c_g0 = (\d+)ull;", re.search(r"static void init_globals.*?^\}", text, re.M | re.S)[0])
-    print("members:", kinds)
-    return int(set_to)
+    first = dict(re.findall(r"instance->(\w+) = (\d+)u(?:ll)?;", re.search(r"^static void init_globals.*?^\}", text, re.M | re.S)[0]))
+    if not set(re.findall(r"^  u(?:32|64) (\w+);$", members, re.M)) == set(first) or "w2c_g0" not in first:
+        stop("variables of another form")
+    return {name: (kind, int(first[name])) for kind, name in re.findall(r"^  (u32|u64) (\w+);$", members, re.M)}
 
 
 def main(source, out):
@@ -163,7 +165,8 @@ def main(source, out):
     depth = depths(functions)
     deepest = max(depth[exports[name]] for name in wanted)
     first, constants = constants_of(text)
-    top = stack_of(text, header)
+    variables = globals_of(text, header)
+    top = variables.pop("w2c_g0")[1]
     frame = 64 + 1280
     room = (deepest * 3 // 2 + frame + 15) // 16 * 16
     used, todo = set(), [exports[name] for name in wanted]
@@ -173,12 +176,18 @@ def main(source, out):
             used.add(name)
             todo += CALL.findall(functions[name][1])
     kept = {name: function for name, function in functions.items() if name in used}
+    bodies = "".join(body for _, body in kept.values())
+    variables = {name: each for name, each in variables.items() if f"->{name}" in bodies}
     rows = [", ".join(map(str, constants[at:at + 32])) for at in range(0, len(constants), 32)]
     licence = (HERE / "LICENSE-wasm2c").read_text()
     pieces = [
         (HERE / "head.c").read_text(),
         f"/* The module's stack. The deepest call takes {deepest} bytes of it, and there is room for half as much again. */\n",
-        f"#define TOP UINT64_C({top})\n#ifndef ROOM\n#define ROOM UINT64_C({room})\n#endif\n\n/* The module's constants. */\n",
+        f"#define TOP UINT64_C({top})\n#ifndef ROOM\n#define ROOM UINT64_C({room})\n#endif\n\n",
+        "/* The module's other variables. */\n",
+        f"#define VARIABLES {' '.join(f'{kind} {name};' for name, (kind, _) in variables.items())}\n",
+        f"#define SET_VARIABLES(in) {' '.join(f'(in)->{name} = {value};' for name, (_, value) in variables.items())}\n\n",
+        "/* The module's constants. */\n",
         f"#define DATA UINT64_C({first})\n",
         "static const unsigned char constants[] = {\n" + "".join(f"    {row},\n" for row in rows) + "};\n\n",
         (HERE / "runtime.h").read_text(), MODULE,

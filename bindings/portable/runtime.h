@@ -56,6 +56,7 @@ typedef struct wasm_rt_memory_t {
 
 typedef struct Z_imagesize_instance_t {
     u64 w2c_g0; /* the module's stack pointer */
+    VARIABLES
     wasm_rt_memory_t w2c_memory;
 } Z_imagesize_instance_t;
 

@@ -7,6 +7,7 @@
  */
 #include "imagesize.h"
 
+#include <ctype.h>
 #include <inttypes.h>
 #include <stdio.h>
 #include <stdlib.h>
@@ -71,7 +72,7 @@ static void print_vector(const uint8_t *bytes, size_t length, int with_spans)
 static size_t bytes_of(const char *line, uint8_t *bytes)
 {
     size_t length = 0;
-    for (unsigned byte; length < LONGEST && line[0] != '-' && sscanf(line + 2 * length, "%2x", &byte) == 1; length++) {
+    for (unsigned byte; length < LONGEST && isxdigit((unsigned char)line[2 * length]) && sscanf(line + 2 * length, "%2x", &byte) == 1; length++) {
         bytes[length] = (uint8_t)byte;
     }
     return length;
