@@ -24,10 +24,12 @@ typedef int64_t s64;
 #if defined __GNUC__ || defined __clang__
 #define UNLIKELY(x) __builtin_expect(!!(x), 0)
 #define NEVER_INLINED __attribute__((noinline))
+#define INLINED inline __attribute__((always_inline))
 #define NO_RETURN __attribute__((noreturn))
 #else
 #define UNLIKELY(x) (x)
 #define NEVER_INLINED
+#define INLINED inline
 #define NO_RETURN
 #endif
 
@@ -96,37 +98,84 @@ static NEVER_INLINED u8 *written_elsewhere(wasm_rt_memory_t *mem, u64 addr, u64 
 
 #define IN_ROOM(addr, n) LIES(addr, n, TOP - ROOM, ROOM)
 
-static inline const u8 *at(wasm_rt_memory_t *mem, u64 addr, u64 n)
+/* A function's frame is checked as a whole, and then its own accesses of it are not. */
+#define CHECK_FRAME(base, n) \
+    do { \
+        if (UNLIKELY(!IN_ROOM(base, UINT64_C(n)))) { \
+            trapped(&instance->w2c_memory); \
+        } \
+    } while (0)
+#define IN_FRAME(mem, addr) ((mem)->room + ((addr) - (TOP - ROOM)))
+
+static INLINED const u8 *at(wasm_rt_memory_t *mem, u64 addr, u64 n)
 {
-    return IN_ROOM(addr, n) ? mem->room + (addr - (TOP - ROOM)) : elsewhere(mem, addr, n);
+    return IN_ROOM(addr, n)                          ? mem->room + (addr - (TOP - ROOM))
+           : LIES(addr, n, BYTES, mem->length) ? mem->bytes + (addr - BYTES)
+                                               : elsewhere(mem, addr, n);
 }
 
-static inline u8 *written_at(wasm_rt_memory_t *mem, u64 addr, u64 n)
+static INLINED u8 *written_at(wasm_rt_memory_t *mem, u64 addr, u64 n)
 {
     return IN_ROOM(addr, n) ? mem->room + (addr - (TOP - ROOM)) : written_elsewhere(mem, addr, n);
 }
 
 #if IS_LITTLE
 
+/* Accesses that are near each other, and of which all happen or none, are checked together. */
+typedef const u8 *READ_NEAR;
+typedef u8 *WRITTEN_NEAR;
+#define READ_AT(mem, addr, n) at(mem, addr, n)
+#define WRITTEN_AT(mem, addr, n) written_at(mem, addr, n)
+
 #define DEFINE_LOAD(name, t1, t2, t3) \
-    static inline t3 name(wasm_rt_memory_t *mem, u64 addr) \
+    static INLINED t3 name(wasm_rt_memory_t *mem, u64 addr) \
     { \
         t1 result; \
         memcpy(&result, at(mem, addr, sizeof result), sizeof result); \
         return (t3)(t2)result; \
+    } \
+    static INLINED t3 framed_##name(wasm_rt_memory_t *mem, u64 addr) \
+    { \
+        t1 result; \
+        memcpy(&result, IN_FRAME(mem, addr), sizeof result); \
+        return (t3)(t2)result; \
+    } \
+    static INLINED t3 near_##name(wasm_rt_memory_t *mem, READ_NEAR from) \
+    { \
+        t1 result; \
+        (void)mem; \
+        memcpy(&result, from, sizeof result); \
+        return (t3)(t2)result; \
     }
 
 #define DEFINE_STORE(name, t1, t2) \
-    static inline void name(wasm_rt_memory_t *mem, u64 addr, t2 value) \
+    static INLINED void name(wasm_rt_memory_t *mem, u64 addr, t2 value) \
     { \
         t1 wrapped = (t1)value; \
         memcpy(written_at(mem, addr, sizeof wrapped), &wrapped, sizeof wrapped); \
+    } \
+    static INLINED void framed_##name(wasm_rt_memory_t *mem, u64 addr, t2 value) \
+    { \
+        t1 wrapped = (t1)value; \
+        memcpy(IN_FRAME(mem, addr), &wrapped, sizeof wrapped); \
+    } \
+    static INLINED void near_##name(wasm_rt_memory_t *mem, WRITTEN_NEAR to, t2 value) \
+    { \
+        t1 wrapped = (t1)value; \
+        (void)mem; \
+        memcpy(to, &wrapped, sizeof wrapped); \
     }
 
 #else
 
 /* Whether an address is that of a span, whose bytes have another order. */
 #define IS_FLIPPED(mem, addr) ((mem)->flip != 0 && (addr) >= ITEMS && (addr) < BYTES)
+
+/* Each is checked alone. */
+typedef u64 READ_NEAR;
+typedef u64 WRITTEN_NEAR;
+#define READ_AT(mem, addr, n) (addr)
+#define WRITTEN_AT(mem, addr, n) (addr)
 
 /* The `n` bytes of a number, its last byte first. */
 static inline u64 number_at(wasm_rt_memory_t *mem, u64 addr, unsigned n)
@@ -154,12 +203,28 @@ static inline void put_number_at(wasm_rt_memory_t *mem, u64 addr, unsigned n, u6
     static inline t3 name(wasm_rt_memory_t *mem, u64 addr) \
     { \
         return (t3)(t2)(t1)number_at(mem, addr, sizeof(t1)); \
+    } \
+    static inline t3 framed_##name(wasm_rt_memory_t *mem, u64 addr) \
+    { \
+        return name(mem, addr); \
+    } \
+    static inline t3 near_##name(wasm_rt_memory_t *mem, u64 addr) \
+    { \
+        return name(mem, addr); \
     }
 
 #define DEFINE_STORE(name, t1, t2) \
     static inline void name(wasm_rt_memory_t *mem, u64 addr, t2 value) \
     { \
         put_number_at(mem, addr, sizeof(t1), (t1)value); \
+    } \
+    static inline void framed_##name(wasm_rt_memory_t *mem, u64 addr, t2 value) \
+    { \
+        name(mem, addr, value); \
+    } \
+    static inline void near_##name(wasm_rt_memory_t *mem, u64 addr, t2 value) \
+    { \
+        name(mem, addr, value); \
     }
 
 #endif
