@@ -38,7 +38,7 @@ OLD = (r"places?|rooms?|lent|lends?|lending|hand(?:s|ed)? over|told|taken|answer
 REWRITTEN = {"README.md", "CALLING.md", "CONTRIBUTING.md", "SECURITY.md", "include/imagesize.h", "bindings/c/README.md",
              "bindings/js/README.md", "bindings/python/README.md", "bindings/rust/README.md", "docs/ARCHITECTURE.md",
              "docs/CHAINS.md", "docs/COMPARISON.md", "docs/DECISIONS.md", "docs/DIFFERENCES.md", "docs/LAYOUTS.md", "docs/PARTS.md",
-             "docs/PROMISES.md", "docs/PROVED.md", "docs/RELEASING.md", "docs/REMOTE.md", "docs/STREAMS.md",
+             "docs/PORTABLE.md", "bindings/portable/README.md", "docs/PROMISES.md", "docs/PROVED.md", "docs/RELEASING.md", "docs/REMOTE.md", "docs/STREAMS.md",
              "docs/TESTED.md", "docs/UPLOADS.md", "docs/VERSIONS.md"}
 # Commands of the kit, by `rt`; commands of a shell are not checked.
 RT = set("ci must-fail selftest doc version new check verdict lib run test try fmt tidy plant all expand lemma seed names".split())

@@ -4,17 +4,16 @@
  * for its results, which are copied to the caller's variables where the module wrote them.
  */
 
-/* The frame above the module's stack. Its size is a multiple of 16. */
-#define FRAME (TOP - 64 - IMAGESIZE_STREAM_SIZE)
+/* The frame above the module's stack, for its results. Its size is a multiple of 16. */
+#define FRAME (TOP - 64)
 #define TYPE FRAME
 #define COMPRESSION (FRAME + 4)
 #define WIDTH (FRAME + 8)
 #define HEIGHT (FRAME + 16)
 #define WANTED (FRAME + 24)
 #define COUNT (FRAME + 40)
-#define STATE (FRAME + 64)
 
-#if IMAGESIZE_STREAM_SIZE != IMAGESIZE_PARTS_SIZE || IMAGESIZE_STREAM_SIZE % 16 != 0
+#if IMAGESIZE_STREAM_SIZE != IMAGESIZE_PARTS_SIZE
 #error "both states have the same size"
 #endif
 
@@ -60,16 +59,12 @@ static void with_buffer(instance *in, void *buffer, u64 size, unsigned flip)
     in->w2c_memory.flip = IS_LITTLE ? 0 : flip;
 }
 
-static u8 *state_of(instance *in)
-{
-    return written_at(&in->w2c_memory, STATE, IMAGESIZE_STREAM_SIZE);
-}
-
-/* Copies the caller's state to the frame. A spoiled state is a trap. */
+/* The state of a push parser or of a probe over spans, whose bytes have the same order on each machine. A spoiled one is a trap. */
 static void with_state(instance *in, const void *state)
 {
-    u8 *of = state_of(in);
-    memcpy(of, state, IMAGESIZE_STREAM_SIZE);
+    const u8 *of = state;
+    in->w2c_memory.items = of;
+    in->w2c_memory.size = IMAGESIZE_STREAM_SIZE;
     for (size_t at = 0; of[at] == SPOILED; at++) {
         if (at == IMAGESIZE_STREAM_SIZE - 1) {
             trapped(&in->w2c_memory);
@@ -214,9 +209,8 @@ void imagesize_stream_new(imagesize_stream *stream, uint64_t total)
         memset(stream, SPOILED, sizeof *stream);
         return;
     }
-    memset(state_of(&in), 0, IMAGESIZE_STREAM_SIZE);
-    MODULE(imagesize_stream_new)(&in, STATE, total);
-    memcpy(stream, state_of(&in), sizeof *stream);
+    with_buffer(&in, stream, sizeof *stream, 0);
+    MODULE(imagesize_stream_new)(&in, ITEMS, total);
 }
 
 uint32_t imagesize_stream_push(imagesize_stream *stream, const uint8_t *bytes, size_t length, uint32_t *type, uint32_t *compression,
@@ -230,8 +224,8 @@ uint32_t imagesize_stream_push(imagesize_stream *stream, const uint8_t *bytes, s
         return IMAGESIZE_TRAPPED;
     }
     with_state(&in, stream);
-    status = MODULE(imagesize_stream_push)(&in, STATE, BYTES, length, TYPE, COMPRESSION, WIDTH, HEIGHT);
-    memcpy(stream, state_of(&in), sizeof *stream);
+    in.w2c_memory.written_items = (u8 *)stream;
+    status = MODULE(imagesize_stream_push)(&in, ITEMS, BYTES, length, TYPE, COMPRESSION, WIDTH, HEIGHT);
     tell_type(&in, type, compression);
     tell_size(&in, status, width, height);
     return status;
@@ -247,8 +241,8 @@ uint32_t imagesize_stream_finish(imagesize_stream *stream, uint32_t *type, uint3
         return IMAGESIZE_TRAPPED;
     }
     with_state(&in, stream);
-    status = MODULE(imagesize_stream_finish)(&in, STATE, TYPE, COMPRESSION, WIDTH, HEIGHT);
-    memcpy(stream, state_of(&in), sizeof *stream);
+    in.w2c_memory.written_items = (u8 *)stream;
+    status = MODULE(imagesize_stream_finish)(&in, ITEMS, TYPE, COMPRESSION, WIDTH, HEIGHT);
     tell_type(&in, type, compression);
     tell_size(&in, status, width, height);
     return status;
@@ -262,9 +256,8 @@ void imagesize_parts_new(imagesize_parts *parts, uint64_t total)
         memset(parts, SPOILED, sizeof *parts);
         return;
     }
-    memset(state_of(&in), 0, IMAGESIZE_PARTS_SIZE);
-    MODULE(imagesize_parts_new)(&in, STATE, total);
-    memcpy(parts, state_of(&in), sizeof *parts);
+    with_buffer(&in, parts, sizeof *parts, 0);
+    MODULE(imagesize_parts_new)(&in, ITEMS, total);
 }
 
 void imagesize_parts_supply(imagesize_parts *parts, uint64_t offset, const uint8_t *bytes, size_t length)
@@ -276,8 +269,8 @@ void imagesize_parts_supply(imagesize_parts *parts, uint64_t offset, const uint8
         return;
     }
     with_state(&in, parts);
-    MODULE(imagesize_parts_supply)(&in, STATE, offset, BYTES, length);
-    memcpy(parts, state_of(&in), sizeof *parts);
+    in.w2c_memory.written_items = (u8 *)parts;
+    MODULE(imagesize_parts_supply)(&in, ITEMS, offset, BYTES, length);
 }
 
 uint32_t imagesize_parts_answer(const imagesize_parts *parts, uint32_t *type, uint32_t *compression, uint64_t *width, uint64_t *height,
@@ -290,7 +283,7 @@ uint32_t imagesize_parts_answer(const imagesize_parts *parts, uint32_t *type, ui
         return IMAGESIZE_TRAPPED;
     }
     with_state(&in, parts);
-    status = MODULE(imagesize_parts_answer)(&in, STATE, TYPE, COMPRESSION, WIDTH, HEIGHT, WANTED);
+    status = MODULE(imagesize_parts_answer)(&in, ITEMS, TYPE, COMPRESSION, WIDTH, HEIGHT, WANTED);
     tell_type(&in, type, compression);
     tell_size(&in, status, width, height);
     tell_wanted(&in, status, wanted);

@@ -291,7 +291,7 @@ def main(source, out):
     first, constants = constants_of(text)
     variables = globals_of(text, header)
     top = variables.pop("w2c_g0")[1]
-    frame = 64 + 1280
+    frame = 64  # as calls.c has it
     room = (deepest * 3 // 2 + frame + 15) // 16 * 16
     used, todo = set(), [exports[name] for name in wanted]
     while todo:

@@ -1,9 +1,9 @@
 /*
  * The runtime of the module, in place of wasm2c's: an instance lives on the stack of the call, and its memory has four parts.
  *
- *     the stack     the module's own, ROOM bytes below TOP. Above its first frame are the results and the state of a call
+ *     the stack     the module's own, ROOM bytes below TOP. Above its first frame are the results of a call
  *     DATA          the module's constants, which nothing writes
- *     ITEMS         the caller's buffer of spans or of text
+ *     ITEMS         the caller's buffer of spans or of text, or its push parser or probe
  *     BYTES         the caller's bytes, which nothing writes
  *
  * Nothing is allocated, no input is copied, and nothing is kept between two calls. Each read and each write is checked to lie within

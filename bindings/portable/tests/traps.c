@@ -4,7 +4,7 @@
  *
  *     traps
  *
- * It is linked with imagesize_portable.c compiled with -DROOM=1360. The status is 0 if each expectation holds.
+ * It is linked with imagesize_portable.c compiled with -DROOM=80. The status is 0 if each expectation holds.
  */
 #include "imagesize_portable.h"
 

@@ -17,7 +17,9 @@ HERE = pathlib.Path(__file__).resolve().parent
 SCRIPT = "import imagesize_proved as i; print(i.__file__, i.__version__, i.probe(b'GIF89a\\x80\\x02\\xe0\\x01\\0\\0').size)"
 
 
-class Install(unittest.TestCase):
+class Installing(unittest.TestCase):
+    """Installs into a folder."""
+
     def setUp(self) -> None:
         folder = tempfile.TemporaryDirectory()
         self.addCleanup(folder.cleanup)
@@ -43,6 +45,16 @@ class Install(unittest.TestCase):
     def wanted(self, folder: object) -> str:
         return f"{folder}/imagesize_proved/__init__.py {imagesize_proved.__version__} Size(width=640, height=480)\n"
 
+    def check_sdist(self) -> None:
+        """The package is installed from an sdist."""
+        with tempfile.TemporaryDirectory() as sources:
+            name = build_wheel.build_sdist(sources)
+            self.assertEqual(name, f"imagesize_proved-{imagesize_proved.__version__}.tar.gz")
+            self.pip_install(str(pathlib.Path(sources) / name))
+        self.assertEqual(self.said(SCRIPT), self.wanted(self.folder))
+
+
+class Install(Installing):
     def test_install(self) -> None:
         self.pip_install(str(HERE.parent))
         self.assertEqual(self.said(SCRIPT), self.wanted(self.folder))
@@ -59,11 +71,7 @@ class Install(unittest.TestCase):
         self.assertEqual(self.said(SCRIPT), self.wanted(HERE.parent))
 
     def test_sdist(self) -> None:
-        with tempfile.TemporaryDirectory() as sources:
-            name = build_wheel.build_sdist(sources)
-            self.assertEqual(name, f"imagesize_proved-{imagesize_proved.__version__}.tar.gz")
-            self.pip_install(str(pathlib.Path(sources) / name))
-        self.assertEqual(self.said(SCRIPT), self.wanted(self.folder))
+        self.check_sdist()
 
     def test_tag(self) -> None:
         name = build_wheel.build_wheel(self.folder, {"platform": "manylinux_2_17_x86_64.manylinux2014_x86_64"})
@@ -76,7 +84,7 @@ class Install(unittest.TestCase):
         self.assertEqual(build_wheel.project()["version"], imagesize_proved.__version__)
 
 
-class Portable(Install):
+class Portable(Installing):
     """The sdist where no wheel fits: a C compiler builds the portable library."""
 
     def setUp(self) -> None:
@@ -88,7 +96,7 @@ class Portable(Install):
         self.addCleanup(chosen.stop)
 
     def test_sdist(self) -> None:
-        super().test_sdist()
+        self.check_sdist()
         library = pathlib.Path(self.folder) / "imagesize_proved" / build_wheel.LIBRARY
         self.assertNotEqual(library.read_bytes(), build_wheel.library())
         licences = [str(path) for path in pathlib.Path(self.folder).glob("*.dist-info/licenses/*")]
