@@ -174,7 +174,7 @@ def calls(page, text):
 
 BLOCKS = re.compile(r"^ *```(?:python|js|rust|c|ts)\n(.*?)^ *```$", re.M | re.S)
 # Functions of the languages' own libraries, and of a store of objects.
-LANGUAGES = set("print open read write len fetch require import await async with for if while main new head_object get_object".split())
+LANGUAGES = set("find_package print open read write len fetch require import await async with for if while main new head_object get_object".split())
 
 
 def files(page, text):

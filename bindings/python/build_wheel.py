@@ -1,7 +1,9 @@
 """Builds the wheel, an editable wheel and the sdist, for pip. It uses only the standard library, so that pip needs no network.
 
-The shared library is the one in the package's folder, as in an sdist, or else that of `examples/run build`, which is run where it
-has not been. Files carry the time in the environment's SOURCE_DATE_EPOCH, or else that of 1980, so that a build can be repeated.
+On Linux on x86-64 with glibc, the shared library is the native one: that in the package's folder, as in an sdist, or else that of
+`examples/run build`, which is run where it has not been. Elsewhere a C compiler builds the portable library: $CC, or the one that Python
+was built with, or cc, gcc or clang. With IMAGESIZE_PORTABLE=1 it is built everywhere. Files carry the time in the environment's
+SOURCE_DATE_EPOCH, or else that of 1980, so that a build can be repeated.
 """
 
 from __future__ import annotations
@@ -14,10 +16,15 @@ import hashlib
 import io
 import os
 import pathlib
+import platform as machine
 import re
+import shlex
+import shutil
 import subprocess
+import sys
 import sysconfig
 import tarfile
+import tempfile
 import time
 import zipfile
 from typing import Any, Dict, Iterator, List, Optional, Tuple
@@ -28,6 +35,9 @@ PACKAGE = "imagesize_proved"
 LIBRARY = "libimagesize.so"
 RUNS_ON = "Linux on x86-64 processors, with glibc 2.14 or later"
 EXAMPLES = ("examples/form.py", "examples/remote.py", "examples/upload.py")
+# The sources of the portable library, in the folder `portable` of an sdist, or where bindings/portable/build puts them.
+WASM2C = "LICENSE-wasm2c"
+PORTABLE = (WASM2C, "imagesize.h", "imagesize_portable.c")
 EPOCH = int(os.environ.get("SOURCE_DATE_EPOCH", "315532800"))
 
 Files = List[Tuple[str, bytes]]
@@ -35,21 +45,34 @@ Settings = Optional[Dict[str, Any]]
 
 
 def build_wheel(wheel_directory: str, config_settings: Settings = None, metadata_directory: Optional[str] = None) -> str:
-    """Writes the wheel to a folder, and returns its name. The setting `platform` names its platform, as manylinux_2_17_x86_64."""
-    return write_wheel(wheel_directory, f"py3-none-{platform(config_settings)}", package())
+    """
+    Writes the wheel to a folder, and returns its name. The setting `platform` names its platform, as manylinux_2_17_x86_64. The setting
+    `library` names a portable library that was built for it.
+    """
+    is_portable = bool((config_settings or {}).get("library")) or not is_native()
+    return write_wheel(wheel_directory, f"py3-none-{platform(config_settings)}", package(config_settings), is_portable)
 
 
 def build_editable(wheel_directory: str, config_settings: Settings = None, metadata_directory: Optional[str] = None) -> str:
     """Writes a wheel that leads to this folder."""
-    library()
+    built = TOP / "examples" / "out" / LIBRARY
+    if is_native():
+        library()
+    elif not built.exists():
+        built.parent.mkdir(exist_ok=True)
+        built.write_bytes(compiled())
     return write_wheel(wheel_directory, f"py3-none-{platform(config_settings)}", [(f"{PACKAGE}.pth", f"{HERE}\n".encode())])
 
 
 def build_sdist(sdist_directory: str, config_settings: Settings = None) -> str:
-    """Writes the sdist to a folder, and returns its name. It has the shared library in it, which pip cannot build."""
+    """
+    Writes the sdist to a folder, and returns its name. It has the native library in it, and the sources of the portable one if
+    bindings/portable/build made them.
+    """
     stem = f"{PACKAGE}-{project()['version']}"
-    parts = [("PKG-INFO", metadata().encode()), ("LICENSE", licence())]
+    parts = [("PKG-INFO", metadata(bool(portable())).encode()), ("LICENSE", licence())]
     parts += [(name, (HERE / name).read_bytes()) for name in ("README.md", "build_wheel.py", "pyproject.toml")]
+    parts += [(f"portable/{name}", data) for name, data in portable()] + [(name, data) for name, data in portable() if name == WASM2C]
     packed = io.BytesIO()
     with tarfile.open(fileobj=packed, mode="w", format=tarfile.PAX_FORMAT) as sdist:
         for path, data in sorted(parts + package()):
@@ -66,12 +89,13 @@ def platform(settings: Settings) -> str:
     return str((settings or {}).get("platform", here))
 
 
-def write_wheel(folder: str, tag: str, content: Files) -> str:
+def write_wheel(folder: str, tag: str, content: Files, is_portable: bool = False) -> str:
     """Writes a wheel with some files and its own records."""
     info = f"{PACKAGE}-{project()['version']}.dist-info"
-    content = content + [
+    others = [(f"{info}/licenses/{WASM2C}", data) for name, data in portable() if name == WASM2C and is_portable]
+    content = content + others + [
         (f"{info}/licenses/LICENSE", licence()),
-        (f"{info}/METADATA", metadata().encode()),
+        (f"{info}/METADATA", metadata(is_portable).encode()),
         (f"{info}/WHEEL", wheel_records(tag).encode()),
         (f"{info}/entry_points.txt", entry_points().encode()),
     ]
@@ -98,12 +122,12 @@ def digest(data: bytes) -> str:
     return base64.urlsafe_b64encode(hashlib.sha256(data).digest()).rstrip(b"=").decode()
 
 
-def package() -> Files:
+def package(settings: Settings = None) -> Files:
     """Each file of the package, with its path."""
     sources = sorted((HERE / PACKAGE).glob("*.py")) + [HERE / PACKAGE / "py.typed"]
     files = [(f"{PACKAGE}/{source.name}", source.read_bytes()) for source in sources]
     files += [(f"{PACKAGE}/{name}", shared(name)) for name in (*EXAMPLES, *pages())]
-    return files + [(f"{PACKAGE}/{LIBRARY}", library())]
+    return files + [(f"{PACKAGE}/{LIBRARY}", fitting(settings))]
 
 
 def pages() -> List[str]:
@@ -118,8 +142,54 @@ def shared(name: str) -> bytes:
     return (packed if packed.exists() else TOP / name).read_bytes()
 
 
+def fitting(settings: Settings = None) -> bytes:
+    """The shared library for the wheel's machine."""
+    named = (settings or {}).get("library")
+    if named:
+        return pathlib.Path(str(named)).read_bytes()
+    return library() if is_native() else compiled()
+
+
+def is_native() -> bool:
+    """Whether the native library runs here."""
+    is_x86_64 = sys.platform == "linux" and machine.machine() in ("x86_64", "AMD64") and sys.maxsize > 2**32
+    return is_x86_64 and machine.libc_ver()[0] == "glibc" and os.environ.get("IMAGESIZE_PORTABLE") != "1"
+
+
+def portable() -> Files:
+    """The sources of the portable library, or none if they were not made."""
+    packed, built = HERE / "portable", TOP / "bindings" / "portable" / "out" / "imagesize-portable"
+    folder = packed if packed.exists() else built
+    return [(name, (folder / name).read_bytes()) for name in PORTABLE] if folder.exists() else []
+
+
+def compiled() -> bytes:
+    """The portable library, by the C compiler of this machine."""
+    sources = portable()
+    if not sources:
+        raise SystemExit("imagesize-proved: no library for this machine, and no source of the portable one: bindings/portable/build makes it")
+    with tempfile.TemporaryDirectory() as folder:
+        for name, data in sources:
+            (pathlib.Path(folder) / name).write_bytes(data)
+        code = [] if sys.platform == "win32" else ["-fPIC"]
+        command = [*compiler(), "-O2", *code, "-shared", "-o", LIBRARY, "imagesize_portable.c"]
+        ended = subprocess.run(command, cwd=folder, stdout=subprocess.PIPE, stderr=subprocess.STDOUT)
+        if ended.returncode != 0:
+            raise SystemExit(f"imagesize-proved: {shlex.join(command)} failed:\n{ended.stdout.decode(errors='replace')}")
+        return (pathlib.Path(folder) / LIBRARY).read_bytes()
+
+
+def compiler() -> List[str]:
+    """The words of the C compiler's command."""
+    for command in (os.environ.get("CC"), sysconfig.get_config_var("CC"), "cc", "gcc", "clang"):
+        words = shlex.split(command or "")
+        if words and shutil.which(words[0]):
+            return words
+    raise SystemExit("imagesize-proved: no wheel fits this machine, and no C compiler was found to build it: install gcc or clang, or set CC")
+
+
 def library() -> bytes:
-    """The shared library, which is built where it is not there. Ends the build if it does not load here."""
+    """The native library, which is built where it is not there. Ends the build if it does not load here."""
     packed, built = HERE / PACKAGE / LIBRARY, TOP / "examples" / "out" / LIBRARY
     if not packed.exists() and not built.exists():
         subprocess.run([str(TOP / "examples" / "run"), "build"], check=True)
@@ -127,7 +197,9 @@ def library() -> bytes:
     try:
         ctypes.CDLL(str(path))
     except OSError as error:
-        raise SystemExit(f"imagesize-proved: its library is for {RUNS_ON}. This machine ({sysconfig.get_platform()}) cannot load it: {error}")
+        here = sysconfig.get_platform()
+        raise SystemExit(f"imagesize-proved: its library is for {RUNS_ON}. This machine ({here}) cannot load it: {error}\n"
+                         "With IMAGESIZE_PORTABLE=1 a C compiler builds the portable library instead.")
     return path.read_bytes()
 
 
@@ -155,9 +227,11 @@ def entry_points() -> str:
     return "[console_scripts]\n" + "".join(f"{name} = {target}\n" for name, target in table("project.scripts"))
 
 
-def metadata() -> str:
-    """What pip shows of the package."""
+def metadata(is_portable: bool = False) -> str:
+    """What pip shows of the package. Some lines of the portable library are from wasm2c, under a licence of their own."""
     of = project()
+    if is_portable:
+        of.update({"license": f"{of['license']} AND Apache-2.0", "license-files": [*of["license-files"], WASM2C]})
     lines = ["Metadata-Version: 2.4", f"Name: {of['name']}", f"Version: {of['version']}", f"Summary: {of['description']}"]
     lines += [f"License-Expression: {of['license']}", *(f"License-File: {name}" for name in of["license-files"])]
     lines += [f"Keywords: {','.join(of['keywords'])}", *(f"Classifier: {name}" for name in of["classifiers"])]

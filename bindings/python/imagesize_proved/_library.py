@@ -58,7 +58,7 @@ def _loaded() -> ctypes.CDLL:
         for name in _CALLS:
             getattr(library, name).restype = ctypes.c_uint32
     except (OSError, AttributeError) as error:
-        hint = "it runs on Linux on x86-64 processors, with glibc" if path == _PACKED else "`examples/run build` builds it"
+        hint = "it is for another platform: install the package again, on this machine" if path == _PACKED else "`examples/run build` builds it"
         raise ImportError(f"no library of imagesize_proved ({error}); {hint}", path=path) from error
     return library
 

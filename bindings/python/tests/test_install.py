@@ -8,6 +8,7 @@ import sys
 import tarfile
 import tempfile
 import unittest
+import unittest.mock
 import zipfile
 
 import build_wheel
@@ -17,7 +18,9 @@ HERE = pathlib.Path(__file__).resolve().parent
 SCRIPT = "import imagesize_proved as i; print(i.__file__, i.__version__, i.probe(b'GIF89a\\x80\\x02\\xe0\\x01\\0\\0').size)"
 
 
-class Install(unittest.TestCase):
+class Installing(unittest.TestCase):
+    """Installs into a folder."""
+
     def setUp(self) -> None:
         folder = tempfile.TemporaryDirectory()
         self.addCleanup(folder.cleanup)
@@ -43,6 +46,27 @@ class Install(unittest.TestCase):
     def wanted(self, folder: object) -> str:
         return f"{folder}/imagesize_proved/__init__.py {imagesize_proved.__version__} Size(width=640, height=480)\n"
 
+    def sdist_of_another_machine(self) -> pathlib.Path:
+        """The folder of an unpacked sdist, whose library is for another processor."""
+        with tarfile.open(pathlib.Path(self.folder) / build_wheel.build_sdist(self.folder)) as sdist:
+            sdist.extractall(self.folder)
+        unpacked = pathlib.Path(self.folder) / f"imagesize_proved-{imagesize_proved.__version__}"
+        library = unpacked / "imagesize_proved" / "libimagesize.so"
+        data = bytearray(library.read_bytes())
+        data[18] = 183  # the machine of an ELF file: AArch64
+        library.write_bytes(data)
+        return unpacked
+
+    def check_sdist(self) -> None:
+        """The package is installed from an sdist."""
+        with tempfile.TemporaryDirectory() as sources:
+            name = build_wheel.build_sdist(sources)
+            self.assertEqual(name, f"imagesize_proved-{imagesize_proved.__version__}.tar.gz")
+            self.pip_install(str(pathlib.Path(sources) / name))
+        self.assertEqual(self.said(SCRIPT), self.wanted(self.folder))
+
+
+class Install(Installing):
     def test_install(self) -> None:
         self.pip_install(str(HERE.parent))
         self.assertEqual(self.said(SCRIPT), self.wanted(self.folder))
@@ -59,26 +83,31 @@ class Install(unittest.TestCase):
         self.assertEqual(self.said(SCRIPT), self.wanted(HERE.parent))
 
     def test_sdist(self) -> None:
-        with tempfile.TemporaryDirectory() as sources:
-            name = build_wheel.build_sdist(sources)
-            self.assertEqual(name, f"imagesize_proved-{imagesize_proved.__version__}.tar.gz")
-            self.pip_install(str(pathlib.Path(sources) / name))
-        self.assertEqual(self.said(SCRIPT), self.wanted(self.folder))
+        self.check_sdist()
 
-    def test_sdist_on_another_platform(self) -> None:
+    def test_sdist_whose_library_does_not_load(self) -> None:
         """The build fails, and says why: a package that cannot be imported is not installed."""
-        with tempfile.TemporaryDirectory() as sources:
-            with tarfile.open(pathlib.Path(sources) / build_wheel.build_sdist(sources)) as sdist:
-                sdist.extractall(sources)
-            unpacked = pathlib.Path(sources) / f"imagesize_proved-{imagesize_proved.__version__}"
-            library = unpacked / "imagesize_proved" / "libimagesize.so"
-            data = bytearray(library.read_bytes())
-            data[18] = 183  # the machine of an ELF file: AArch64
-            library.write_bytes(data)
-            command = [sys.executable, "-c", "import build_wheel; build_wheel.build_wheel('.')"]
-            run = subprocess.run(command, cwd=unpacked, stdout=subprocess.PIPE, stderr=subprocess.PIPE, text=True)
-        self.assertRegex(run.stderr, r"^imagesize-proved: its library is for Linux on x86-64 processors, with glibc 2.14 or later\. This machine")
+        command = [sys.executable, "-c", "import build_wheel; build_wheel.build_wheel('.')"]
+        run = subprocess.run(command, cwd=self.sdist_of_another_machine(), stdout=subprocess.PIPE, stderr=subprocess.PIPE, text=True)
+        self.assertRegex(run.stderr, r"^imagesize-proved: its library is for Linux on x86-64 processors, with glibc 2.14 or later\. This machine "
+                                     r".* cannot load it: .*\nWith IMAGESIZE_PORTABLE=1 .*\n$")
         self.assertEqual(run.returncode, 1)
+
+    def test_sdist_on_another_machine(self) -> None:
+        """There the portable library is compiled, and the one in the sdist is not used."""
+        if not build_wheel.portable():
+            self.skipTest("no portable library here: bindings/portable/build makes its source")
+        unpacked = self.sdist_of_another_machine()
+        compiler = pathlib.Path(self.folder) / "compiler.py"
+        compiler.write_text("import sys; open(sys.argv[sys.argv.index('-o') + 1], 'w').write('compiled here')")
+        script = "import platform; platform.machine = lambda: 'riscv64'; import build_wheel; print(build_wheel.build_wheel('.'))"
+        run = subprocess.run([sys.executable, "-c", script], cwd=unpacked, env={**os.environ, "CC": f"{sys.executable} {compiler}"},
+                             stdout=subprocess.PIPE, text=True, check=True)
+        with zipfile.ZipFile(unpacked / run.stdout.strip()) as wheel:
+            self.assertEqual(wheel.read(f"imagesize_proved/{build_wheel.LIBRARY}"), b"compiled here")
+            names = wheel.namelist()
+        self.assertIn(f"imagesize_proved-{imagesize_proved.__version__}.dist-info/licenses/LICENSE-wasm2c", names)
+        self.assertIn("imagesize_proved/examples/upload.py", names)
 
     def test_examples(self) -> None:
         """The examples are in the package, and run there."""
@@ -108,3 +137,39 @@ class Install(unittest.TestCase):
 
     def test_one_version(self) -> None:
         self.assertEqual(build_wheel.project()["version"], imagesize_proved.__version__)
+
+
+class Portable(Installing):
+    """The sdist where no wheel fits: a C compiler builds the portable library."""
+
+    def setUp(self) -> None:
+        super().setUp()
+        if not build_wheel.portable():
+            self.skipTest("no portable library here: bindings/portable/build makes its source")
+        chosen = unittest.mock.patch.dict(os.environ, IMAGESIZE_PORTABLE="1")
+        chosen.start()
+        self.addCleanup(chosen.stop)
+
+    def test_sdist(self) -> None:
+        self.check_sdist()
+        library = pathlib.Path(self.folder) / "imagesize_proved" / build_wheel.LIBRARY
+        self.assertNotEqual(library.read_bytes(), build_wheel.library())
+        licences = [str(path) for path in pathlib.Path(self.folder).glob("*.dist-info/licenses/*")]
+        self.assertEqual(sorted(pathlib.Path(path).name for path in licences), ["LICENSE", "LICENSE-wasm2c"])
+
+    def test_no_compiler(self) -> None:
+        with tempfile.TemporaryDirectory() as empty:
+            environment = {**os.environ, "PATH": empty, "CC": "no-such-compiler"}
+            run = subprocess.run([sys.executable, "-c", "import build_wheel; build_wheel.compiled()"], cwd=HERE.parent, env=environment,
+                                 stdout=subprocess.PIPE, stderr=subprocess.PIPE)
+        self.assertEqual(run.returncode, 1)
+        self.assertRegex(run.stderr.decode(), "^imagesize-proved: .* no C compiler was found .*\n$")
+
+    def test_named_library(self) -> None:
+        named = pathlib.Path(self.folder) / "other.so"
+        named.write_bytes(b"the library of another machine")
+        name = build_wheel.build_wheel(self.folder, {"platform": "musllinux_1_2_aarch64", "library": str(named)})
+        with zipfile.ZipFile(pathlib.Path(self.folder) / name) as wheel:
+            self.assertEqual(wheel.read(f"imagesize_proved/{build_wheel.LIBRARY}"), named.read_bytes())
+            records = wheel.read(f"imagesize_proved-{imagesize_proved.__version__}.dist-info/METADATA").decode()
+        self.assertIn("\nLicense-Expression: MIT AND Apache-2.0\nLicense-File: LICENSE\nLicense-File: LICENSE-wasm2c\n", records)

@@ -285,7 +285,7 @@ class Libraries(unittest.TestCase):
         self.assertRegex(self.importing("libc.so.6"), "ImportError: .*imagesize_type.*examples/run build")
 
     def test_packed_library_of_another_platform(self) -> None:
-        """An installed package says where its library runs, and not how the repository builds one."""
+        """An installed package says what to do, and not how the repository builds a library."""
         with tempfile.TemporaryDirectory() as folder:
             shutil.copytree(PACKAGE / "imagesize_proved", pathlib.Path(folder) / "imagesize_proved")
             (pathlib.Path(folder) / "imagesize_proved" / "libimagesize.so").write_bytes(b"\xcf\xfa\xed\xfe")
@@ -293,4 +293,4 @@ class Libraries(unittest.TestCase):
             environment.pop("IMAGESIZE_LIBRARY", None)
             command = [sys.executable, "-c", "import imagesize_proved"]
             said = subprocess.run(command, env=environment, stderr=subprocess.PIPE, text=True, cwd=folder).stderr
-        self.assertRegex(said, r"ImportError: .*libimagesize\.so.*; it runs on Linux on x86-64 processors, with glibc\n$")
+        self.assertRegex(said, r"ImportError: .*libimagesize\.so.*; it is for another platform: install the package again, on this machine\n$")

@@ -46,6 +46,7 @@ pub use stream::{stream_probe, stream_size, Probed, StreamProbe};
 use input::Input;
 use std::fs::OpenOptions;
 use std::io::{BufRead, Seek};
+#[cfg(unix)]
 use std::os::unix::fs::OpenOptionsExt;
 use std::path::Path;
 
@@ -91,12 +92,32 @@ pub fn image_type(header: &[u8]) -> ImageResult<ImageType> {
 /// ```
 pub fn size<P: AsRef<Path>>(path: P) -> ImageResult<ImageSize> {
     let mut options = OpenOptions::new();
-    options.read(true).custom_flags(O_NONBLOCK);
+    options.read(true);
+    #[cfg(unix)]
+    options.custom_flags(O_NONBLOCK);
     Input::of_file(options.open(path)?)?.probe()?.size()
 }
 
-/// `O_NONBLOCK` of Linux on x86-64, the only system that this package is for. Without it, a call that opens a pipe waits for a writer.
-const O_NONBLOCK: i32 = 0o4000;
+/// `O_NONBLOCK`, or 0 where its number is not known here. Without it, a call that opens a pipe waits for a writer.
+#[cfg(unix)]
+const O_NONBLOCK: i32 = if cfg!(all(
+    any(target_os = "linux", target_os = "android"),
+    any(
+        target_arch = "x86",
+        target_arch = "x86_64",
+        target_arch = "arm",
+        target_arch = "aarch64",
+        target_arch = "powerpc64",
+        target_arch = "riscv64",
+        target_arch = "s390x"
+    )
+)) {
+    0o4000
+} else if cfg!(any(target_vendor = "apple", target_os = "freebsd")) {
+    4
+} else {
+    0
+};
 
 /// Reads the size of an image from its bytes, in pixels: all bytes of its file, or its first bytes.
 ///
