@@ -9,6 +9,7 @@
 #define _POSIX_C_SOURCE 200809L
 #include "imagesize.h"
 
+#include <ctype.h>
 #include <stdio.h>
 #include <stdlib.h>
 #include <string.h>
@@ -235,7 +236,9 @@ static void all_ways(struct memory *memory, const uint8_t *bytes, size_t length)
 static size_t bytes_of(const char *line, uint8_t *bytes)
 {
     size_t length = 0;
-    for (unsigned byte; length < LONGEST && sscanf(line + 2 * length, "%2x", &byte) == 1 && line[0] != '-'; length++) {
+    /* Not past the tab: the next cell may begin with a hexadecimal digit too. */
+    for (unsigned byte; length < LONGEST && isxdigit((unsigned char)line[2 * length]) && sscanf(line + 2 * length, "%2x", &byte) == 1;
+         length++) {
         bytes[length] = (uint8_t)byte;
     }
     return length;

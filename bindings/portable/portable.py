@@ -126,7 +126,8 @@ class Slots:
         """A slot gets a value: a number, a variable, or what it had and a number."""
         self.cut.discard(slot)
         if kind == "j":
-            number, before = self.numbers.pop(slot, None), self.sums.pop(slot, None)
+            before = self.sums.pop(slot, None)
+            self.numbers.pop(slot, None)
             if operator == "" and value.endswith("ull"):
                 self.numbers[slot] = int(value[:-3])
             elif operator == "" and re.fullmatch(r"w2c_[lp]\d+", value):

@@ -80,7 +80,7 @@ fn portable() -> Result<PathBuf, String> {
     let mut archiver = tool("AR", &["ar", "llvm-ar"])?;
     archiver.arg("crs").arg(&library).arg(&object);
     ran(archiver)?;
-    library_in(&out)
+    Ok(library)
 }
 
 /// The command of a tool for the target: the one that the environment names, or one of these. For another machine than this one, these
@@ -167,6 +167,7 @@ fn installed() -> Result<PathBuf, String> {
 /// The library in a folder.
 fn library_in(folder: &Path) -> Result<PathBuf, String> {
     let library = folder.join("libimagesize.a");
+    println!("cargo:rerun-if-changed={}", library.display());
     library
         .canonicalize()
         .map_err(|error| format!("{}: {error}", library.display()))
@@ -174,7 +175,6 @@ fn library_in(folder: &Path) -> Result<PathBuf, String> {
 
 fn link(library: &Path) {
     let folder = library.parent().unwrap_or(Path::new("/"));
-    println!("cargo:rerun-if-changed={}", library.display());
     println!("cargo:rustc-link-search=native={}", folder.display());
     println!("cargo:rustc-link-lib=static=imagesize");
 }
