@@ -212,8 +212,9 @@ def input_at(path: str, null: bool = False) -> Iterator[Union[str, io.FileIO, It
         file = io.FileIO(0, closefd=False)
         yield file if stat.S_ISREG(os.fstat(0).st_mode) else iter(functools.partial(file.read, 4096), b"")
     elif is_read_once(path):
-        with io.FileIO(path, opener=lambda name, flags: os.open(name, flags | os.O_NONBLOCK)) as file:
-            os.set_blocking(file.fileno(), True)
+        with io.FileIO(path, opener=lambda name, flags: os.open(name, flags | getattr(os, "O_NONBLOCK", 0))) as file:
+            if hasattr(os, "O_NONBLOCK"):
+                os.set_blocking(file.fileno(), True)
             yield iter(functools.partial(file.read, 4096), b"")
     else:
         yield path

@@ -37,7 +37,8 @@ T = TypeVar("T")
 LIMIT = 1 << 16
 """How many spans are returned at most, by default."""
 
-_FLAGS = (os.O_RDONLY | os.O_NONBLOCK,)  # so that a pipe without a writer does not wait
+# A pipe without a writer does not wait. Windows has no such flag, and reads a file as text unless the other one is set.
+_FLAGS = (os.O_RDONLY | getattr(os, "O_NONBLOCK", 0) | getattr(os, "O_BINARY", 0),)
 
 
 def probe(image: Input, *, budget: int = BUDGET, keep: Keep = None) -> Probed:
@@ -237,8 +238,17 @@ def _at(path: Union[str, _Path], budget: int, read: Callable[[int, int], T]) -> 
             os.close(opened[0])
 
 
+def _seek_and_read(file: int, length: int, start: int) -> bytes:
+    """What `os.pread` returns, which Windows does not have."""
+    os.lseek(file, start, os.SEEK_SET)
+    return os.read(file, length)
+
+
+_read_at: Callable[[int, int, int], bytes] = getattr(os, "pread", _seek_and_read)
+
+
 def _front(file: int, budget: int) -> Tuple[bytes, int]:
-    front = os.pread(file, BLOCK if budget > BLOCK else budget, 0)  # refuses a folder and a pipe
+    front = _read_at(file, BLOCK if budget > BLOCK else budget, 0)  # refuses a folder and a pipe
     total = os.lseek(file, 0, os.SEEK_END)
     return front if total >= BLOCK else front[:total], total
 
@@ -252,7 +262,7 @@ def _told_in(file: int, budget: int) -> Told:
     start, end = blocks(told, total)
     if len(front) + end - start > budget:
         return SPENT
-    more = os.pread(file, end - start, start)
+    more = _read_at(file, end - start, start)
     second = probe_two(front, more, start, total) if len(more) == end - start else None
     if second and second[0] != WANTED:
         return second
@@ -267,7 +277,7 @@ def _parts_in(file: int, budget: int, stored: Optional[Stored] = None) -> Parts:
 
 def _followed(file: int, parts: Parts) -> Parts:
     while parts.length:
-        parts.add(os.pread(file, parts.length, parts.start))
+        parts.add(_read_at(file, parts.length, parts.start))
     return parts
 
 
@@ -295,7 +305,7 @@ def _whole(file: BinaryFile, read: Callable[[int], T]) -> T:
 
 
 def _pread(file: int, start: int, length: int) -> bytes:
-    return os.pread(file, length, start)
+    return _read_at(file, length, start)
 
 
 def _read(file: BinaryFile, start: int, length: int) -> bytes:

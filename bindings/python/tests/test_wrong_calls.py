@@ -281,6 +281,18 @@ class Libraries(unittest.TestCase):
     def test_missing_library(self) -> None:
         self.assertRegex(self.importing("/nowhere/libimagesize.so"), "ImportError: .*nowhere.*examples/run build")
 
+    def test_without_calls_that_windows_does_not_have(self) -> None:
+        """A file is read by a seek and a read, and the rest works too."""
+        script = ("import os; del os.pread, os.O_NONBLOCK; import imagesize_proved as i; from imagesize_proved.__main__ import main\n"
+                  "print(i.probe('icon').size, i.image_type('icon'), len(i.spans('icon')))\n"
+                  "main(['icon'])")
+        directory = b"".join(bytes([side, side, 0, 0, 1, 0, 32, 0, 40, 0, 0, 0, 0, 0x10, 0, 0]) for side in range(1, 256))
+        with tempfile.TemporaryDirectory() as folder:
+            (pathlib.Path(folder) / "icon").write_bytes(b"\0\0\1\0\xff\0" + directory + bytes(1 << 20))
+            environment = {**os.environ, "PYTHONPATH": str(PACKAGE)}
+            run = subprocess.run([sys.executable, "-c", script], env=environment, stdout=subprocess.PIPE, text=True, check=True, cwd=folder)
+        self.assertRegex(run.stdout, r"^Size\(width=255, height=255\) Ico \d+\nIco +255x255  icon\n$")
+
     def test_wrong_library(self) -> None:
         self.assertRegex(self.importing("libc.so.6"), "ImportError: .*imagesize_type.*examples/run build")
 
