@@ -11,6 +11,7 @@ import os
 import pathlib
 import pty
 import re
+import signal
 import socket
 import subprocess
 import sys
@@ -138,6 +139,17 @@ def check_recursive(program):
                      "below/deep/link.gif", "a.gif"], paths
     assert both(program, "--recursive", "./below/", status=1).splitlines()[0].endswith("./below/f.gif")
     both(program, "--recursive", "--json", ".", status=1)
+    os.symlink("itself", "below/itself")
+    assert "Too many levels of symbolic links" in both(program, "-r", "below", status=1)
+    os.remove("below/itself")
+    folders = ["tree" + "/d" * depth for depth in range(1100)]  # deeper than Python calls itself
+    for folder in folders:
+        os.mkdir(folder)
+    pathlib.Path(folders[-1], "a.gif").write_bytes(GIF)
+    assert both(program, "-r", "tree").endswith(f"  {folders[-1]}/a.gif\n")
+    os.remove(f"{folders[-1]}/a.gif")
+    for folder in reversed(folders):
+        os.rmdir(folder)
     print("--recursive: the regular files below a folder, in the order of their names")
 
 
@@ -164,8 +176,13 @@ def check_names(program):
     assert both(program, "--null", input=b"-\0") == "Gif                 640x480  -\n"
     assert both(program, "--", "--json", "./-") == "Gif                 640x480  --json\nGif                 640x480  ./-\n"
     os.chdir("..")
+    unread = os.open("/proc/self/mem", os.O_RDONLY)  # nothing is at its first bytes
     for command in ([program], IN_PYTHON):
         assert Ran(command, ["--null", "--recursive"], input=b"").status == 2
+        ran = Ran(command, ["--null", "a.gif"], stdin=unread)
+        assert (ran.status, ran.err) == (1, "imagesize: standard input: Input/output error\n"), ran.err
+        assert ran.out == b"Gif                 640x480  a.gif\n", ran.out
+    os.close(unread)
     print("names: any bytes, on one line each")
 
 
@@ -187,6 +204,47 @@ def check_jobs(program):
             ran = Ran(command, ["--jobs", "2", *["a.gif"] * 3000], stdout=full)
             assert (ran.status, ran.err) == (1, "imagesize: standard output: No space left on device\n"), ran.err
     print("--jobs: the same lines in the same order")
+
+
+def check_killed(program):
+    """The run ends when its processes are killed, and they end when it is killed."""
+    for command in ([program], IN_PYTHON):
+        for is_run in (False, True):
+            run = subprocess.Popen([*command, "--null", "--jobs", "2"], stdin=subprocess.PIPE, stdout=subprocess.PIPE, stderr=subprocess.PIPE,
+                                   env={**os.environ, "PYTHONPATH": str(PACKAGE)})
+            run.stdin.write(b"a.gif\0" * 3000)
+            run.stdin.flush()
+            workers = waited(lambda: children(run.pid) if len(children(run.pid)) == 2 else None)
+            for process in [run.pid] if is_run else workers:
+                os.kill(process, signal.SIGKILL)
+            if is_run:
+                assert waited(lambda: not any(map(goes_on, workers))), (command, workers)
+            err = run.communicate(b"a.gif\0" * 3000)[1].decode()
+            assert is_run or (run.returncode, err) == (1, "imagesize: a process that reads files has ended\n"), (command, run.returncode, err)
+    print("--jobs: no process is left behind, and none is waited for in vain")
+
+
+def children(process):
+    """The processes that a process started."""
+    return [int(word) for word in pathlib.Path(f"/proc/{process}/task/{process}/children").read_text().split()]
+
+
+def goes_on(process):
+    """Whether a process has not ended."""
+    try:
+        return pathlib.Path(f"/proc/{process}/stat").read_text().rsplit(")", 1)[1].split()[0] != "Z"
+    except OSError:
+        return False
+
+
+def waited(ask):
+    """What a function returns, once that is true; at most ten seconds later."""
+    for _ in range(200):
+        found = ask()
+        if found:
+            return found
+        time.sleep(0.05)
+    return found
 
 
 def check_standard_input(program):
@@ -297,7 +355,8 @@ def main(program, worked):
         os.makedirs("below/deep")
         for name, data in FILES.items():
             pathlib.Path(name).write_bytes(data)
-        for check in (check_lines, check_json, check_spans, check_recursive, check_names, check_jobs, check_standard_input, check_pipes, check_output,
+        for check in (check_lines, check_json, check_spans, check_recursive, check_names, check_jobs, check_killed,
+                      check_standard_input, check_pipes, check_output,
                       check_progress, check_usage):
             check(program)
         check_test_vectors(program, worked)

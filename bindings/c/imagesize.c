@@ -610,6 +610,7 @@ static void work(int from, int to, const struct options *options)
 static void check_process(bool goes_on, const char *what)
 {
     if (!goes_on) {
+        fflush(stdout);
         fprintf(stderr, "imagesize: %s\n", what);
         _exit(1);
     }
@@ -617,6 +618,7 @@ static void check_process(bool goes_on, const char *what)
 
 static void start_workers(struct run *run)
 {
+    check_output(fflush(stdout) == 0); /* so that no process has a copy of what is in the buffer */
     run->workers = checked(calloc(run->options.jobs, sizeof *run->workers));
     for (size_t i = 0; i < run->options.jobs; i++) {
         int to[2], from[2];
@@ -801,10 +803,19 @@ static void describe_names(struct run *run)
 {
     char *name = NULL;
     size_t room = 0;
-    while (getdelim(&name, &room, '\0', stdin) > 0) {
+    while (errno = 0, getdelim(&name, &room, '\0', stdin) > 0) {
+        if (ferror(stdin)) {
+            break; /* the name is cut */
+        }
         describe_path(run, name);
     }
+    int why = errno;
     free(name);
+    if (ferror(stdin)) {
+        fflush(stdout);
+        fprintf(stderr, "imagesize: standard input: %s\n", strerror(why));
+        _exit(1);
+    }
 }
 
 static const char USAGE[] = "usage: imagesize [-h] [-0] [-r] [--json] [--spans] [--jobs N] [--version] PATH..\n";

@@ -84,12 +84,13 @@ def parts_of(text):
 
 def frame_of(body):
     """
-    The local variable that gets the lowest address of a function's frame on the stack, the frame's size, and the first offset in the body
-    where the variable may have another value; or None.
+    The local variable that gets the lowest address of a function's frame on the stack, the frame's size, and the offsets in the body
+    between which the variable has that value; or None.
     """
     found = FRAME.search(body)
-    if not found or re.search(r"goto|^ *\w+:;", body[:found.start()], re.M):
-        return None, 0, 0
+    # What comes before may not skip the frame, and the frame may not be in a block.
+    if not found or re.search(r"goto|[{}]|^ *\w+:", body[:found.start()], re.M):
+        return None, 0, 0, 0
     size, base = int(found[1]), found[3]
     # No jump but those to the label of a loop leads back.
     loops = {label: start for start, label in ((each.start(), each[1]) for each in re.finditer(r"^ *(w2c_L\w+):", body, re.M))}
@@ -98,7 +99,7 @@ def frame_of(body):
     end = min(sets, default=len(body))
     while any(at >= end > label for at, label in jumps):
         end = min(label for at, label in jumps if at >= end)
-    return base, size, end
+    return base, size, found.end(), end
 
 
 class Slots:
@@ -145,7 +146,7 @@ class Access:
         self.group = self.start = None
 
 
-def accesses_of(body, base, size, end):
+def accesses_of(body, base, size, start, end):
     """
     The accesses of a body by their lines. One in the function's own frame has the group `frame`. Others in straight code, from one variable
     and of one kind, are a group if there are two or more: all of them happen, or none.
@@ -165,7 +166,7 @@ def accesses_of(body, base, size, end):
             if access.slot in slots.sums:
                 variable, version, offset = slots.sums[access.slot]
                 access.start = offset + access.offset
-                if variable == base and at < end:
+                if variable == base and start <= at < end:
                     access.group = "frame" if access.start + access.width <= size else None
                 else:
                     key = (slots.straight, variable, version, "store" in access.name)
@@ -180,8 +181,8 @@ def accesses_of(body, base, size, end):
 
 def with_whole_addresses(name, body):
     """A function's body, in which no address is cut, and how many of its accesses are checked, lie in its frame, or are in a group."""
-    base, size, end = frame_of(body)
-    found, slots, lines, pointers = accesses_of(body, base, size, end), Slots(), [], []
+    base, size, start, end = frame_of(body)
+    found, slots, lines, pointers = accesses_of(body, base, size, start, end), Slots(), [], []
 
     def whole(slot):
         if slot not in slots.cut:

@@ -92,6 +92,13 @@ class Frames(unittest.TestCase):
     def test_frame_that_may_be_jumped_over(self):
         self.assertEqual(self.framed("  if (w2c_i0) {goto w2c_B1;}\n" + FRAME + STORE + "  w2c_B1:;\n" + STORE), 0)
 
+    def test_frame_in_a_block(self):
+        self.assertEqual(self.framed("  if (w2c_i0) {\n" + FRAME + "  }\n" + STORE), 0)
+
+    def test_access_before_the_frame(self):
+        self.assertEqual(self.framed(STORE + FRAME), 0)
+        self.assertEqual(self.framed(STORE + FRAME + STORE), 1)
+
 
 class Groups(unittest.TestCase):
     def test_two_reads(self):

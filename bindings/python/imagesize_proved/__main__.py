@@ -42,6 +42,11 @@ def main(arguments: Optional[Sequence[str]] = None) -> int:
         options.error("no file is named")
     try:
         return run(options, asked)
+    except Ended as error:
+        with contextlib.suppress(OSError):
+            sys.stdout.flush()
+        print(f"imagesize: {error}", file=sys.stderr)
+        return 1
     except OSError as error:
         print(f"imagesize: standard output: {error.strerror}", file=sys.stderr)
         os.dup2(os.open(os.devnull, os.O_WRONLY), 1)  # what is still in the buffer cannot be written at the end either
@@ -87,6 +92,10 @@ def run(options: argparse.ArgumentParser, asked: argparse.Namespace) -> int:
     return 0 if sized else 1
 
 
+class Ended(Exception):
+    """The run cannot go on. The text says why."""
+
+
 class Counted:
     """Paths, and how many there were."""
 
@@ -105,11 +114,19 @@ def named(asked: argparse.Namespace) -> Iterator[str]:
     yield from asked.paths
     if asked.null:
         rest = b""
-        for block in iter(functools.partial(os.read, 0, 1 << 16), b""):
+        for block in iter(names_read, b""):
             *whole, rest = (rest + block).split(b"\0")
             yield from map(os.fsdecode, whole)
         if rest:
             yield os.fsdecode(rest)
+
+
+def names_read() -> bytes:
+    """Some bytes of standard input, or none at its end."""
+    try:
+        return os.read(0, 1 << 16)
+    except OSError as error:
+        raise Ended(f"standard input: {error.strerror}") from None
 
 
 def files(paths: Iterable[str], recursive: bool, null: bool = False) -> Iterator[str]:
@@ -122,18 +139,27 @@ def files(paths: Iterable[str], recursive: bool, null: bool = False) -> Iterator
 
 
 def below(folder: str) -> Iterator[str]:
-    """All regular files below a folder: first its own, then those of each folder in it. A folder that cannot be read is among them, so
-    that its error is seen."""
+    """All regular files below a folder: first its own, then those of each folder in it. What cannot be read is among them, so that its
+    error is seen."""
+    waiting = [folder]
+    while waiting:
+        folder = waiting.pop()
+        try:
+            with os.scandir(folder) as listed:
+                entries = sorted(listed, key=lambda entry: os.fsencode(entry.name))
+        except OSError:
+            yield folder
+            continue
+        yield from (entry.path for entry in entries if not entry.is_dir(follow_symlinks=False) and is_shown(entry.path))
+        waiting += [entry.path for entry in reversed(entries) if entry.is_dir(follow_symlinks=False)]
+
+
+def is_shown(path: str) -> bool:
+    """Whether a path is a regular file, or its type is not known. Folders, pipes, sockets and devices are passed over."""
     try:
-        with os.scandir(folder) as listed:
-            entries = sorted(listed, key=lambda entry: os.fsencode(entry.name))
+        return stat.S_ISREG(os.stat(path).st_mode)
     except OSError:
-        yield folder
-        return
-    yield from (entry.path for entry in entries if not entry.is_dir() and (entry.is_file() or not os.path.exists(entry.path)))
-    for entry in entries:
-        if entry.is_dir(follow_symlinks=False):
-            yield from below(entry.path)
+        return True
 
 
 def described(paths: Iterable[str], with_spans: bool, null: bool = False, jobs: int = 1) -> Iterator[Row]:
@@ -151,18 +177,38 @@ def described(paths: Iterable[str], with_spans: bool, null: bool = False, jobs: 
 def by_jobs(paths: Iterable[str], with_spans: bool, null: bool, jobs: int) -> Iterator[Row]:
     """What is found of each file, in the order of the paths, by a pool of processes. Standard input is read by this process."""
     from concurrent.futures import ProcessPoolExecutor
+    from concurrent.futures.process import BrokenProcessPool
 
     waiting: Deque[Callable[[], List[Row]]] = collections.deque()
-    with ProcessPoolExecutor(jobs) as pool:
-        for batch in batches(paths, null):
-            if batch == ["-"] and not null:
-                waiting.append(functools.partial(rows_of, batch, with_spans, null))
-            else:
-                waiting.append(pool.submit(rows_of, batch, with_spans, null).result)
-            if len(waiting) > 2 * jobs:
+    try:
+        with ProcessPoolExecutor(jobs, initializer=end_with_parent) as pool:
+            for batch in batches(paths, null):
+                if batch == ["-"] and not null:
+                    waiting.append(functools.partial(rows_of, batch, with_spans, null))
+                else:
+                    waiting.append(pool.submit(rows_of, batch, with_spans, null).result)
+                if len(waiting) > 2 * jobs:
+                    yield from waiting.popleft()()
+            while waiting:
                 yield from waiting.popleft()()
-        while waiting:
-            yield from waiting.popleft()()
+    except BrokenProcessPool:
+        raise Ended("a process that reads files has ended") from None
+
+
+def end_with_parent() -> None:
+    """Ends this process soon after the one that started it, which may be killed. An interrupt is for that one alone."""
+    import signal
+    import threading
+
+    parent = os.getppid()
+
+    def watch() -> None:
+        while os.getppid() == parent:
+            time.sleep(0.5)
+        os._exit(1)
+
+    signal.signal(signal.SIGINT, signal.SIG_IGN)
+    threading.Thread(target=watch, daemon=True).start()
 
 
 def batches(paths: Iterable[str], null: bool) -> Iterator[List[str]]:
