@@ -17,13 +17,6 @@
 #error "both states have the same size"
 #endif
 
-/* On these systems setjmp also keeps the signals, by a call of the system. */
-#if defined __APPLE__ || defined __FreeBSD__ || defined __NetBSD__ || defined __OpenBSD__
-#define MARK(mem) _setjmp((mem).trap)
-#else
-#define MARK(mem) setjmp((mem).trap)
-#endif
-
 /* The status of a call that returns none is lost, so its state is filled with this byte. A call over such a state is trapped too. */
 #define SPOILED 0xEE
 
@@ -48,7 +41,7 @@ static void with_spans(instance *in, const imagesize_span *spans, size_t count)
 {
     in->w2c_memory.items = (const u8 *)spans;
     in->w2c_memory.size = (u64)count * sizeof *spans;
-    in->w2c_memory.flip = IS_LITTLE ? 0 : 7;
+    in->w2c_memory.flip = flip_of_host();
 }
 
 /* The buffer that a call writes. */
@@ -56,7 +49,7 @@ static void with_buffer(instance *in, void *buffer, u64 size, unsigned flip)
 {
     in->w2c_memory.items = in->w2c_memory.written_items = buffer;
     in->w2c_memory.size = size;
-    in->w2c_memory.flip = IS_LITTLE ? 0 : flip;
+    in->w2c_memory.flip = flip & flip_of_host();
 }
 
 /* The state of a push parser or of a probe over spans, whose bytes have the same order on each machine. A spoiled one is a trap. */

@@ -9,8 +9,9 @@
  * Nothing is allocated, no input is copied, and nothing is kept between two calls. Each read and each write is checked to lie within
  * one part. One that does not is a trap, and so is all else that WebAssembly calls one: the call returns IMAGESIZE_TRAPPED.
  *
- * The arithmetic below, from I32_CLZ on, is that of wasm2c, from WABT. Copyright 2018 WebAssembly Community Group participants. It is
- * licensed under the Apache License, Version 2.0, which is at the end of this file.
+ * The arithmetic below, from I32_CLZ on, is that of wasm2c, from WABT. TRAP, DEFINE_LOAD and DEFINE_STORE are from wasm2c too, and were
+ * changed. Copyright 2018 WebAssembly Community Group participants. They are licensed under the Apache License, Version 2.0, which is at
+ * the end of this file.
  */
 typedef uint8_t u8;
 typedef int8_t s8;
@@ -33,12 +34,22 @@ typedef int64_t s64;
 #define NO_RETURN
 #endif
 
-/* Where numbers have their last byte first, as in WebAssembly, they are copied. Elsewhere they are read and written byte by byte. */
+/*
+ * Where numbers have their last byte first, as in WebAssembly, they are copied. Elsewhere, and where the compiler does not say it, they are
+ * read and written byte by byte.
+ */
 #if (defined __BYTE_ORDER__ && __BYTE_ORDER__ == __ORDER_LITTLE_ENDIAN__) || defined _WIN32
 #define IS_LITTLE 1
 #else
 #define IS_LITTLE 0
 #endif
+
+/* The value of `flip` for a buffer of spans: 7 where numbers have their first byte first, and else 0. */
+static INLINED unsigned flip_of_host(void)
+{
+    const u16 one = 1;
+    return *(const u8 *)&one != 0 ? 0 : 7;
+}
 
 /* The addresses of the caller's buffers. No buffer of a real machine has 2^61 bytes. */
 #define ITEMS (UINT64_C(1) << 61)
@@ -62,9 +73,18 @@ typedef struct Z_imagesize_instance_t {
     wasm_rt_memory_t w2c_memory;
 } Z_imagesize_instance_t;
 
+/* On these systems setjmp also keeps the signals, by a call of the system. The others of both calls do not. */
+#if defined __APPLE__ || defined __FreeBSD__ || defined __NetBSD__ || defined __OpenBSD__
+#define MARK(mem) _setjmp((mem).trap)
+#define BACK(trap) _longjmp(trap, 1)
+#else
+#define MARK(mem) setjmp((mem).trap)
+#define BACK(trap) longjmp(trap, 1)
+#endif
+
 static NEVER_INLINED NO_RETURN void trapped(wasm_rt_memory_t *mem)
 {
-    longjmp(mem->trap, 1);
+    BACK(mem->trap);
 }
 
 /* Whether `n` bytes from an address on lie within `size` bytes from `base` on. */
