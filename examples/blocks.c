@@ -34,10 +34,15 @@ static int is_failure(uint32_t status)
 int main(int count, char **names)
 {
     int by_stdio = count > 1 && strcmp(names[1], "--stdio") == 0;
+    int first = 1 + by_stdio;
     int failed = 0;
-    for (int i = 1 + by_stdio; i < count; i++) {
+    for (int i = first; i < count; i++) {
         imagesize_image image = {0, 0, 0, 0};
+#ifdef _WIN32 /* imagesize_file.h has no paths there */
+        uint32_t status = probe_stream(names[i], &image);
+#else
         uint32_t status = by_stdio ? probe_stream(names[i], &image) : imagesize_path_probe(names[i], &image);
+#endif
         if (is_failure(status)) {
             fprintf(stderr, "%s: %s\n", names[i], status == IMAGESIZE_FAULT && errno != 0 ? strerror(errno) : "cannot be read");
             failed = 1;

@@ -197,7 +197,7 @@ def check_jobs(program):
     assert both(program, "--jobs", "4", "--null", input=b"a.gif\0" * 5000).count("\n") == 5000
     for jobs in ("0", "-2", "many", "", "9" * 30):
         for command in ([program], IN_PYTHON):
-            ran = Ran(command, ["--jobs", jobs])
+            ran = Ran(command, ["a.gif", "--jobs", jobs])
             assert (ran.status, "usage: imagesize" in ran.err) == (2, True), (jobs, ran.err)
     with open("/dev/full", "wb") as full:
         for command in ([program], IN_PYTHON):

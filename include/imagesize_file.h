@@ -22,7 +22,7 @@
  * IMAGESIZE_ANSWERED; the type may be known then.
  *
  * The calls over paths and descriptors need POSIX.1-2008. They are here if _POSIX_C_SOURCE is 200809L or more, as by default in
- * gcc and clang; with -std=c11 define it before the first #include. These functions are tested, and not proved.
+ * gcc and clang; with -std=c11 define it before the first #include. Windows has none of them. These functions are tested, and not proved.
  */
 #ifndef IMAGESIZE_FILE_H
 #define IMAGESIZE_FILE_H
@@ -34,7 +34,7 @@
 #include <stdlib.h>
 #include <string.h>
 
-#if defined _POSIX_C_SOURCE && _POSIX_C_SOURCE >= 200809L
+#if defined _POSIX_C_SOURCE && _POSIX_C_SOURCE >= 200809L && !defined _WIN32
 #include <fcntl.h>
 #include <sys/stat.h>
 #include <unistd.h>
@@ -258,7 +258,7 @@ static inline uint32_t imagesize_stdio_probe(FILE *file, imagesize_image *image)
     return status;
 }
 
-#if defined _POSIX_C_SOURCE && _POSIX_C_SOURCE >= 200809L
+#if defined _POSIX_C_SOURCE && _POSIX_C_SOURCE >= 200809L && !defined _WIN32
 
 static inline uint32_t imagesize_fd_read(void *reader, uint8_t *bytes, size_t length, uint64_t offset)
 {

@@ -31,6 +31,12 @@ fn main() {
     ] {
         println!("cargo:rerun-if-env-changed={name}");
     }
+    let target = env::var("TARGET").unwrap_or_default();
+    for name in ["CC", "AR"] {
+        for named in names_for(name, &target) {
+            println!("cargo:rerun-if-env-changed={named}");
+        }
+    }
     let (library, help) = if needs_portable() {
         (portable(), "")
     } else {
@@ -87,13 +93,7 @@ fn portable() -> Result<PathBuf, String> {
 /// have its name before theirs, as in aarch64-linux-gnu-gcc.
 fn tool(name: &str, usual: &[&str]) -> Result<Command, String> {
     let [target, host] = ["TARGET", "HOST"].map(|name| env::var(name).unwrap_or_default());
-    let named = [
-        format!("{name}_{target}"),
-        format!("{name}_{}", target.replace('-', "_")),
-        format!("TARGET_{name}"),
-        name.to_string(),
-    ];
-    if let Some(words) = named.iter().find_map(env::var_os) {
+    if let Some(words) = names_for(name, &target).iter().find_map(env::var_os) {
         let words = words.into_string().unwrap_or_default();
         let mut words = words.split_whitespace();
         let mut command = Command::new(words.next().unwrap_or_default());
@@ -103,6 +103,8 @@ fn tool(name: &str, usual: &[&str]) -> Result<Command, String> {
     let prefix = match target
         .replace("-unknown-", "-")
         .replace("-pc-windows-gnu", "-w64-mingw32")
+        .replace("riscv64gc-", "riscv64-")
+        .replace("armv7-", "arm-")
     {
         target if env::var("TARGET") == env::var("HOST") || target.is_empty() => String::new(),
         target if target.ends_with("-apple-darwin") && host.ends_with("-apple-darwin") => {
@@ -110,16 +112,29 @@ fn tool(name: &str, usual: &[&str]) -> Result<Command, String> {
         }
         target => format!("{target}-"),
     };
+    // An archiver writes the objects of any machine in the same way.
+    let plain = if name == "AR" { usual } else { &[] };
     usual
         .iter()
         .map(|tool| OsString::from(format!("{prefix}{tool}")))
+        .chain(plain.iter().map(OsString::from))
         .find(|tool| Command::new(tool).arg("--version").output().is_ok())
         .map(Command::new)
         .ok_or(format!(
-            "no {prefix}{} was found to build the library for {target}: name a C compiler in CC_{}",
+            "no {prefix}{} was found to build the library for {target}: name one in {name}_{}",
             usual[0],
             target.replace('-', "_")
         ))
+}
+
+/// The variables that may name a tool for a target, as the crate `cc` has them.
+fn names_for(name: &str, target: &str) -> [String; 4] {
+    [
+        format!("{name}_{target}"),
+        format!("{name}_{}", target.replace('-', "_")),
+        format!("TARGET_{name}"),
+        name.to_string(),
+    ]
 }
 
 /// Runs a command, and says what it printed if it fails.

@@ -71,7 +71,7 @@ def parser() -> argparse.ArgumentParser:
 def whole(text: str) -> int:
     """A number of processes."""
     number = int(text)
-    if number < 1:
+    if not 1 <= number < 1 << 63:
         raise ValueError
     return min(number, 1024)
 

@@ -230,7 +230,7 @@ class ImageType:
     type has this compression.
     """
 
-    __slots__ = ("kind", "compression")
+    __slots__ = ("kind", "compression", "__weakref__")
     __match_args__ = ("kind", "compression")
 
     kind: Kind

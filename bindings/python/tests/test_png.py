@@ -10,6 +10,7 @@ import struct
 import subprocess
 import tempfile
 import unittest
+import weakref
 import zlib
 from typing import Any, List
 
@@ -122,6 +123,7 @@ class Pngs(unittest.TestCase):
         self.assertEqual((PNG.compression_family, PNG.is_block_compressed), (None, False))
         self.assertFalse(PNG.is_multi_compression_container)
         self.assertEqual(pickle.loads(pickle.dumps(PNG)), PNG)
+        self.assertIs(weakref.ref(PNG)(), PNG)
         self.assertLess(ImageType(Kind.WEBP), PNG)
         with self.assertRaises(ValueError):
             ImageType(Kind.PNG, Compression.DDS_BC7)
