@@ -250,7 +250,8 @@ fn a_line_goes_on_from_one_block_to_the_next(rt: HostRuntime) -> Result<(), Fail
     let line = Text::Line { delimiter: b'\n' };
     assert!(rt; matches!(source.read_text(0, line, &mut buffer), Ok(40)));
     assert!(rt; matches!(source.read_text(40, line, &mut buffer), Ok(80)));
-    assert!(rt; buffer[..79].iter().all(|byte| *byte == b'a') && buffer[79] == b'\n');
+    assert!(rt; buffer.iter().take(79).all(|byte| *byte == b'a'));
+    assert_eq!(rt; buffer.get(79), Some(&b'\n'));
     assert!(rt; matches!(source.read_text(120, line, &mut buffer), Ok(80)));
     assert_eq!(rt; source.taken(), 200);
     Ok(())
