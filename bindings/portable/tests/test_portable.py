@@ -54,7 +54,7 @@ class Addresses(unittest.TestCase):
             READ.replace("(u32)(w2c_j0);\n", "(u32)(w2c_j0);\n  w2c_i0 = w2c_p1;\n"),
             READ.replace("(u32)(w2c_j0);\n", "(u32)(w2c_j0);\n  w2c_j0 = w2c_p1;\n"),
             "  w2c_i0 = wasm_rt_grow_memory((&instance->w2c_memory), w2c_i0);\n",
-            "  w2c_i0 = CALL_INDIRECT(instance->w2c_T0, u32 (*)(void*, u32), 0, w2c_i1, w2c_i0);\n",
+            "  w2c_i0 = CALL_INDIRECT(instance->w2c___indirect_function_table, u32 (*)(void*, u32), 0, w2c_i1, w2c_i0);\n",
             "  memory_copy(&instance->w2c_memory, &instance->w2c_memory, w2c_i0, w2c_i1, w2c_i2);\n",
             "  w2c_j0 = f64_load(&instance->w2c_memory, (u64)(w2c_i0));\n",
         ):
