@@ -9,7 +9,8 @@ ghost use Rattle.imagesize_io.specs.ReaderState.{Opens};
 ghost use Rattle.imagesize_io.specs.Telling.{Telling};
 ghost use Rattle.imagesize_source.specs.Agreement.{Agrees};
 ghost use Rattle.imagesize.specs.Counts.{Stays, cost, keeps, lasts_as, most_bytes, stated_bytes};
-ghost use Rattle.imagesize.specs.Meaning.{kind_of, meaning, meaning_reads, size_of};
+ghost use Rattle.std.specs.Result.{result_ok};
+ghost use Rattle.imagesize.specs.Meaning.{kind_of, kind_reads, meaning, meaning_reads, size_of};
 ghost use Rattle.imagesize.specs.Probed.{FindsKind, Probes, SpentAll};
 ghost use Rattle.imagesize.specs.Short.{Ends};
 
@@ -104,15 +105,39 @@ pub fn blob_size(data: &[u8]) -> ImageResult<ImageSize>
     ensures unstopped { is_stopped result ≡ false }
 {
     let source = SliceSource { bytes: data };
-    with_error(probe_slice(data), &source)
+    with_error(probe_slice(data).1, &source)
 }
 
-// The size of the image in a slice.
-fn probe_slice(data: &[u8]) -> Result<ImageSize, Halt>
-    ensures value { result ≡ (meaning_reads «data».now 0).answer }
-    ensures unstopped { has_stopped result ≡ false }
+/// Reads type and size of the image in a slice. The type is found once for both. It is there even if the size has an error.
+///
+/// The errors are those of `blob_size`.
+///
+/// ```
+/// use imagesize::{ImageType, blob_probe};
+///
+/// let (kind, size) = blob_probe(b"GIF89a\x80\x02");
+/// assert_eq!(kind, Some(ImageType::Gif));
+/// assert!(size.is_err());
+/// ```
+pub fn blob_probe(data: &[u8]) -> (Option<ImageType>, ImageResult<ImageSize>)
+    ensures kind { result.0 ≡ result_ok (kind_of «data».now 0).answer }
+    ensures value { result.1 ≡ (meaning «data».now 0).answer }
+
+    // Over a slice no read fails, there is no budget, and nothing is allocated.
+    ensures unstopped { is_stopped result.1 ≡ false }
 {
-    probe(&mut SliceSource { bytes: data }, 0).1
+    let source = SliceSource { bytes: data };
+    let (kind, found) = probe_slice(data);
+    (kind, with_error(found, &source))
+}
+
+// Type and size of the image in a slice.
+fn probe_slice(data: &[u8]) -> (Option<ImageType>, Result<ImageSize, Halt>)
+    ensures value { result.1 ≡ (meaning_reads «data».now 0).answer }
+    ensures kind { result.0 ≡ result_ok (kind_reads «data».now 0).answer }
+    ensures unstopped { has_stopped result.1 ≡ false }
+{
+    probe(&mut SliceSource { bytes: data }, 0)
 }
 
 // The type at an offset of a source, and the size by that type.

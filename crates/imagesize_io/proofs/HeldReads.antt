@@ -1,5 +1,5 @@
 -- What is read from the bytes that a reader holds is what calls of the reader would give.
-use Rattle.std.proofs.Common.{◌≡◌, ℕ, ◌+◌, ◌-◌, ◌^◌, ◌≤◌, ◌<◌, min, Bool, true, false, cond, leb, ◌||◌, List, [], ◌∷◌, ◌++◌, length, take, drop, eqb, Option, Some, None, Ok, IfSome, ap, ◌∙◌, sym, subst, refl, arith}
+use Rattle.std.proofs.Common.{◌≡◌, ℕ, ◌+◌, ◌-◌, ◌^◌, ◌≤◌, ◌<◌, min, max, zero, suc, Bool, true, false, cond, leb, ◌||◌, List, [], ◌∷◌, ◌++◌, length, take, drop, eqb, Option, Some, None, Ok, IfSome, ap, ◌∙◌, sym, subst, refl, arith}
 use Rattle.std.proofs.lemmas.Bool.Decides.{nat_tests}
 use Rattle.std.proofs.lemmas.List.{append-nil, drop-take, length-drop, length-take, take_all}
 use Rattle.std.proofs.Math.Seq.{drop-drop, take-take}
@@ -7,19 +7,19 @@ use Rattle.imagesize_source.specs.declared.text.Text.{Text}
 use Rattle.imagesize_source.specs.Input.{part}
 use Rattle.imagesize_source.specs.Reading.{part_read, text_part, text_read}
 use Rattle.imagesize_source.specs.State.{State, Runs, state_after}
-use Rattle.imagesize_source.specs.Text.{text_front}
+use Rattle.imagesize_source.specs.Text.{is_ended, text_front}
 use Rattle.imagesize_source.proofs.Agreement.{whole_span}
 use Rattle.imagesize_source.proofs.Counts.{total-span_of}
 use Rattle.imagesize_source.proofs.Runs.{part_is}
 use Rattle.imagesize_io.specs.declared.progress.Progress.{Progress}
 use Rattle.imagesize_io.specs.declared.reader.Ledger.{Ledger}
-use Rattle.imagesize_io.specs.Held.{Holds, HoldsFrom, IsWhole}
-use Rattle.imagesize_io.specs.ReaderState.{ReadsAt, kept_window}
+use Rattle.imagesize_io.specs.Held.{Holds, HoldsFrom, IsWhole, is_line}
+use Rattle.imagesize_io.specs.ReaderState.{ReadsAt, kept_window, reader_state}
 use Rattle.imagesize_io.specs.Standing.{Standing, behind, steady, in_step, stand_of, stand, drift, GivesFrom, KeepsCounts, ReadsFrom}
 use Rattle.imagesize_io.specs.Telling.{Account, Telling}
 use Rattle.std.specs.declared.io.Error.{Error}
 use Rattle.imagesize_io.proofs.Filling.{part-add}
-use Rattle.imagesize_io.proofs.TextReads.{took_text, rest_start, rest_some}
+use Rattle.imagesize_io.proofs.TextReads.{Took, Taking, line_open, reader_sound, taking_none, took_text, rest_start, rest_some}
 use Rattle.imagesize_io.proofs.Layers.{reads_past}
 use Rattle.imagesize_source.proofs.Parts.{part_front, part_length, part_none, part_whole}
 use Rattle.imagesize_source.proofs.Slices.{slice_part}
@@ -198,39 +198,87 @@ held_front {old} {new} {a} {offset} {n} held bytes holds uncounted few many is a
     (held_reads bytes front (uncounted (omega (arith, few, many))) (omega (arith, long, many)) ahead near far small kept
     (subst (λ k. Passed old new offset k) (sym long) passed) limit)
 
+-- a part that was read
+part_run : {a c : State} (offset n : ℕ) (buffer : List ℕ) → n ≤ length buffer
+    → Runs a c (Ok (take n (take n buffer))) (part_read a.held.input offset (length (take n buffer)))
+    → Runs a c (Ok (take n buffer)) (part_read a.held.input offset n)
+part_run {a} {c} offset n buffer fits runs =
+    let once : take n (take n buffer) ≡ take n buffer = take-take n n buffer (omega arith) in
+    let long : length (take n buffer) ≡ n = omega (arith, length-take n buffer, fits) in
+    subst (λ k. Runs a c (Ok (take n buffer)) (part_read a.held.input offset k)) long
+    (subst (λ bs. Runs a c (Ok bs) (part_read a.held.input offset (length (take n buffer)))) once runs)
+
+part_there : {a c : State} (offset n : ℕ) (buffer : List ℕ)
+    → Runs a c (Ok (take n buffer)) (part_read a.held.input offset n) → a.held.honest ≡ true
+    → part a.held.input offset n ≡ take n buffer
+part_there offset n buffer run honest = part_is (run.answer honest refl)
+
+took_part : {a c : State} (offset n : ℕ) (buffer : List ℕ) → n ≤ length buffer
+    → Runs a c (Ok (take n buffer)) (part_read a.held.input offset n) → Took a c offset n (take n buffer)
+took_part {a} {c} offset n buffer fits run = record {
+  long = omega (arith, length-take n buffer, fits);
+  sound = run.sound_after;
+  frame = run.frame;
+  taken = run.taken;
+  within = λ honest. omega (arith, run.within honest, total-span_of a.held.input offset n);
+  state = λ honest. run.state honest refl ∙ ap (state_after a) (whole_span a.held.input offset n (is_there honest));
+} where
+  is_there : a.held.honest ≡ true → n ≤ length a.held.input - offset
+  is_there honest = omega (
+    arith,
+    part_length a.held.input offset n,
+    ap length (part_there offset n buffer run honest),
+    length-take n buffer,
+    fits,
+  )
+
+-- a text whose first bytes were read
+text_begins : (t : Text) (d : List ℕ) (offset n k : ℕ) (got : List ℕ) → n ≤ k → part d offset n ≡ got
+    → text_part d t offset k ≡ text_front t (got ++ part d (offset + n) (k - n))
+unfolding text_part
+text_begins t d offset n k got fits read =
+    let split : n + (k - n) ≡ k = omega (arith, fits) in
+    ap (λ j. text_front t (part d offset j)) (sym split)
+    ∙ ap (text_front t) (sym (part-add d offset n (k - n)))
+    ∙ ap (λ bs. text_front t (bs ++ part d (offset + n) (k - n))) read
+
 -- and what byte by byte would be read
 pub held_text : {a c : State} (t : Text) (offset n : ℕ) (buffer : List ℕ) → IsWhole t (take n buffer) → n ≤ length buffer
     → Runs a c (Ok (take n (take n buffer))) (part_read a.held.input offset (length (take n buffer)))
     → Runs a c (Ok (take n buffer)) (text_read a.held.input t offset (length buffer))
-unfolding text_part
-held_text {a} {c} t offset n buffer whole fits runs =
-    let once : take n (take n buffer) ≡ take n buffer = take-take n n buffer (omega arith) in
-    let long : length (take n buffer) ≡ n = omega (arith, length-take n buffer, fits) in
-    let run : Runs a c (Ok (take n buffer)) (part_read a.held.input offset n) =
-    subst (λ k. Runs a c (Ok (take n buffer)) (part_read a.held.input offset k)) long
-    (subst (λ bs. Runs a c (Ok bs) (part_read a.held.input offset (length (take n buffer)))) once runs) in
-    took_text t (length buffer) (record {
-      long = long;
-      sound = run.sound_after;
-      frame = run.frame;
-      taken = run.taken;
-      within = λ honest. omega (arith, run.within honest, total-span_of a.held.input offset n);
-      state = λ honest. run.state honest refl ∙ ap (state_after a) (whole_span a.held.input offset n (there run honest));
-    }) run.sound (is_text run) where
-      read : Runs a c (Ok (take n buffer)) (part_read a.held.input offset n) → a.held.honest ≡ true
-          → part a.held.input offset n ≡ take n buffer
-      read run honest = part_is (run.answer honest refl)
+held_text t offset n buffer whole fits runs =
+    let run = part_run offset n buffer fits runs in
+    took_text t (length buffer) (took_part offset n buffer fits run) run.sound
+    (λ honest. text_begins t _ offset n (length buffer) (take n buffer) fits (part_there offset n buffer run honest) ∙ whole _)
 
-      there : Runs a c (Ok (take n buffer)) (part_read a.held.input offset n) → a.held.honest ≡ true
-          → n ≤ length a.held.input - offset
-      there run honest = omega
-          (arith, part_length a.held.input offset n, ap length (read run honest), length-take n buffer, fits)
+-- of a line that goes on behind the bytes that the reader holds, these are the first
+held_part : {a c : State} (t : Text) (offset n : ℕ) (buffer : List ℕ) → n ≤ length buffer → is_line t ≡ true
+    → is_ended t (take n buffer) ≡ false → (max a.frame.told 32 < offset → a.taken < c.taken)
+    → Runs a c (Ok (take n (take n buffer))) (part_read a.held.input offset (length (take n buffer)))
+    → Taking a c t offset n false (length buffer) (take n buffer)
+held_part t offset n buffer fits line still pays runs =
+    let run = part_run offset n buffer fits runs in
+    record {
+      fits = fits;
+      took = took_part offset n buffer fits run;
+      pays = λ some far. pays far;
+      left = λ honest. text_begins t _ offset n (length buffer) (take n buffer) fits (part_there offset n buffer run honest)
+          ∙ line_open t (take n buffer) _ line still;
+    }
 
-      is_text : Runs a c (Ok (take n buffer)) (part_read a.held.input offset n) → a.held.honest ≡ true
-          → text_part a.held.input t offset (length buffer) ≡ take n buffer
-      is_text run honest =
-          let split : n + (length buffer - n) ≡ length buffer = omega (arith, fits) in
-          ap (λ k. text_front t (part a.held.input offset k)) (sym split)
-          ∙ ap (text_front t) (sym (part-add a.held.input offset n (length buffer - n)))
-          ∙ ap (λ bs. text_front t (bs ++ part a.held.input (offset + n) (length buffer - n))) (read run honest)
-          ∙ whole (part a.held.input (offset + n) (length buffer - n))
+-- nothing of a text, or what the reader holds of it
+pub held_first : (a : Account) {old new : Ledger} (home : ℕ) (t : Text) (offset n : ℕ) (buffer : List ℕ) → n ≤ length buffer
+    → (n ≡ 0 → new ≡ old) → (0 < n → is_line t ≡ true) → (0 < n → is_ended t (take n buffer) ≡ false)
+    → (0 < n → ReadsAt old new a a offset (take n buffer) (Ok n))
+    → Taking (reader_state a home old.progress old.window.items) (reader_state a home new.progress new.window.items)
+    t offset n false (length buffer) (take n buffer)
+held_first a {old} {new} home t offset zero buffer fits none line still reads =
+    subst (λ l. Taking (reader_state a home old.progress old.window.items) (reader_state a home l.progress l.window.items)
+    t offset 0 false (length buffer) []) (sym (none refl))
+    (taking_none (reader_state a home old.progress old.window.items) t offset (length buffer)
+    (reader_sound a home old.progress old.window.items))
+held_first a {old} {new} home t offset (suc n) buffer fits none line still reads =
+    let read = reads (omega arith) in
+    held_part t offset (suc n) buffer fits (line (omega arith)) (still (omega arith)) (λ far. (read.pays (omega arith) far).0)
+    (read.runs home)
+

@@ -1,6 +1,6 @@
 //! Texts from the bytes that a reader holds.
 ghost use Rattle.std.specs.Prelude.{◌≡◌, ◌≤◌, IfSome, length, take};
-ghost use Rattle.imagesize_io.specs.Held.{IsWhole};
+ghost use Rattle.imagesize_io.specs.Held.{IsWhole, is_line};
 
 use imagesize_source::Text;
 use imagesize_source::part::copy_ended;
@@ -62,4 +62,12 @@ fn copy_short(delimiter: u8, bytes: &[u8], buffer: &mut [u8]) -> Option<usize>
         return Some(2);
     }
     None
+}
+
+/// Whether the text is a line.
+#[inline(always)]
+pub(crate) fn is_line(text: Text) -> bool
+    ensures { result ≡ is_line text }
+{
+    matches!(text, Text::Line { .. })
 }

@@ -1,5 +1,5 @@
 //! Fills a buffer from an offset on, by one read after another, within the budget.
-ghost use Rattle.std.specs.Prelude.{◌≡◌, ℕ, max, ◌+◌, ◌^◌, ◌<◌, ◌≤◌, length, IfOk, IfErr, OnOk, Some, true, false};
+ghost use Rattle.std.specs.Prelude.{◌≡◌, ℕ, min, max, ◌+◌, ◌-◌, ◌^◌, ◌<◌, ◌≤◌, length, IfOk, IfErr, OnOk, Some, true, false};
 ghost use Rattle.imagesize_source.specs.Limits.{most_retries};
 ghost use Rattle.imagesize_io.specs.Telling.{account, count_after};
 ghost use Rattle.imagesize_io.specs.Standing.{behind, behind_of, steady, stand, GivesSome, StopsBy, KeepsCounts, Tries, Fills, ReadsOnce, drift, GoesTo, ReadsFrom};
@@ -223,9 +223,10 @@ pub(super) fn read_from<R: Told>(
     offset: u64,
     buffer: &mut [u8],
 ) -> Result<usize, Halt>
-    ensures { ReadsFrom progress.old progress.new (stand (R.telling reader.old) progress.old) (stand (R.telling reader.new) progress.new)
+    ensures reads { ReadsFrom progress.old progress.new (stand (R.telling reader.old) progress.old) (stand (R.telling reader.new) progress.new)
         (account R.telling R.count R.failure reader.old)
         (account R.telling R.count R.failure reader.new) offset buffer.new result }
+    ensures offset { IfOk result (λ n. offset ≤ progress.old.told → progress.new.offset ≡ min (offset + n) (2 ^ 64 - 1)) }
 {
     if !go_to(reader, progress, offset)? {
         return Ok(0);

@@ -1,14 +1,16 @@
 //! Reads of the bytes that a reader holds, without a call of the reader.
 ghost use Rattle.std.specs.Prelude.{◌≡◌, ◌+◌, ◌-◌, ◌^◌, ◌<◌, ◌≤◌, min, true, false, None, Ok, IfSome, length, take};
-ghost use Rattle.imagesize_io.specs.Held.{HoldsFrom, IsWhole};
+ghost use Rattle.imagesize_source.specs.Text.{is_ended};
+ghost use Rattle.imagesize_io.specs.Held.{HoldsFrom, IsWhole, is_line};
 ghost use Rattle.imagesize_io.specs.ReaderState.{ReadsAt, ReadsOn};
 ghost use Rattle.imagesize_io.specs.Telling.{account};
 
 use super::Ledger;
 use crate::Told;
-use crate::held::copy_text;
+use crate::held::{copy_text, is_line};
 use crate::window::{WINDOW, keep};
 use imagesize_source::Text;
+use imagesize_source::text::ended_length;
 
 /// Fills the buffer from an offset on, if the reader holds all of these bytes. Returns whether it did.
 ///
@@ -65,6 +67,42 @@ pub(super) fn read_held_text<R: Told>(
     keep(&mut ledger.window, offset, &buffer[..count]);
     pass(ledger, offset, count);
     Some(count)
+}
+
+/// Reads what the reader holds of a line from an offset on, if the line does not end there, and returns how many bytes that is.
+/// Otherwise nothing is read, and 0 is returned.
+///
+/// A line often goes on in the next block of a buffered reader. This saves a read for each of its bytes before that.
+#[inline(always)]
+pub(super) fn read_held_part<R: Told>(
+    reader: &R,
+    ledger: &mut Ledger,
+    offset: u64,
+    text: Text,
+    buffer: &mut [u8],
+) -> usize
+    ensures bound { result ≤ length buffer.new }
+    ensures line { 0 < result → is_line text ≡ true }
+    ensures open { 0 < result → is_ended text (take result buffer.new) ≡ false }
+    ensures none { result ≡ 0 → ledger.new ≡ ledger.old }
+    ensures reads { 0 < result → ReadsAt ledger.old ledger.new (account R.telling R.count R.failure reader.now)
+        (account R.telling R.count R.failure reader.now) offset (take result buffer.new) (Ok result) }
+{
+    if !is_line(text) || offset < ledger.window.len() as u64 {
+        return 0;
+    }
+    let Some(bytes) = held_from(reader, ledger, offset) else {
+        return 0;
+    };
+    let count = bytes.len().min(buffer.len());
+    let part = &bytes[..count];
+    if count == 0 || ended_length(text, part).is_some() {
+        return 0;
+    }
+    buffer[..count].copy_from_slice(part);
+    keep(&mut ledger.window, offset, part);
+    pass(ledger, offset, count);
+    count
 }
 
 // The bytes that the reader holds from an offset on, up to the reported length and as many as the budget has. `None` if they begin

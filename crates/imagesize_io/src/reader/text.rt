@@ -5,9 +5,10 @@ ghost use Rattle.imagesize_io.specs.ReaderState.{ReadsAt, ReadsText};
 ghost use Rattle.imagesize_io.specs.Telling.{account};
 
 use super::Ledger;
-use super::held::read_held_text;
+use super::held::{read_held_part, read_held_text};
 use super::windowed::read_on;
 use crate::Told;
+use crate::held::is_line;
 use imagesize_source::text::is_end;
 use imagesize_source::{Halt, Text};
 
@@ -29,8 +30,8 @@ pub(super) fn read_text<R: Told>(
     read_by_bytes(reader, ledger, offset, text, buffer)
 }
 
-// Reads the text byte by byte, and the rest of a line at once if the reader holds it. Not inlined, since a buffered reader
-// holds most texts.
+// Reads the text byte by byte, but at once what the reader holds of a line, and the rest of a line if it holds that. Not inlined,
+// since a buffered reader holds most texts.
 #[inline(never)]
 fn read_by_bytes<R: Told>(
     reader: &mut R,
@@ -43,9 +44,9 @@ fn read_by_bytes<R: Told>(
         (account R.telling R.count R.failure reader.new) text offset buffer.new result }
 {
     let mut begun = false;
-    // The reader was asked at the first byte.
-    let mut again = 1;
-    let mut count = 0;
+    let mut count = read_held_part(reader, ledger, offset, text, buffer);
+    // The reader holds no more of a line. It is asked again after the next byte.
+    let mut again = count.saturating_add(1);
     while count < buffer.len() {
         let next = offset.saturating_add(count as u64);
         if let Some(rest) = read_rest(
@@ -97,12 +98,4 @@ fn read_rest<R: Told>(
     }
     *again = count.saturating_add(count);
     read_held_text(reader, ledger, next, text, buffer)
-}
-
-// Whether the text is a line.
-#[inline(always)]
-fn is_line(text: Text) -> bool
-    ensures { result ≡ is_line text }
-{
-    matches!(text, Text::Line { .. })
 }

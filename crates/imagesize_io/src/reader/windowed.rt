@@ -1,5 +1,5 @@
 //! Reads through the window: its bytes are not read again, and the bytes after it are kept.
-ghost use Rattle.std.specs.Prelude.{◌<◌, ◌≤◌};
+ghost use Rattle.std.specs.Prelude.{◌≡◌, ◌+◌, ◌-◌, ◌^◌, ◌<◌, ◌≤◌, min, IfOk};
 ghost use Rattle.imagesize_io.specs.ReaderState.{ReadsAt, ReadsOn};
 ghost use Rattle.imagesize_io.specs.Standing.{stand, ReadsFrom};
 ghost use Rattle.imagesize_io.specs.Telling.{account};
@@ -65,9 +65,10 @@ fn read_across<R: Told>(
     offset: u64,
     buffer: &mut [u8],
 ) -> Result<usize, Halt>
-    ensures { ReadsFrom progress.old progress.new (stand (R.telling reader.old) progress.old) (stand (R.telling reader.new) progress.new)
+    ensures reads { ReadsFrom progress.old progress.new (stand (R.telling reader.old) progress.old) (stand (R.telling reader.new) progress.new)
         (account R.telling R.count R.failure reader.old)
         (account R.telling R.count R.failure reader.new) offset buffer.new result }
+    ensures offset { IfOk result (λ n. offset ≤ progress.old.told → progress.new.offset ≡ min (offset + n) (2 ^ 64 - 1)) }
 {
     read_from(reader, progress, offset, buffer)
 }

@@ -4,8 +4,8 @@ use Rattle.imagesize_io.specs.Standing.{stand}
 use Rattle.imagesize_io.proofs.Standings.{fails_there, from_there, keeps_both, not_reached, within_none, within_reached}
 use Rattle.imagesize_io.proofs.reader.filling.read_from.Goals as goal
 
-pub returns-then-not-branch : goal.returns-then-not-branch
-returns-then-not-branch g c =
+pub returns-then-not-branch-clause-reads : goal.returns-then-not-branch-clause-reads
+returns-then-not-branch-clause-reads g c =
     let goes = c.in_ok-go_to.ensures in
     record {
       bound = omega arith;
@@ -21,8 +21,8 @@ returns-then-not-branch g c =
       stops = tt;
     }
 
-pub returns : goal.returns
-returns g c =
+pub returns-clause-reads : goal.returns-clause-reads
+returns-clause-reads g c =
     let goes = c.in_ok-go_to.ensures in
     let filled = c.in_ok-count.ensures in
     record {
@@ -49,8 +49,8 @@ returns g c =
       stops = tt;
     }
 
-pub returns-in_err-count : goal.returns-in_err-count
-returns-in_err-count g c =
+pub returns-in_err-count-clause-reads : goal.returns-in_err-count-clause-reads
+returns-in_err-count-clause-reads g c =
     let is : ◌≡◌ {A = Result ℕ Halt} c.from_residual-in_err-count.result (Err c.in_err-count.field-0.0) =
     search rules in
     let goes = c.in_ok-go_to.ensures in

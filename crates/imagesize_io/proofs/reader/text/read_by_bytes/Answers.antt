@@ -5,8 +5,8 @@ use Rattle.imagesize_source.specs.declared.halt.Halt.{Halt}
 use Rattle.imagesize_io.specs.declared.reader.Ledger.{Ledger}
 use Rattle.imagesize_io.specs.ReaderState.{reader_state}
 use Rattle.imagesize_io.specs.Telling.{Account, account}
-use Rattle.imagesize_io.proofs.HeldReads.{held_text, whole_some}
-use Rattle.imagesize_io.proofs.TextReads.{kept_long, one_long, reader_sound, taking_kept, taking_none, taking_full, text_goes_on, text_ends, text_line, input_ends, text_stopped}
+use Rattle.imagesize_io.proofs.HeldReads.{held_first, held_text, whole_some}
+use Rattle.imagesize_io.proofs.TextReads.{kept_long, one_long, reader_sound, taking_kept, taking_full, text_goes_on, text_ends, text_line, input_ends, text_stopped}
 use Rattle.imagesize_io.proofs.reader.text.read_by_bytes.Goals as goal
 
 -- a reader that was not called
@@ -21,10 +21,9 @@ rest_long count buffer rest long = omega (arith, long, length-take (length buffe
 
 pub loop-count-init : goal.loop-count-init
 loop-count-init g c = λ home.
-    let ledger = c.args.ledger.now in
-    taking_none _ c.args.text c.args.offset (length c.args.buffer.now)
-    (reader_sound (account g.R.Told.telling g.R.Told.count g.R.Told.failure c.args.reader.now) home ledger.progress
-    ledger.window.items)
+    let part = c.read_held_part-count.ensures in
+    held_first (account g.R.Told.telling g.R.Told.count g.R.Told.failure c.args.reader.now) home c.args.text c.args.offset
+    c.read_held_part-count.result c.read_held_part-count.new.buffer part.bound part.none part.line part.open part.reads
 
 pub returns-in-Some : goal.returns-in-Some
 returns-in-Some g c =

@@ -6,9 +6,9 @@ use Rattle.imagesize_io.proofs.reader.text.read_by_bytes.Given as goal
 
 abbrev pub invariant-loop-count : goal.invariant-loop-count
 invariant-loop-count g l = (home : ℕ) → Taking
-    (reader_state (account g.R.Told.telling g.R.Told.count g.R.Told.failure l.initial.reader) home
-    l.initial.ledger.progress
-    l.initial.ledger.window.items)
+    (reader_state (account g.R.Told.telling g.R.Told.count g.R.Told.failure l.fn.reader) home
+    l.fn.ledger.progress
+    l.fn.ledger.window.items)
     (reader_state (account g.R.Told.telling g.R.Told.count g.R.Told.failure l.reader) home l.ledger.progress
     l.ledger.window.items)
     l.text l.offset l.count l.begun (length l.buffer) (take l.count l.buffer)

@@ -10,7 +10,7 @@ returns-in_err-count-2 g c =
     record {
       reads = stops_past (omega (arith, c.len.ensures.value, c.len.ensures.fits)) (omega (arith, c.len.ensures.value))
           (search rules)
-          c.in_err-count-2.ensures refl is;
+          c.in_err-count-2.ensures.reads refl is;
       present = search rules;
       goes_on = search rules;
       ends = λ above other. absurd (omega (arith, c.requires, above));
@@ -21,7 +21,7 @@ returns g c =
     record {
       reads = reads_past (omega (arith, c.len.ensures.value, c.len.ensures.fits)) (omega (arith, c.len.ensures.value))
           (search rules)
-          c.in_ok-count-2.ensures c.keep_front.ensures (search rules);
+          c.in_ok-count-2.ensures.reads c.keep_front.ensures (search rules);
       present = search rules;
       goes_on = search rules;
       ends = λ above other. absurd (omega (arith, c.requires, above));

@@ -27,12 +27,12 @@ returns-in_err-count g c =
     let is : ◌≡◌ {A = Result ℕ Halt} c.from_residual.result (Err c.in_err-count.field-0.0) = search rules in
     stops_behind (some_copied copy.ensures.small copy.ensures.count copy.ensures.copied copy.auto.buffer
     c.if-copied-buffer.false
-    (search rules)) c.in_err-count.ensures refl is
+    (search rules)) c.in_err-count.ensures.reads refl is
 
 pub returns : goal.returns
 returns g c =
     let copy = c.copy_kept-copied in
-    let read = c.in_ok-count.ensures in
+    let read = c.in_ok-count.ensures.reads in
     reads_behind (some_copied copy.ensures.small copy.ensures.count copy.ensures.copied copy.auto.buffer
     c.if-copied-buffer.false
     (search rules)) read
