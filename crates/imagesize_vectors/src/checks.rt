@@ -70,11 +70,11 @@ pub fn is_answer(
         Ok(ImageSize { width, height }) => {
             Ok(format!(in alloc; "{width}x{height}")?.as_str() == row.answer)
         }
-        Err(error) => is_refusal(alloc, row, error),
+        Err(error) => is_error(alloc, row, error),
     }
 }
 
-fn is_refusal(alloc: Global, row: &Row<'_>, error: &ImageError) -> Result<bool, AllocError> {
+fn is_error(alloc: Global, row: &Row<'_>, error: &ImageError) -> Result<bool, AllocError> {
     Ok(error.to_string(alloc)?.as_str() == row.answer)
 }
 
@@ -86,7 +86,7 @@ pub fn is_type(
 ) -> Result<bool, AllocError> {
     match found {
         Ok(kind) => is_kind(alloc, row, Some(*kind)),
-        Err(error) => Ok(row.kind == "-" && is_refusal(alloc, row, error)?),
+        Err(error) => Ok(row.kind == "-" && is_error(alloc, row, error)?),
     }
 }
 
@@ -202,7 +202,7 @@ fn check_allocations(alloc: Global, row: &Row<'_>, spans: &[Span]) -> Result<(),
         )?;
         let trace = blob_trace(&memory, &row.bytes)?;
         let same = is_traced(alloc, row, spans, &trace)?;
-        holds(same && memory.out() == 1, "the trace behind a refusal")?;
+        holds(same && memory.out() == 1, "a trace after an allocation that failed")?;
     }
     let memory = Refusing::new(alloc, allocations);
     let trace = blob_trace(&memory, &row.bytes)?;

@@ -1,6 +1,6 @@
 //! What is returned with a fault, and for readers that are interrupted.
 
-use crate::checks::failures::{Call, fault_of, interruptions, is_same, refusal_of};
+use crate::checks::failures::{Call, error_of, fault_of, interruptions, is_same};
 use crate::inputs::{GIF, ICON, JPEG_SIZE, jpeg_behind};
 use imagesize::{ImageType, reader_probe, reader_size};
 use imagesize_readers::readers::{Cutting, Failing, Halting, Interrupted};
@@ -61,7 +61,7 @@ fn sixty_four_tries_are_those_of_a_whole_call(rt: HostRuntime) -> Result<(), Fai
         assert_eq!(rt; reader_size(halting(&bytes, 64, error))?, JPEG_SIZE);
         for call in [Call::Size, Call::Probe, Call::SizeAs(ImageType::Jpeg)] {
             assert!(rt;
-                refusal_of(call, halting(&bytes, 64, error)).is_none(),
+                error_of(call, halting(&bytes, 64, error)).is_none(),
                 "{call:?}"
             );
             let fault = fault_of(call, halting(&bytes, 65, error)).expect(
@@ -71,7 +71,7 @@ fn sixty_four_tries_are_those_of_a_whole_call(rt: HostRuntime) -> Result<(), Fai
             assert!(rt; is_same(rt.alloc(), &fault, &error)?, "{call:?}");
         }
         // The type needs twelve bytes, so that only twelve reads of it are interrupted.
-        assert!(rt; refusal_of(Call::Type, halting(&bytes, 65, error)).is_none());
+        assert!(rt; error_of(Call::Type, halting(&bytes, 65, error)).is_none());
     }
     Ok(())
 }

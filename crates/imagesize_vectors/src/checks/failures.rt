@@ -26,7 +26,7 @@ pub fn calls(kind: ImageType) -> [Call; 4] {
 }
 
 /// The error of a call, if there is one.
-pub fn refusal_of<R: Told>(call: Call, mut reader: R) -> Option<ImageError> {
+pub fn error_of<R: Told>(call: Call, mut reader: R) -> Option<ImageError> {
     match call {
         Call::Type => reader_type(reader).err(),
         Call::Size => reader_size(reader).err(),
@@ -37,7 +37,7 @@ pub fn refusal_of<R: Told>(call: Call, mut reader: R) -> Option<ImageError> {
 
 /// The error of a call that failed.
 pub fn fault_of<R: Told>(call: Call, reader: R) -> Option<io::Error> {
-    match refusal_of(call, reader) {
+    match error_of(call, reader) {
         Some(ImageError::IoError(Reason::Fault(error))) => Some(error),
         _ => None,
     }
@@ -120,8 +120,8 @@ fn check_interrupted(
         left,
         error,
     };
-    let refused = refusal_of(call, Cursor::new(bytes)).is_some();
-    let same = refusal_of(call, reader(64)).is_some() == refused;
+    let refused = error_of(call, Cursor::new(bytes)).is_some();
+    let same = error_of(call, reader(64)).is_some() == refused;
     holds(
         same && fault_of(call, reader(64)).is_none(),
         "64 interruptions",
