@@ -69,7 +69,7 @@ pub(super) fn read_held_text<R: Told>(
     Some(count)
 }
 
-/// Reads what the reader holds of a line from an offset on, if the line does not end there, and returns how many bytes that is.
+/// Reads what the reader holds of a line from an offset on, if the line does not end there. Returns how many bytes were read.
 /// Otherwise nothing is read, and 0 is returned.
 ///
 /// A line often goes on in the next block of a buffered reader. This saves a read for each of its bytes before that.
