@@ -9,12 +9,12 @@ use Rattle.imagesize_source.proofs.Halts.{stated_same}
 use Rattle.imagesize.proofs.calls.blob_probe.Goals as goal
 
 pub returns-clause-kind : goal.returns-clause-kind
-returns-clause-kind c = c.probe_slice.ensures.kind ∙ same_kind _
+returns-clause-kind c = c.probe_slice-kind.ensures.kind ∙ same_kind _
 
 pub returns-clause-value : goal.returns-clause-value
-returns-clause-value c = c.with_error.ensures ∙ stated_same _ _ _ c.probe_slice.ensures.unstopped
-    ∙ ap stated c.probe_slice.ensures.value
+returns-clause-value c = c.with_error.ensures ∙ stated_same _ _ _ c.probe_slice-kind.ensures.unstopped
+    ∙ ap stated c.probe_slice-kind.ensures.value
 
 pub returns-clause-unstopped : goal.returns-clause-unstopped
 returns-clause-unstopped c = ap (λ (r : Result ImageSize ImageError). is_stopped r) c.with_error.ensures
-    ∙ slice_unstopped _ _ _ c.probe_slice.ensures.unstopped
+    ∙ slice_unstopped _ _ _ c.probe_slice-kind.ensures.unstopped
