@@ -14,7 +14,9 @@ mod spans;
 mod trace;
 mod types;
 
-pub use calls::{Probed, blob_probe, blob_size, image_type, reader_probe, reader_size, reader_type};
+pub use calls::{
+    Probed, blob_probe, blob_size, image_type, reader_probe, reader_size, reader_type,
+};
 pub use file::size;
 pub use imagesize_io::{Stop, Told};
 pub use imagesize_source::{ImageError, ImageResult, Reason, Span};

@@ -281,4 +281,3 @@ held_first a {old} {new} home t offset (suc n) buffer fits none line still reads
     let read = reads (omega arith) in
     held_part t offset (suc n) buffer fits (line (omega arith)) (still (omega arith)) (λ far. (read.pays (omega arith) far).0)
     (read.runs home)
-

@@ -202,7 +202,10 @@ fn check_allocations(alloc: Global, row: &Row<'_>, spans: &[Span]) -> Result<(),
         )?;
         let trace = blob_trace(&memory, &row.bytes)?;
         let same = is_traced(alloc, row, spans, &trace)?;
-        holds(same && memory.out() == 1, "a trace after an allocation that failed")?;
+        holds(
+            same && memory.out() == 1,
+            "a trace after an allocation that failed",
+        )?;
     }
     let memory = Refusing::new(alloc, allocations);
     let trace = blob_trace(&memory, &row.bytes)?;
