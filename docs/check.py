@@ -23,8 +23,8 @@ from lists import usual_names  # noqa: E402
 
 import promises  # noqa: E402
 
-# The most words of all pages together, without the headers and what a script writes. It is what the pages have now: lower it with them.
-LIMIT = 28100
+# The most words of all pages together, without the headers and what a script writes.
+LIMIT = 25000
 
 LINK = re.compile(r"\[[^\]]*\]\(([^)#\s]+)(?:#[^)]*)?\)")
 CODE = re.compile(r"`([^`\n]+)`")
