@@ -2,7 +2,7 @@
 
     python3 docs/check.py                prints a line for each mistake; the status is 1 if there is one
     python3 docs/check.py --count        prints the words, the long sentences and the project's old words of each page
-    python3 docs/check.py --write        writes anew the contracts in CALLING.md, the list of formats in README.md, and what the READMEs share
+    python3 docs/check.py --write        writes the contracts in CALLING.md, the formats in README.md, and in each README what may surprise
     python3 docs/check.py --self-test    plants a mistake for each check, and fails if one is not found
 
 It checks links and their anchors, names of files, lines of files, commands, calls, mutations, definitions, clauses and their owners, the
@@ -23,8 +23,8 @@ from lists import usual_names  # noqa: E402
 
 import promises  # noqa: E402
 
-# The most words of all pages together, without the headers and what a script writes. It is what the pages have now: lower it with them.
-LIMIT = 28100
+# The most words of all pages together, without the headers and what a script writes.
+LIMIT = 25000
 
 LINK = re.compile(r"\[[^\]]*\]\(([^)#\s]+)(?:#[^)]*)?\)")
 CODE = re.compile(r"`([^`\n]+)`")
@@ -389,37 +389,41 @@ def quoted():
     return "\n".join(lines)
 
 
-LISTED = re.compile(r"^\*\*\d+ formats:\*\* [^.]*\.", re.M)
+LISTED = re.compile(r"^\| \*\*\d+ formats\*\* \|.*\n(?:\|.*\n)+", re.M)
+# The types of each row of this table, by their constants in the header; the last row has all others.
+ROWS = {
+    "pictures": "BMP GIF HEIF ICO JPEG JXL PNM QOI TIFF WEBP".split(),
+    "textures": "ASTC ATC DDS EAC ETC2 KTX2 PVRTC VTF".split(),
+}
 
 
 def list_of_formats():
     """The formats as README lists them, from the comments of the header."""
-    found = usual_names().values()
-    return f"**{len(found)} formats:** {', '.join(sorted(found, key=str.casefold))}."
+    found = usual_names()
+    rows = {**ROWS, "others": [constant for constant in found if constant not in sum(ROWS.values(), [])]}
+    lines = [f"| {row} | {', '.join(sorted((found[constant] for constant in has), key=str.casefold))} |" for row, has in rows.items()]
+    return "\n".join([f"| **{len(found)} formats** | |", "|---|---|", *lines, ""])
 
 
 def formats(page, text):
-    """The list of formats in README, where the header has others."""
+    """The table of formats in README, where the header has others."""
     if page == TOP / "README.md" and list_of_formats() not in text:
-        yield "the list of formats is not the header's"
+        yield "the table of formats is not the header's"
 
 
-# The lines of README that the README of each package has too, since a package has no other page.
-SHARED = re.compile(r"^- \*\*(Orientation|BMP|MP4, MOV, 3GP|Several pictures)\.\*\*.*$", re.M)
+# What may surprise, in short: docs/SURPRISES.md has it, and each README includes it, since a package's README is read alone.
+SHARED = re.compile(r"^- \*\*Part of a file\.\*\*.*\n(?:- .*\n)*?- \*\*Several pictures\.\*\*.*\n", re.M)
 
 
 def shared_lines():
-    """These lines, by their first words."""
-    return {match[1]: match[0] for match in SHARED.finditer((TOP / "README.md").read_text())}
+    """The list of docs/SURPRISES.md."""
+    return SHARED.search((TOP / "docs/SURPRISES.md").read_text())[0]
 
 
 def shared(page, text):
-    """Lines of a package's README that README has otherwise."""
-    if page.name == "README.md" and page.parent.parent == TOP / "bindings":
-        says = {match[1]: match[0] for match in SHARED.finditer(text)}
-        for name, line in shared_lines().items():
-            if says.get(name) != line:
-                yield f"not the line of README: {name}"
+    """A README that includes another list of what may surprise."""
+    if page.name == "README.md" and SHARED.findall(text) != [shared_lines()]:
+        yield "not the list of docs/SURPRISES.md: python3 docs/check.py --write"
 
 
 BLOCK = re.compile(r"(<!-- by docs/check.py --write -->\n```text\n)(.*?\n?)(```)", re.S)
@@ -492,7 +496,7 @@ def prose(page, text):
         comments = re.findall(r"/\*(.*?)\*/", text, re.S)
         comments = [re.sub(r"^ *\* ?", "", comment, flags=re.M) for comment in comments]
         return "\n\n".join(re.sub(r"^ {4,}.*$", "", comment, flags=re.M) for comment in comments)
-    text = re.sub(r"<!--.*?-->", "", LISTED.sub("", text), flags=re.S)
+    text = re.sub(r"<!--.*?-->", "", text, flags=re.S)
     return re.sub(r"^ {4,}[^ -].*$", "", FENCE.sub("", text), flags=re.M)
 
 
@@ -563,7 +567,9 @@ BY_SCRIPT = re.compile(r"<!-- (?:by docs/check\.py --write|written by tests/repo
 
 def words_of(page, text):
     """How many words of a page are written by hand, and how many by a script."""
-    made = sum(len(prose(page, block).split()) for block in BY_SCRIPT.findall(text))
+    made = sum(len(prose(page, block).split()) for block in BY_SCRIPT.findall(text) + LISTED.findall(text))
+    if page.name == "README.md":
+        made += sum(len(prose(page, block).split()) for block in SHARED.findall(text))
     return len(prose(page, text).split()) - made, made
 
 
@@ -622,13 +628,13 @@ def show_counts():
 
 
 def write():
-    """Writes the contracts in CALLING.md, the list of formats in README.md, and what the READMEs share."""
+    """Writes the contracts in CALLING.md, the table of formats in README.md, and in each README what may surprise."""
     page = TOP / "CALLING.md"
     page.write_text(BLOCK.sub(lambda match: match[1] + quoted() + "\n" + match[3], page.read_text()))
     page = TOP / "README.md"
     page.write_text(LISTED.sub(lambda _: list_of_formats(), page.read_text()))
-    for page in TOP.glob("bindings/*/README.md"):
-        page.write_text(SHARED.sub(lambda match: shared_lines()[match[1]], page.read_text()))
+    for page in [page, *TOP.glob("bindings/*/README.md")]:
+        page.write_text(SHARED.sub(lambda _: shared_lines(), page.read_text()))
 
 
 def main():
