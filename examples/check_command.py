@@ -11,6 +11,7 @@ import os
 import pathlib
 import pty
 import re
+import shlex
 import signal
 import socket
 import subprocess
@@ -347,6 +348,26 @@ def check_progress(program):
     print("progress: a line on a terminal")
 
 
+def check_traps(program):
+    """A library each of whose calls is trapped, as none should be: a line says so of each file."""
+    command = pathlib.Path(program).with_name("imagesize_trapped").name
+    header = (HERE.parent / "include" / "imagesize.h").read_text()
+    calls = {"imagesize_probe_parts", *re.findall(r"^(?:uint32_t|void) (imagesize_\w+)\(", header, re.M)} - {"imagesize_parts_probe"}
+    pathlib.Path("trapped.c").write_text("".join(f"unsigned {call}(void) {{ return 255; }}\n" for call in sorted(calls)))
+    compiler = shlex.split(os.environ.get("CC", "cc"))
+    subprocess.run([*compiler, "-shared", "-fPIC", "-o", "trapped.so", "trapped.c"], check=True)
+    subprocess.run([*compiler, "-std=c11", f"-I{HERE.parent / 'include'}", "-o", command, str(HERE.parent / "bindings/c/imagesize.c"), "trapped.c"],
+                   check=True)
+    for arguments, said in (["a.gif", "c.jpg", "none"], b"TRAPPED"), (["--json", "--spans", "a.gif"], b'"TRAPPED"'), (["-"], b"trapped"):
+        with open("a.gif", "rb") as gif:
+            ours = Ran([f"./{command}"], arguments, stdin=gif)
+            gif.seek(0)
+            theirs = Ran(IN_PYTHON, arguments, stdin=gif, environment={"IMAGESIZE_LIBRARY": os.path.abspath("trapped.so")})
+        assert (ours.status, ours.out, ours.err) == (1, theirs.out, "") and theirs.err == "", (arguments, ours.out, theirs.out, theirs.err)
+        assert said.lower() in ours.out.lower(), ours.out
+    print("traps: a line for each file")
+
+
 def check_usage(program):
     version = re.search(r"^VERSION = (.*)$", (HERE.parent / "bindings/c/Makefile").read_text(), re.M)[1]
     assert both(program, "--version") == both(program, "a.gif", "--vers", "--json") == f"{version}\n"
@@ -402,7 +423,7 @@ def main(program, worked):
             pathlib.Path(name).write_bytes(data)
         for check in (check_lines, check_json, check_spans, check_recursive, check_names, check_jobs, check_killed,
                       check_standard_input, check_input_that_does_not_wait, check_pipes, check_output,
-                      check_progress, check_usage, check_order):
+                      check_progress, check_usage, check_order, check_traps):
             check(program)
         check_test_vectors(program, worked)
         os.chdir("/")

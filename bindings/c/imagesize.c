@@ -99,6 +99,10 @@ static const char *const MESSAGES[] = {
     // end of the list
 };
 
+/* The status of a call of the portable library that was trapped, as in imagesize_portable.h, and what it says. */
+#define IMAGESIZE_TRAPPED 255
+static const char *const TRAPPED_NAME = "TRAPPED", *const TRAPPED_MESSAGE = "the portable library was trapped: this is a mistake in it";
+
 /* The MIME types, of those types that have one. */
 static const char *const MEDIA[] = {
     // by bindings/lists.py: media
@@ -233,13 +237,14 @@ static void find_spans_of_png(struct row *row, const uint8_t *memory, uint64_t t
     uint64_t width, height;
     imagesize_span none = {0, 0}, wanted = {0, 0};
     size_t length = 0;
-    while (imagesize_png_parts_size(known, length, row->count ? row->spans : &none, row->count, total, &width, &height, &wanted)
+    uint32_t status;
+    while ((status = imagesize_png_parts_size(known, length, row->count ? row->spans : &none, row->count, total, &width, &height, &wanted))
            == IMAGESIZE_BYTES_WANTED) {
         memcpy(known + length, memory + wanted.start, (size_t)wanted.len);
         length += (size_t)wanted.len;
         add_span(row, wanted);
     }
-    row->has_spans = true;
+    row->has_spans = status != IMAGESIZE_TRAPPED;
 }
 
 /* The spans of an input, whose bytes are in memory as far as its result depends on them. */
@@ -339,7 +344,7 @@ static const char *error_of(const struct row *row)
     if (row->status == IMAGESIZE_FAULT) {
         return row->why ? strerror(row->why) : "the file became shorter while it was read";
     }
-    return MESSAGES[row->status];
+    return row->status == IMAGESIZE_TRAPPED ? TRAPPED_MESSAGE : MESSAGES[row->status];
 }
 
 /* The name of a row's type, and of its compression; an empty text if it has none. */
@@ -499,7 +504,8 @@ static void print_json_row(const struct row *row, const struct options *options)
     } else {
         print(", \"width\": null, \"height\": null");
     }
-    print_json_key("status", error ? STATUS_NAMES[row->status] : NULL);
+    const char *status = row->status == IMAGESIZE_TRAPPED ? TRAPPED_NAME : STATUS_NAMES[row->status];
+    print_json_key("status", error ? status : NULL);
     print_json_key("error", error);
     if (options->spans) {
         print_json_spans(row);

@@ -23,6 +23,7 @@ from ._types import (
     Size,
     Span,
     Status,
+    TrapError,
     status_text,
 )
 
@@ -39,6 +40,7 @@ __all__ = [
     "Span",
     "Status",
     "StreamProbe",
+    "TrapError",
     "__version__",
     "image_type",
     "probe",

@@ -21,6 +21,9 @@ _BUILT = os.path.join(_HERE, "..", "..", "..", "examples", "out", "libimagesize.
 PNG = 1000
 """PNG among the numbers of types. The library has calls of its own for PNG, and no number."""
 
+TRAPPED = 255
+"""The status of a call of the portable library whose code did what WebAssembly does not allow, as in `imagesize_portable.h`."""
+
 _WANTED = 30
 
 _SIGNATURE = b"\x89PNG\r\n\x1a\n"
@@ -191,6 +194,7 @@ def png_spans(front: bytes, total: int) -> List[int]:
         known += front[start : start + length]
         spans.extend((start, length))
         status, told = _probe_png(known, spans, total)
+    _check(status)
     return list(spans)
 
 
@@ -272,7 +276,7 @@ def spans_of(data: Union[bytes, ctypes.c_char], length: int, limit: int) -> Tupl
 def text(call: str, *numbers: int) -> Optional[str]:
     """The text of a call that tells one; None where no text has these numbers."""
     told, asked, length = getattr(_LIBRARY, call), list(map(ctypes.c_uint32, numbers)), ctypes.c_size_t()
-    told(*asked, ctypes.create_string_buffer(1), ctypes.c_size_t(), ctypes.byref(length))
+    _check(told(*asked, ctypes.create_string_buffer(1), ctypes.c_size_t(), ctypes.byref(length)))
     buffer = ctypes.create_string_buffer(length.value + 1)
     refused = told(*asked, buffer, length, ctypes.byref(length))
     return None if refused else buffer.raw[: length.value].decode("ascii")
@@ -281,5 +285,13 @@ def text(call: str, *numbers: int) -> Optional[str]:
 def number(call: str, *numbers: int) -> int:
     """The number of a call that tells one."""
     told = ctypes.c_uint32()
-    getattr(_LIBRARY, call)(*map(ctypes.c_uint32, numbers), ctypes.byref(told))
+    _check(getattr(_LIBRARY, call)(*map(ctypes.c_uint32, numbers), ctypes.byref(told)))
     return told.value
+
+
+def _check(status: int) -> None:
+    """Raises `TrapError` for the status of a call that was trapped. All other statuses are for the caller."""
+    if status == TRAPPED:
+        from ._types import TrapError
+
+        raise TrapError
