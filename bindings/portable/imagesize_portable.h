@@ -1,5 +1,5 @@
 /*
- * What the portable library has besides imagesize.h: a status of its own.
+ * What the portable library has besides imagesize.h: a status, and a call that says which library it is.
  */
 #ifndef IMAGESIZE_PORTABLE_H
 #define IMAGESIZE_PORTABLE_H
@@ -12,5 +12,16 @@
  * The packages for Python and for Rust have an error of their own for it.
  */
 #define IMAGESIZE_TRAPPED 255
+
+#ifdef __cplusplus
+extern "C" {
+#endif
+
+/* Returns 1. The native library does not have this call, so a program that loads a library can tell which one it is. */
+uint32_t imagesize_is_portable(void);
+
+#ifdef __cplusplus
+}
+#endif
 
 #endif

@@ -12,6 +12,7 @@ some of its bytes. A `StreamProbe` is fed with chunks as they come.
 """
 
 from ._calls import image_type, probe, probe_async, probe_with, size, spans
+from ._library import is_portable
 from ._stream import StreamProbe
 from ._types import (
     Compression,
@@ -43,6 +44,7 @@ __all__ = [
     "TrapError",
     "__version__",
     "image_type",
+    "is_portable",
     "probe",
     "probe_async",
     "probe_with",

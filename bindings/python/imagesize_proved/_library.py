@@ -1,7 +1,7 @@
 """The shared library, and its calls as Python has them.
 
 It is looked for at the path in the environment's IMAGESIZE_LIBRARY, or else in this folder, where the wheel has it, or else where
-`examples/run build` puts it.
+`examples/run build` puts it, or else where an editable install puts the portable one.
 """
 
 from __future__ import annotations
@@ -16,7 +16,9 @@ Told = Tuple[int, List[int]]
 
 _HERE = os.path.dirname(os.path.realpath(__file__))
 _PACKED = os.path.join(_HERE, "libimagesize.so")
-_BUILT = os.path.join(_HERE, "..", "..", "..", "examples", "out", "libimagesize.so")
+_TOP = os.path.join(_HERE, "..", "..", "..")
+_BUILT = os.path.join(_TOP, "examples", "out", "libimagesize.so")
+_COMPILED = os.path.join(_TOP, "bindings", "portable", "out", "libimagesize.so")
 
 PNG = 1000
 """PNG among the numbers of types. The library has calls of its own for PNG, and no number."""
@@ -55,7 +57,7 @@ _CALLS = (
 
 
 def _loaded() -> ctypes.CDLL:
-    path = os.environ.get("IMAGESIZE_LIBRARY") or (_PACKED if os.path.exists(_PACKED) else _BUILT)
+    path = os.environ.get("IMAGESIZE_LIBRARY") or next((found for found in (_PACKED, _BUILT, _COMPILED) if os.path.exists(found)), _BUILT)
     try:
         library = ctypes.CDLL(path)
         for name in _CALLS:
@@ -80,6 +82,11 @@ _parts_new = _QUICK.imagesize_parts_new
 _parts_answer = _QUICK.imagesize_parts_answer
 _stream_push = _QUICK.imagesize_stream_push
 _stream_finish = _QUICK.imagesize_stream_finish
+
+
+def is_portable() -> bool:
+    """Whether the portable library is loaded, and not the native one. The answer comes from the library itself."""
+    return hasattr(_LIBRARY, "imagesize_is_portable")
 
 
 class _Buffer:
