@@ -225,6 +225,31 @@ def check_killed(program):
     print("--jobs: no process is left behind, and none is waited for in vain")
 
 
+def check_interrupted(program):
+    """An interrupt from the terminal ends the run with the status that a shell calls 130, says nothing, and leaves no process behind."""
+    writer = os.open("below/pipe", os.O_RDWR)  # a pipe from which nothing comes
+    for command, statuses in ([program], (-signal.SIGINT,)), (IN_PYTHON, (130,)):
+        for arguments in (["--null"], ["--null", "--jobs", "2"], ["below/pipe"], ["--jobs", "2", "below/pipe", *["a.gif"] * 500],
+                          ["--jobs", "2", *["a.gif"] * 500, "below/pipe"]):
+            run = subprocess.Popen([*command, *arguments], stdin=subprocess.PIPE, stdout=subprocess.PIPE, stderr=subprocess.PIPE,
+                                   env={**os.environ, "PYTHONPATH": str(PACKAGE)}, start_new_session=True)
+            if "--null" in arguments:
+                run.stdin.write(b"a.gif\0" * 3000)
+                run.stdin.flush()
+            workers = waited(lambda: children(run.pid) if len(children(run.pid)) == 2 else None) if "--jobs" in arguments else []
+            time.sleep(1)
+            os.killpg(run.pid, signal.SIGINT)
+            try:
+                err = run.communicate(timeout=20)[1].decode()
+            except subprocess.TimeoutExpired:
+                os.killpg(run.pid, signal.SIGKILL)
+                raise AssertionError(f"{command} {arguments}: an interrupt does not end it") from None
+            assert run.returncode in statuses and err == "", (command, arguments, run.returncode, err)
+            assert waited(lambda: not any(map(goes_on, workers))), (command, arguments, workers)
+    os.close(writer)
+    print("interrupts: the run ends, with its processes")
+
+
 def children(process):
     """The processes that a process started."""
     return [int(word) for word in pathlib.Path(f"/proc/{process}/task/{process}/children").read_text().split()]
@@ -421,7 +446,7 @@ def main(program, worked):
         os.makedirs("below/deep")
         for name, data in FILES.items():
             pathlib.Path(name).write_bytes(data)
-        for check in (check_lines, check_json, check_spans, check_recursive, check_names, check_jobs, check_killed,
+        for check in (check_lines, check_json, check_spans, check_recursive, check_names, check_jobs, check_killed, check_interrupted,
                       check_standard_input, check_input_that_does_not_wait, check_pipes, check_output,
                       check_progress, check_usage, check_order, check_traps):
             check(program)

@@ -4,7 +4,7 @@ Options may come before, between and after the paths, up to the word `--`.
 A line for each file has its type, its size and its path, and after the path the error where there is no size. The path `-` is
 standard input, which is read once where it cannot seek. A path with a control character, a backslash or bytes that are no UTF-8 is
 printed with escapes, so that each file has one line. The status is 0 if each file has a size, 1 if one has none or if the output
-cannot be written, and 2 if no file is named.
+cannot be written, and 2 if no file is named. An interrupt ends the program with status 130, and with no words.
 """
 
 from __future__ import annotations
@@ -231,18 +231,48 @@ def by_jobs(paths: Iterable[str], with_spans: bool, null: bool, jobs: int) -> It
 
     waiting: Deque[Callable[[], List[Row]]] = collections.deque()
     try:
-        with ProcessPoolExecutor(jobs, initializer=end_with_parent) as pool:
+        with ProcessPoolExecutor(jobs, initializer=end_with_parent) as pool, stopped_early():
             for batch in batches(paths, null):
                 if batch == ["-"] and not null:
                     waiting.append(functools.partial(rows_of, batch, with_spans, null))
                 else:
-                    waiting.append(pool.submit(rows_of, batch, with_spans, null).result)
+                    with interrupts_held():
+                        waiting.append(pool.submit(rows_of, batch, with_spans, null).result)
                 if len(waiting) > 2 * jobs:
                     yield from waiting.popleft()()
             while waiting:
                 yield from waiting.popleft()()
     except BrokenProcessPool:
         raise Ended("a process that reads files has ended") from None
+
+
+@contextlib.contextmanager
+def stopped_early() -> Iterator[None]:
+    """Kills the processes of a pool if the run ends early, as by an interrupt: the pool would wait for all that they have begun, and one may
+    read a pipe from which nothing comes."""
+    try:
+        yield
+    except BaseException:
+        import multiprocessing
+
+        for process in multiprocessing.active_children():
+            process.kill()
+        raise
+
+
+@contextlib.contextmanager
+def interrupts_held() -> Iterator[None]:
+    """Holds an interrupt back meanwhile. A process that is started meanwhile never gets one, so that it says nothing of it."""
+    import signal
+
+    if not hasattr(signal, "pthread_sigmask"):  # on Windows
+        yield
+        return
+    before = signal.pthread_sigmask(signal.SIG_BLOCK, {signal.SIGINT})
+    try:
+        yield
+    finally:
+        signal.pthread_sigmask(signal.SIG_SETMASK, before)
 
 
 def end_with_parent() -> None:
