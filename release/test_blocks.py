@@ -117,6 +117,15 @@ class Readmes(unittest.TestCase):
             self.assertEqual(len(marked), text.count("<!-- not run"), readme)
 
 
+class Pages(unittest.TestCase):
+    def test_pages_that_show_a_call_that_waits_say_so(self):
+        """The program imagesize_probe and Rattle's `size` wait for a pipe without a writer. All other calls do not."""
+        for page, shown in (("README.md", "`imagesize_probe`"), ("CALLING.md", "size(&rt"), ("release/program.md", "`imagesize_probe`")):
+            text = (TOP / page).read_text()
+            self.assertIn(shown, text, page)
+            self.assertRegex(text, "(waits for a pipe without a writer|pipe without a writer .* waited for)", page)
+
+
 class Files(unittest.TestCase):
     def test_images_that_are_named(self):
         with tempfile.TemporaryDirectory() as folder, contextlib.redirect_stdout(io.StringIO()):
