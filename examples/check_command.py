@@ -172,6 +172,10 @@ def check_names(program):
     for end in (b"", b"\0"):
         assert both(program, "--null", input=listed + end).count("\n") == len(NAMES)
     assert both(program, "--null", "a.gif", input=b"b.png\0below\0", status=1).count("\n") == 3
+    for length in (65535, 65536, 65537, 200_000):  # names that end near the end of a block, or after it, and one without a zero
+        listed = b"b.png\0" + b"x" * length + b"\0a.gif\0" + b"y" * length
+        assert [len(line) > 1000 for line in both(program, "--null", input=listed, status=1).splitlines()] == [False, True, False, True]
+    both(program, "--null", input=b"\0\0b.png", status=1)
     assert both(program, "-0r", input=b"names\0").splitlines() == said
     os.chdir("names")
     assert both(program, "--null", input=b"-\0") == "Gif                 640x480  -\n"

@@ -838,15 +838,15 @@ static void describe_names(struct run *run)
             fprintf(stderr, "imagesize: standard input: %s\n", strerror(why));
             _exit(1);
         }
+        char *name = names, *from = names + length, *zero; /* before `from` no name ends */
         length += (size_t)got;
         if (got == 0 && length > 0) {
             names[length++] = '\0';
         }
-        char *name = names, *next;
-        for (; (next = memchr(name, '\0', length)) != NULL; name = next) {
-            length -= (size_t)(++next - name);
+        for (; (zero = memchr(from, '\0', (size_t)(names + length - from))) != NULL; name = from = zero + 1) {
             describe_path(run, name);
         }
+        length -= (size_t)(name - names);
         memmove(names, name, length);
     }
     free(names);

@@ -152,12 +152,15 @@ def named(asked: Asked) -> Iterator[str]:
     """The paths of the command, and with --null those that standard input has."""
     yield from asked.paths
     if asked.null:
-        rest = b""
+        rest: List[bytes] = []
         for block in iter(names_read, b""):
-            *ended, rest = (rest + block).split(b"\0")
-            yield from map(os.fsdecode, ended)
-        if rest:
-            yield os.fsdecode(rest)
+            first, *more = block.split(b"\0")
+            rest.append(first)
+            for piece in more:
+                yield os.fsdecode(b"".join(rest))
+                rest = [piece]
+        if any(rest):
+            yield os.fsdecode(b"".join(rest))
 
 
 def names_read() -> bytes:
