@@ -11,6 +11,7 @@ import os
 import pathlib
 import pty
 import re
+import shlex
 import signal
 import socket
 import subprocess
@@ -171,6 +172,10 @@ def check_names(program):
     for end in (b"", b"\0"):
         assert both(program, "--null", input=listed + end).count("\n") == len(NAMES)
     assert both(program, "--null", "a.gif", input=b"b.png\0below\0", status=1).count("\n") == 3
+    for length in (65535, 65536, 65537, 200_000):  # names that end near the end of a block, or after it, and one without a zero
+        listed = b"b.png\0" + b"x" * length + b"\0a.gif\0" + b"y" * length
+        assert [len(line) > 1000 for line in both(program, "--null", input=listed, status=1).splitlines()] == [False, True, False, True]
+    both(program, "--null", input=b"\0\0b.png", status=1)
     assert both(program, "-0r", input=b"names\0").splitlines() == said
     os.chdir("names")
     assert both(program, "--null", input=b"-\0") == "Gif                 640x480  -\n"
@@ -195,10 +200,10 @@ def check_jobs(program):
         for jobs in ("1", "2", "7"):
             assert both(program, *words, "--jobs", jobs, status=1) == one, jobs
     assert both(program, "--jobs", "4", "--null", input=b"a.gif\0" * 5000).count("\n") == 5000
-    for jobs in ("0", "-2", "many", "", "9" * 30):
-        for command in ([program], IN_PYTHON):
-            ran = Ran(command, ["a.gif", "--jobs", jobs])
-            assert (ran.status, "usage: imagesize" in ran.err) == (2, True), (jobs, ran.err)
+    for jobs in ("0", "-2", "many", "", "9" * 30, "9" * 5000, str(1 << 63), " 2", "2 ", "+2", "1_0", "0x2", "\u0663"):
+        ours, theirs = (Ran(command, ["a.gif", "--jobs", jobs]) for command in ([program], IN_PYTHON))
+        assert (ours.status, ours.err) == (theirs.status, theirs.err) == (2, theirs.err), (jobs, ours.err, theirs.err)
+        assert ours.err.endswith(f"imagesize: no number of processes: {jobs}\n"), ours.err
     with open("/dev/full", "wb") as full:
         for command in ([program], IN_PYTHON):
             ran = Ran(command, ["--jobs", "2", *["a.gif"] * 3000], stdout=full)
@@ -222,6 +227,31 @@ def check_killed(program):
             err = run.communicate(b"a.gif\0" * 3000)[1].decode()
             assert is_run or (run.returncode, err) == (1, "imagesize: a process that reads files has ended\n"), (command, run.returncode, err)
     print("--jobs: no process is left behind, and none is waited for in vain")
+
+
+def check_interrupted(program):
+    """An interrupt from the terminal ends the run with the status that a shell calls 130, says nothing, and leaves no process behind."""
+    writer = os.open("below/pipe", os.O_RDWR)  # a pipe from which nothing comes
+    for command, statuses in ([program], (-signal.SIGINT,)), (IN_PYTHON, (130,)):
+        for arguments in (["--null"], ["--null", "--jobs", "2"], ["below/pipe"], ["--jobs", "2", "below/pipe", *["a.gif"] * 500],
+                          ["--jobs", "2", *["a.gif"] * 500, "below/pipe"]):
+            run = subprocess.Popen([*command, *arguments], stdin=subprocess.PIPE, stdout=subprocess.PIPE, stderr=subprocess.PIPE,
+                                   env={**os.environ, "PYTHONPATH": str(PACKAGE)}, start_new_session=True)
+            if "--null" in arguments:
+                run.stdin.write(b"a.gif\0" * 3000)
+                run.stdin.flush()
+            workers = waited(lambda: children(run.pid) if len(children(run.pid)) == 2 else None) if "--jobs" in arguments else []
+            time.sleep(1)
+            os.killpg(run.pid, signal.SIGINT)
+            try:
+                err = run.communicate(timeout=20)[1].decode()
+            except subprocess.TimeoutExpired:
+                os.killpg(run.pid, signal.SIGKILL)
+                raise AssertionError(f"{command} {arguments}: an interrupt does not end it") from None
+            assert run.returncode in statuses and err == "", (command, arguments, run.returncode, err)
+            assert waited(lambda: not any(map(goes_on, workers))), (command, arguments, workers)
+    os.close(writer)
+    print("interrupts: the run ends, with its processes")
 
 
 def children(process):
@@ -267,6 +297,30 @@ def check_standard_input(program):
     print("-: standard input, read once")
 
 
+def check_input_that_does_not_wait(program):
+    """Standard input may be non-blocking, as another program leaves it. It is waited for, and stays as it is."""
+    cut = len(PNG) // 2
+    for command in ([program], IN_PYTHON):
+        for arguments, pieces, out in (
+            (["-"], (PNG[:cut], PNG[cut:]), b"Png                     7x5  -\n"),
+            (["-", "a.gif"], (b"GIF89a",), b"-                         -  -: the file ends before its size\nGif                 640x480  a.gif\n"),
+            (["--null"], (b"a.g", b"if\0b.p", b"ng"), b"Gif                 640x480  a.gif\nPng                     7x5  b.png\n"),
+        ):
+            reader, writer = os.pipe()
+            os.set_blocking(reader, False)
+            ran = subprocess.Popen([*command, *arguments], stdin=reader, stdout=subprocess.PIPE, stderr=subprocess.PIPE,
+                                   env={**os.environ, "PYTHONPATH": str(PACKAGE)})
+            for piece in pieces:
+                time.sleep(0.4)
+                os.write(writer, piece)
+            assert not os.get_blocking(reader)
+            os.close(writer)
+            said, err = ran.communicate(timeout=60)
+            assert (said, err) == (out, b""), (command, arguments, said, err)
+            os.close(reader)
+    print("-: standard input that does not wait is waited for")
+
+
 def check_pipes(program):
     """A pipe without a writer has no bytes, and is not waited for. A device is read."""
     assert both(program, "below/pipe", status=1) == "-                         -  below/pipe: the file ends before its size\n"
@@ -281,18 +335,19 @@ def check_pipes(program):
 
 def check_output(program):
     """An output that fails is said in one line."""
-    for arguments in (["a.gif"], ["a.gif"] * 3000, ["--json", "a.gif"], ["--version"]):
+    for arguments in (["a.gif"], ["a.gif"] * 3000, ["--json", "a.gif"], ["--version"], ["--help"]):
         with open("/dev/full", "wb") as full:
             said = Ran([program], arguments, stdout=full), Ran(IN_PYTHON, arguments, stdout=full)
-        for ran in said[: 1 if arguments == ["--version"] else 2]:
+        for ran in said:
             assert (ran.status, ran.err) == (1, "imagesize: standard output: No space left on device\n"), (ran.status, ran.err)
         reader, writer = os.pipe()
         os.close(reader)
         said = Ran([program], arguments, stdout=writer), Ran(IN_PYTHON, arguments, stdout=writer)
-        for ran in said[: 1 if arguments == ["--version"] else 2]:
+        for ran in said:
             assert (ran.status, ran.err) == (1, "imagesize: standard output: Broken pipe\n"), (ran.status, ran.err)
         os.close(writer)
-    both(program, "a.gif", status=1, err="imagesize: standard output: Bad file descriptor\n", preexec_fn=lambda: os.close(1))
+    for word in ("a.gif", "--version", "--help"):
+        both(program, word, status=1, err="imagesize: standard output: Bad file descriptor\n", preexec_fn=lambda: os.close(1))
     name = "caf\u00e9.gif"
     pathlib.Path(name).write_bytes(GIF)
     for settings in ({"PYTHONIOENCODING": "ascii"}, {"LC_ALL": "POSIX", "PYTHONCOERCECLOCALE": "0", "PYTHONUTF8": "0"}):
@@ -322,18 +377,58 @@ def check_progress(program):
     print("progress: a line on a terminal")
 
 
+def check_traps(program):
+    """A library each of whose calls is trapped, as none should be: a line says so of each file."""
+    command = pathlib.Path(program).with_name("imagesize_trapped").name
+    header = (HERE.parent / "include" / "imagesize.h").read_text()
+    calls = {"imagesize_probe_parts", *re.findall(r"^(?:uint32_t|void) (imagesize_\w+)\(", header, re.M)} - {"imagesize_parts_probe"}
+    pathlib.Path("trapped.c").write_text("".join(f"unsigned {call}(void) {{ return 255; }}\n" for call in sorted(calls)))
+    compiler = shlex.split(os.environ.get("CC", "cc"))
+    subprocess.run([*compiler, "-shared", "-fPIC", "-o", "trapped.so", "trapped.c"], check=True)
+    subprocess.run([*compiler, "-std=c11", f"-I{HERE.parent / 'include'}", "-o", command, str(HERE.parent / "bindings/c/imagesize.c"), "trapped.c"],
+                   check=True)
+    for arguments, said in (["a.gif", "c.jpg", "none"], b"TRAPPED"), (["--json", "--spans", "a.gif"], b'"TRAPPED"'), (["-"], b"trapped"):
+        with open("a.gif", "rb") as gif:
+            ours = Ran([f"./{command}"], arguments, stdin=gif)
+            gif.seek(0)
+            theirs = Ran(IN_PYTHON, arguments, stdin=gif, environment={"IMAGESIZE_LIBRARY": os.path.abspath("trapped.so")})
+        assert (ours.status, ours.out, ours.err) == (1, theirs.out, "") and theirs.err == "", (arguments, ours.out, theirs.out, theirs.err)
+        assert said.lower() in ours.out.lower(), ours.out
+    print("traps: a line for each file")
+
+
 def check_usage(program):
     version = re.search(r"^VERSION = (.*)$", (HERE.parent / "bindings/c/Makefile").read_text(), re.M)[1]
-    assert both(program, "--version") == f"{version}\n"
-    for command in ([program], IN_PYTHON):
-        for arguments, said in (([], "no file is named"), (["--json"], "no file is named"), (["--none", "a.gif"], "--none"), (["--null"], "no file is named")):
-            ran = Ran(command, arguments)
-            assert (ran.status, "usage: imagesize" in ran.err, said in ran.err) == (2, True, True), (command, arguments, ran.err)
-        helped = Ran(command, ["--help"])
-        assert (helped.status, helped.err) == (0, "")
-        for option in ("--null", "--recursive", "--json", "--spans", "--version", "--help"):
-            assert option.encode() in helped.out, option
+    assert both(program, "--version") == both(program, "a.gif", "--vers", "--json") == f"{version}\n"
+    helped = both(program, "--help")
+    assert both(program, "-h") == both(program, "a.gif", "-rh") == helped
+    for option in ("--null", "--recursive", "--json", "--spans", "--jobs", "--version", "--help", "Options and paths may come in any order"):
+        assert option in helped, option
+    for arguments, said in ([], "no file is named"), (["--json"], "no file is named"), (["--null"], "no file is named"), \
+            (["--json", "--null"], "no file is named"), (["--none", "a.gif"], "none"), (["a.gif", "--none"], "none"), (["-x"], "x"), \
+            (["-r x"], " "), (["-1"], "1"), (["--j"], "j"), (["--json=1", "a.gif"], "json"), (["--version", "--none"], "none"), \
+            (["a.gif", "--jobs"], "jobs"):
+        ours, theirs = (Ran(command, arguments) for command in ([program], IN_PYTHON))
+        for ran in (ours, theirs):
+            assert (ran.status, "usage: imagesize" in ran.err, said in ran.err, ran.out) == (2, True, True, b""), (arguments, ran.err, ran.out)
     print("usage: --help, --version, and status 2 where no file is named")
+
+
+def check_order(program):
+    """Options may come after paths, up to the word --."""
+    rows = both(program, "--json", "--spans", "a.gif", "b.png")
+    for arguments in (["a.gif", "--json", "--spans", "b.png"], ["a.gif", "--spans", "b.png", "--json"], ["--json", "a.gif", "--sp", "--", "b.png"]):
+        assert both(program, *arguments) == rows, arguments
+    os.mkdir("order")
+    os.mkdir("order/below")
+    pathlib.Path("order/below/a.gif").write_bytes(GIF)
+    assert both(program, "order", "-r", "a.gif") == both(program, "-r", "order", "a.gif")
+    assert both(program, "a.gif", "--jobs", "2", "b.png", "--jobs=3", "c.jpg", "--jobs", "0" * 5000 + "2").count("\n") == 3
+    assert both(program, "b.png", "-0", input=b"a.gif\0").splitlines()[1].endswith("  a.gif")
+    assert both(program, "--", "a.gif", "--json", status=1).splitlines()[1] == "-                         -  --json: No such file or directory"
+    assert both(program, "a.gif", "--", "--", "-x", status=1).count("No such file") == 2
+    assert both(program, "", "a.gif", status=1).count("\n") == 2
+    print("options: before, between and after paths")
 
 
 def check_test_vectors(program, worked):
@@ -355,9 +450,9 @@ def main(program, worked):
         os.makedirs("below/deep")
         for name, data in FILES.items():
             pathlib.Path(name).write_bytes(data)
-        for check in (check_lines, check_json, check_spans, check_recursive, check_names, check_jobs, check_killed,
-                      check_standard_input, check_pipes, check_output,
-                      check_progress, check_usage):
+        for check in (check_lines, check_json, check_spans, check_recursive, check_names, check_jobs, check_killed, check_interrupted,
+                      check_standard_input, check_input_that_does_not_wait, check_pipes, check_output,
+                      check_progress, check_usage, check_order, check_traps):
             check(program)
         check_test_vectors(program, worked)
         os.chdir("/")

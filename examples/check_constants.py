@@ -6,7 +6,8 @@ HEADER is imagesize.h and LIBRARY the shared library. Each number of the header 
 its constant says. Each must be there once, and the library must know no other. If a Python module or package has the lists
 `Status`, `Kind`, `Compression` and `Family`, they must have the header's names without their prefix, and its numbers. In a
 TypeScript declaration the types `Kind` and `Compression` must have the library's own names. The Rust package compares its types
-with the library in its own tests. A binding may also have PNG, which has calls of its own.
+with the library in its own tests. A binding may also have PNG, which has calls of its own, and the status TRAPPED of
+imagesize_portable.h.
 """
 
 import ctypes
@@ -166,6 +167,13 @@ def check_png(path, number, types):
     assert number is None or number not in types.values() and number > 999, f"{path}: PNG is {number}"
 
 
+def check_trapped(path, number, statuses):
+    """The status of the portable library alone has the number in its header."""
+    header = pathlib.Path(__file__).resolve().parent.parent / "bindings" / "portable" / "imagesize_portable.h"
+    wanted = int(re.search(r"^#define IMAGESIZE_TRAPPED (\d+)$", header.read_text(), re.M)[1])
+    assert number in (None, wanted) and wanted not in statuses.values(), f"{path}: TRAPPED is {number}, and not {wanted}"
+
+
 def check_module(path, lists):
     """Each list of a module equals the header's, but NO_FAMILY may be left out. Returns the number of names."""
     found, count = lists_of(path), 0
@@ -174,6 +182,8 @@ def check_module(path, lists):
         if members is not None:
             if title == "type":
                 check_png(path, members.pop("PNG", None), wanted)
+            if title == "status":
+                check_trapped(path, members.pop("TRAPPED", None), wanted)
             if "NO_FAMILY" not in members:
                 wanted.pop("NO_FAMILY", None)
             compare(f"{path}: {name}", members, wanted)

@@ -3,6 +3,8 @@
  *
  *     imagesize [OPTION].. PATH..
  *
+ * Options may come before, between and after the paths, up to the word --.
+ *
  * A line for each file has its type, its size and its path, and after the path the error where there is no size. With --json each file
  * is an object of an array. `python -m imagesize_proved` has the same options and prints the same.
  *
@@ -16,6 +18,7 @@
 #include <getopt.h>
 #include <inttypes.h>
 #include <math.h>
+#include <poll.h>
 #include <signal.h>
 #include <stdarg.h>
 #include <stdbool.h>
@@ -96,6 +99,10 @@ static const char *const MESSAGES[] = {
     // end of the list
 };
 
+/* The status of a call of the portable library that was trapped, as in imagesize_portable.h, and what it says. */
+#define IMAGESIZE_TRAPPED 255
+static const char *const TRAPPED_NAME = "TRAPPED", *const TRAPPED_MESSAGE = "the portable library was trapped: this is a mistake in it";
+
 /* The MIME types, of those types that have one. */
 static const char *const MEDIA[] = {
     // by bindings/lists.py: media
@@ -159,8 +166,8 @@ struct reply {
 /* Where rows are printed: the standard output, or the memory of a process that reads files. */
 static FILE *output;
 
-/* A process gets so many paths at once. */
-enum { BATCH = 64, MOST_JOBS = 1024 };
+/* A process gets so many paths at once. Standard input is read in blocks of so many bytes of names. */
+enum { BATCH = 64, MOST_JOBS = 1024, NAMES = 65536 };
 
 /* What is found of a file. `why` is a number of errno, or 0. Without `has_spans` its spans are not known. */
 struct row {
@@ -230,13 +237,14 @@ static void find_spans_of_png(struct row *row, const uint8_t *memory, uint64_t t
     uint64_t width, height;
     imagesize_span none = {0, 0}, wanted = {0, 0};
     size_t length = 0;
-    while (imagesize_png_parts_size(known, length, row->count ? row->spans : &none, row->count, total, &width, &height, &wanted)
+    uint32_t status;
+    while ((status = imagesize_png_parts_size(known, length, row->count ? row->spans : &none, row->count, total, &width, &height, &wanted))
            == IMAGESIZE_BYTES_WANTED) {
         memcpy(known + length, memory + wanted.start, (size_t)wanted.len);
         length += (size_t)wanted.len;
         add_span(row, wanted);
     }
-    row->has_spans = true;
+    row->has_spans = status != IMAGESIZE_TRAPPED;
 }
 
 /* The spans of an input, whose bytes are in memory as far as its result depends on them. */
@@ -293,6 +301,17 @@ static int open_path(const char *path)
     return file;
 }
 
+/* Reads the next bytes of standard input. Waits for them too where another program made it non-blocking. */
+static long input_next(void *reader, uint8_t *bytes, size_t length)
+{
+    long got;
+    while ((got = imagesize_fd_next(reader, bytes, length)) < 0 && (errno == EAGAIN || errno == EWOULDBLOCK)) {
+        struct pollfd input = {.fd = *(int *)reader, .events = POLLIN};
+        (void)poll(&input, 1, -1);
+    }
+    return got;
+}
+
 /* What is found of the file at a path. */
 static struct row row_of(const char *path, const struct options *options)
 {
@@ -303,6 +322,8 @@ static struct row row_of(const char *path, const struct options *options)
     if (file >= 0 && fstat(file, &about) == 0) {
         if (options->spans && S_ISREG(about.st_mode)) {
             probe_with_spans(&row, file, (uint64_t)about.st_size);
+        } else if (is_input(path, options) && !S_ISREG(about.st_mode)) {
+            row.status = imagesize_forward_probe(&file, input_next, &row.image);
         } else {
             row.status = imagesize_fd_probe(file, &row.image);
         }
@@ -323,7 +344,7 @@ static const char *error_of(const struct row *row)
     if (row->status == IMAGESIZE_FAULT) {
         return row->why ? strerror(row->why) : "the file became shorter while it was read";
     }
-    return MESSAGES[row->status];
+    return row->status == IMAGESIZE_TRAPPED ? TRAPPED_MESSAGE : MESSAGES[row->status];
 }
 
 /* The name of a row's type, and of its compression; an empty text if it has none. */
@@ -483,7 +504,8 @@ static void print_json_row(const struct row *row, const struct options *options)
     } else {
         print(", \"width\": null, \"height\": null");
     }
-    print_json_key("status", error ? STATUS_NAMES[row->status] : NULL);
+    const char *status = row->status == IMAGESIZE_TRAPPED ? TRAPPED_NAME : STATUS_NAMES[row->status];
+    print_json_key("status", error ? status : NULL);
     print_json_key("error", error);
     if (options->spans) {
         print_json_spans(row);
@@ -798,30 +820,42 @@ static void describe_path(struct run *run, const char *path)
     }
 }
 
-/* The paths that standard input has, each ended by a zero byte. */
+/* The paths that standard input has, each ended by a zero byte. The last one may end without it. */
 static void describe_names(struct run *run)
 {
-    char *name = NULL;
-    size_t room = 0;
-    while (errno = 0, getdelim(&name, &room, '\0', stdin) > 0) {
-        if (ferror(stdin)) {
-            break; /* the name is cut */
+    char *names = NULL; /* those that are not described yet, of which the last may go on */
+    size_t length = 0, room = 0;
+    int input = STDIN_FILENO;
+    for (long got = 1; got > 0;) {
+        if (room - length < NAMES) {
+            room = 2 * room + NAMES;
+            names = checked(realloc(names, room));
         }
-        describe_path(run, name);
+        got = input_next(&input, (uint8_t *)names + length, NAMES);
+        if (got < 0) {
+            int why = errno;
+            fflush(stdout);
+            fprintf(stderr, "imagesize: standard input: %s\n", strerror(why));
+            _exit(1);
+        }
+        char *name = names, *from = names + length, *zero; /* before `from` no name ends */
+        length += (size_t)got;
+        if (got == 0 && length > 0) {
+            names[length++] = '\0';
+        }
+        for (; (zero = memchr(from, '\0', (size_t)(names + length - from))) != NULL; name = from = zero + 1) {
+            describe_path(run, name);
+        }
+        length -= (size_t)(name - names);
+        memmove(names, name, length);
     }
-    int why = errno;
-    free(name);
-    if (ferror(stdin)) {
-        fflush(stdout);
-        fprintf(stderr, "imagesize: standard input: %s\n", strerror(why));
-        _exit(1);
-    }
+    free(names);
 }
 
 static const char USAGE[] = "usage: imagesize [-h] [-0] [-r] [--json] [--spans] [--jobs N] [--version] PATH..\n";
 static const char HELP[] =
     "\n"
-    "Prints type and size in pixels of image files.\n"
+    "Prints type and size in pixels of image files. Options and paths may come in any order.\n"
     "\n"
     "  PATH             a file, - for standard input, or a folder with --recursive\n"
     "  -0, --null       read more paths from standard input, each ended by a zero byte; - is then a file\n"
@@ -835,20 +869,32 @@ static const char HELP[] =
     "\n"
     "The status is 0 if each file has a size, 1 if one has none, and 2 if no file is named.\n";
 
-/* A number of processes. Ends the program with status 2 if it is none. */
+/* A number of processes, of digits alone. Ends the program with status 2 if it is none. */
 static size_t jobs_of(const char *text)
 {
-    char *end;
     errno = 0;
-    long jobs = strtol(text, &end, 10);
-    if (end == text || *end != '\0' || errno != 0 || jobs < 1) {
+    long jobs = strtol(text, NULL, 10);
+    if (text[strspn(text, "0123456789")] != '\0' || errno != 0 || jobs < 1) {
         fprintf(stderr, "%simagesize: no number of processes: %s\n", USAGE, text);
         exit(2);
     }
     return jobs < MOST_JOBS ? (size_t)jobs : MOST_JOBS;
 }
 
-/* Reads the options. Ends the program for --help and --version, and with status 2 for an option that there is none of. */
+/* Prints the version or the help, and ends the program. */
+static void show(int option)
+{
+    if (option == 'v') {
+        print("%s\n", IMAGESIZE_VERSION);
+    } else {
+        print("%s%s", USAGE, HELP);
+    }
+    check_output(fflush(stdout) == 0);
+    exit(0);
+}
+
+/* Reads the options, which getopt_long moves before the paths. Ends the program for --help and --version, and with status 2 for an option
+ * that there is none of. */
 static struct options options_of(int count, char **words)
 {
     static const struct option known[] = {
@@ -857,6 +903,7 @@ static struct options options_of(int count, char **words)
         {"jobs", required_argument, NULL, 'n'}, {NULL, 0, NULL, 0},
     };
     struct options options = {.jobs = 1};
+    int shown = 0;
     for (int option; (option = getopt_long(count, words, "0hr", known, NULL)) != -1;) {
         switch (option) {
         case '0': options.null = true; break;
@@ -865,13 +912,12 @@ static struct options options_of(int count, char **words)
         case 's': options.spans = true; break;
         case 'n': options.jobs = jobs_of(optarg); break;
         case 'v':
-        case 'h':
-            print(option == 'v' ? "%s\n" : "%s", option == 'v' ? IMAGESIZE_VERSION : USAGE);
-            print("%s", option == 'v' ? "" : HELP);
-            check_output(fflush(stdout) == 0);
-            exit(0);
+        case 'h': shown = shown ? shown : option; break;
         default: fputs(USAGE, stderr); exit(2);
         }
+    }
+    if (shown) {
+        show(shown);
     }
     return options;
 }

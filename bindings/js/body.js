@@ -1,6 +1,6 @@
 // The bytes of a stream, read no further than they are needed.
 
-import { bytesIn } from './bytes.js';
+import { bytesIn, checkEncoding } from './bytes.js';
 import { ImageError } from './errors.js';
 import { RequestReader, isRequest } from './request.js';
 
@@ -55,7 +55,11 @@ function readerOf(source) {
   const iterate = source?.[Symbol.asyncIterator] ?? source?.[Symbol.iterator];
   if (typeof iterate !== 'function') throw new TypeError('A stream is a ReadableStream, or an iterable of Uint8Arrays');
   const iterator = iterate.call(source);
-  return { read: async () => iterator.next(), cancel: async () => (source.destroy ? source.destroy() : iterator.return?.()) };
+  const read = async () => {
+    checkEncoding(source);
+    return iterator.next();
+  };
+  return { read, cancel: async () => (source.destroy ? source.destroy() : iterator.return?.()) };
 }
 
 // What a promise gives, or the reason of a signal that is aborted first.

@@ -1,4 +1,5 @@
-// What a bundler takes for Node, by the condition "module". Node itself takes node.mjs.
+// What a bundler takes for Node, by the condition "module" or "import". Node itself takes node.mjs, by "node-addons", which bundlers do not
+// set. Without addons Node takes this file too.
 
 import { init } from './out/imagesize.cjs';
 

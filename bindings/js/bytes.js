@@ -8,6 +8,13 @@ export function bytesOf(data) {
   return BUFFERS.includes(Object.prototype.toString.call(data)) ? new Uint8Array(data) : undefined;
 }
 
+/** Throws an error for a stream of Node that decodes its bytes. */
+export function checkEncoding(stream) {
+  if (stream.readableEncoding) {
+    throw new TypeError(`The stream gives strings and not bytes, since setEncoding was called on it, or it has an encoding: ${stream.readableEncoding}`);
+  }
+}
+
 /** The same bytes, or an error for anything else. */
 export function bytesIn(data) {
   const bytes = bytesOf(data);

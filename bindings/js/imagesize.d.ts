@@ -55,7 +55,10 @@ export interface Reads {
 export interface Options {
   /** Ends the probe with the signal's reason. Without one, the probe waits for a server that stalls. */
   signal?: AbortSignal;
-  /** How many bytes may be read. The default is 1 MiB from a server, and 64 MiB of a file, a blob or a stream. */
+  /**
+   * How many bytes may be read. The default is 1 MiB from a server or of the request of a client, whose bytes are stored, and 64 MiB of a
+   * file, a blob or another stream.
+   */
   maxBytes?: number;
   /** Whether the bytes that the result depends on are returned, also in an `ImageError`. All chunks of a stream are then stored. */
   trace?: boolean;
@@ -149,12 +152,13 @@ export function probeFileSync(path: string | URL, options?: Omit<Options, 'signa
  * Node by `destroy()`.
  *
  * A request in a Node server is not destroyed, because the reply goes through its socket. Its bytes are stored until there is a
- * result, and are then given back: the server can reply, and can read the whole body as if nothing had been read. If the server does
- * not read the body, it calls `request.resume()` after its reply, so that the connection can be used again.
+ * result, and are then given back: the server can reply, and can read the whole body as if nothing had been read. At most `maxBytes` are
+ * stored, by default 1 MiB. A TIFF whose directory is at its end, or a JPEG with more metadata, needs a higher limit. If the server
+ * does not read the body, it calls `request.resume()` after its reply, so that the connection can be used again.
  *
  * @throws {ImageError} as `probe`; `'CUT_SHORT'` if the stream ends before `total` bytes, `'LIMIT_REACHED'`
  * @throws {RangeError} if `total` or `maxBytes` is no whole number of bytes
- * @throws {TypeError} if the argument is no stream, if it is locked, or if a chunk is not bytes
+ * @throws {TypeError} if the argument is no stream, if it is locked, or if a chunk is not bytes, as after `request.setEncoding()`
  * @throws the stream's own error
  * @example
  * await probeStream(response.body) // { kind: 'Gif', compression: null, width: 100, height: 50, total: Infinity, .. }

@@ -7,6 +7,7 @@ import { withFile, withFileSync } from './file.js';
 import { Remote } from './http.js';
 import { init, library } from './load.js';
 import { Parts, firstBlock, nextBlock } from './parts.js';
+import { isRequest } from './request.js';
 import { MOST_SPANS, probeSource, probeSourceSync } from './source.js';
 import { StreamProbe } from './stream.js';
 
@@ -56,8 +57,11 @@ export async function probeUrl(url, options) {
   return probeSource(new Remote(url, options?.signal), MEBIBYTE, options);
 }
 
-/** Type and size of the image in a stream. It is read up to the result, and then cancelled; a request gets its bytes back. */
+/**
+ * Type and size of the image in a stream. It is read up to the result, and then cancelled. A request gets its bytes back. They are stored
+ * until then, so that fewer of them are read.
+ */
 export async function probeStream(stream, { total = Infinity, ...options } = {}) {
   const whole = new Body(stream, { expected: total, signal: options.signal });
-  return probeSource({ total, whole, read: () => null }, 64 * MEBIBYTE, options);
+  return probeSource({ total, whole, read: () => null }, (isRequest(stream) ? 1 : 64) * MEBIBYTE, options);
 }

@@ -51,11 +51,11 @@ function loadFile() {
   }
 }
 
-// Where the WebAssembly is. An ES module knows its own address, and a CommonJS module its folder, `out`. A bundle has it in its own
-// folder. A script knows nothing.
+// Where the WebAssembly is. An ES module knows its own address, and a CommonJS module of Node its folder, `out`. A bundle has it in its own
+// folder. A script knows nothing, also where a bundler writes a folder into it.
 function beside() {
   if (import.meta.url) return new URL('./out/imagesize.wasm', import.meta.url);
-  if (typeof __dirname === 'string') return `${__dirname}/imagesize.wasm`;
+  if (typeof __dirname === 'string' && builtin('node:fs')) return `${__dirname}/imagesize.wasm`;
   return init.address && new URL('./imagesize.wasm', init.address);
 }
 

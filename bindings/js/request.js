@@ -1,6 +1,6 @@
 // The body of a request, in a server of Node. The reply goes through the same socket, so the request is never destroyed.
 
-import { bytesIn } from './bytes.js';
+import { bytesIn, checkEncoding } from './bytes.js';
 
 /** Whether a stream is a request that a server of Node received. */
 export function isRequest(source) {
@@ -52,6 +52,7 @@ export class RequestReader {
   // The bytes that came since the last call: none at the end, and null if there are none yet.
   #fresh() {
     const request = this.#request;
+    checkEncoding(request);
     if (this.#broken) throw this.#broken;
     if (request.readableEnded) return new Uint8Array();
     if (request.destroyed) throw new Error('The request was closed before its body had come');

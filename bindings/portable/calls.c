@@ -389,3 +389,11 @@ uint32_t imagesize_status_text(uint32_t status, char *text, size_t capacity, siz
 DEFINE_QUERY(imagesize_compression_family)
 DEFINE_QUERY(imagesize_is_block_compressed)
 DEFINE_QUERY(imagesize_is_multi_compression_container)
+
+/* As in imagesize_portable.h. */
+uint32_t imagesize_is_portable(void);
+
+uint32_t imagesize_is_portable(void)
+{
+    return 1;
+}

@@ -2,8 +2,9 @@
 
 On Linux on x86-64 with glibc, the shared library is the native one: that in the package's folder, as in an sdist, or else that of
 `examples/run build`, which is run where it has not been. Elsewhere a C compiler builds the portable library: $CC, or the one that Python
-was built with, or cc, gcc or clang. With IMAGESIZE_PORTABLE=1 it is built everywhere. Files carry the time in the environment's
-SOURCE_DATE_EPOCH, or else that of 1980, so that a build can be repeated.
+was built with, or cc, gcc or clang. With IMAGESIZE_PORTABLE=1 it is built everywhere. An sdist never has a library that was compiled so:
+it has the native one, if there is one, and the sources of the portable one. Files carry the time in the environment's SOURCE_DATE_EPOCH, or
+else that of 1980, so that a build can be repeated.
 """
 
 from __future__ import annotations
@@ -33,6 +34,10 @@ HERE = pathlib.Path(__file__).resolve().parent
 TOP = HERE.parent.parent
 PACKAGE = "imagesize_proved"
 LIBRARY = "libimagesize.so"
+# The native library in an sdist and in the repository, and the portable one in an editable install. _library.py looks for it in this order.
+PACKED = HERE / PACKAGE / LIBRARY
+BUILT = TOP / "examples" / "out" / LIBRARY
+COMPILED = TOP / "bindings" / "portable" / "out" / LIBRARY
 RUNS_ON = "Linux on x86-64 processors, with glibc 2.14 or later"
 EXAMPLES = ("examples/form.py", "examples/remote.py", "examples/upload.py")
 # The sources of the portable library, in the folder `portable` of an sdist, or where bindings/portable/build puts them.
@@ -49,30 +54,35 @@ def build_wheel(wheel_directory: str, config_settings: Settings = None, metadata
     Writes the wheel to a folder, and returns its name. The setting `platform` names its platform, as manylinux_2_17_x86_64. The setting
     `library` names a portable library that was built for it.
     """
-    is_portable = bool((config_settings or {}).get("library")) or not is_native()
-    return write_wheel(wheel_directory, f"py3-none-{platform(config_settings)}", package(config_settings), is_portable)
+    data, is_portable = fitting(config_settings)
+    files = [*package(), (f"{PACKAGE}/{LIBRARY}", data)]
+    return write_wheel(wheel_directory, f"py3-none-{platform(config_settings)}", files, is_portable)
 
 
 def build_editable(wheel_directory: str, config_settings: Settings = None, metadata_directory: Optional[str] = None) -> str:
-    """Writes a wheel that leads to this folder."""
-    built = TOP / "examples" / "out" / LIBRARY
+    """Writes a wheel that leads to this folder. The native library is loaded there if it is there, whatever is asked for."""
     if is_native():
         library()
-    elif not built.exists():
-        built.parent.mkdir(exist_ok=True)
-        built.write_bytes(compiled())
-    return write_wheel(wheel_directory, f"py3-none-{platform(config_settings)}", [(f"{PACKAGE}.pth", f"{HERE}\n".encode())])
+    is_portable = native() is None
+    if is_portable:
+        COMPILED.parent.mkdir(parents=True, exist_ok=True)
+        COMPILED.write_bytes(compiled())
+    return write_wheel(wheel_directory, f"py3-none-{platform(config_settings)}", [(f"{PACKAGE}.pth", f"{HERE}\n".encode())], is_portable)
 
 
 def build_sdist(sdist_directory: str, config_settings: Settings = None) -> str:
     """
-    Writes the sdist to a folder, and returns its name. It has the native library in it, and the sources of the portable one if
-    bindings/portable/build made them.
+    Writes the sdist to a folder, and returns its name. It has the native library in it, if this machine has it or can build it, and the
+    sources of the portable one if bindings/portable/build made them.
     """
+    if is_native():
+        library()
+    found = native()
     stem = f"{PACKAGE}-{project()['version']}"
     parts = [("PKG-INFO", metadata(bool(portable())).encode()), ("LICENSE", licence())]
     parts += [(name, (HERE / name).read_bytes()) for name in ("README.md", "build_wheel.py", "pyproject.toml")]
     parts += [(f"portable/{name}", data) for name, data in portable()] + [(name, data) for name, data in portable() if name == WASM2C]
+    parts += [(f"{PACKAGE}/{LIBRARY}", found.read_bytes())] if found else []
     packed = io.BytesIO()
     with tarfile.open(fileobj=packed, mode="w", format=tarfile.PAX_FORMAT) as sdist:
         for path, data in sorted(parts + package()):
@@ -122,12 +132,11 @@ def digest(data: bytes) -> str:
     return base64.urlsafe_b64encode(hashlib.sha256(data).digest()).rstrip(b"=").decode()
 
 
-def package(settings: Settings = None) -> Files:
-    """Each file of the package, with its path."""
+def package() -> Files:
+    """Each file of the package but its library, with its path."""
     sources = sorted((HERE / PACKAGE).glob("*.py")) + [HERE / PACKAGE / "py.typed"]
     files = [(f"{PACKAGE}/{source.name}", source.read_bytes()) for source in sources]
-    files += [(f"{PACKAGE}/{name}", shared(name)) for name in (*EXAMPLES, *pages())]
-    return files + [(f"{PACKAGE}/{LIBRARY}", fitting(settings))]
+    return files + [(f"{PACKAGE}/{name}", shared(name)) for name in (*EXAMPLES, *pages())]
 
 
 def pages() -> List[str]:
@@ -142,12 +151,24 @@ def shared(name: str) -> bytes:
     return (packed if packed.exists() else TOP / name).read_bytes()
 
 
-def fitting(settings: Settings = None) -> bytes:
-    """The shared library for the wheel's machine."""
+def fitting(settings: Settings = None) -> Tuple[bytes, bool]:
+    """The shared library for the wheel's machine, and whether it is the portable one."""
     named = (settings or {}).get("library")
     if named:
-        return pathlib.Path(str(named)).read_bytes()
-    return library() if is_native() else compiled()
+        return pathlib.Path(str(named)).read_bytes(), True
+    if is_native() and (native() or is_repository()):
+        return library(), False
+    return compiled(), True
+
+
+def native() -> Optional[pathlib.Path]:
+    """The file of the native library, if it is there."""
+    return next((path for path in (PACKED, BUILT) if path.exists()), None)
+
+
+def is_repository() -> bool:
+    """Whether this folder is that of the repository, where the native library can be built, and not an unpacked sdist."""
+    return not (HERE / "PKG-INFO").exists()
 
 
 def is_native() -> bool:
@@ -190,10 +211,9 @@ def compiler() -> List[str]:
 
 def library() -> bytes:
     """The native library, which is built where it is not there. Ends the build if it does not load here."""
-    packed, built = HERE / PACKAGE / LIBRARY, TOP / "examples" / "out" / LIBRARY
-    if not packed.exists() and not built.exists():
+    if native() is None:
         subprocess.run([str(TOP / "examples" / "run"), "build"], check=True)
-    path = packed if packed.exists() else built
+    path = native() or BUILT
     try:
         ctypes.CDLL(str(path))
     except OSError as error:

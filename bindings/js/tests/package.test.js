@@ -122,6 +122,9 @@ test('outside Node a call before init says so', async () => {
   assert.equal(await called('return probe(gif)'), early);
   assert.equal(await called(`return await probeUrl('http://127.0.0.1:1/')`), early);
   assert.match(await called('await init()'), /^ImageError NO_LIBRARY .*init needs/);
+  context.__dirname = '/'; // as some bundlers write it for a page
+  assert.match(await called('await init()'), /^ImageError NO_LIBRARY .*init needs/);
+  assert.equal(await called('return probe(gif)'), early);
   assert.equal(await called('await init(bytes); return probe(gif).width'), 100);
 });
 
@@ -149,6 +152,43 @@ test('bundles run, and are made without a warning', { skip: none('esbuild') }, a
   copyFileSync(wasm, join(folder, 'imagesize.wasm'));
   assert.equal(run('beside.cjs', bundle('beside.cjs', beside, '--format=cjs', '--platform=node')), 'Gif 100 50');
   assert.equal(run('beside.mjs', bundle('beside.mjs', beside, '--format=esm', '--platform=node')), 'Gif 100 50');
+});
+
+test('bundles by a bundler without the condition "module" run too', { skip: none('esbuild') }, async () => {
+  // esbuild knows "module" unless other conditions are named.
+  const bundle = (out, entry, ...flags) => {
+    writeFileSync(join(folder, 'entry.js'), entry);
+    const options = ['--bundle', `--outfile=${out}`, '--loader:.wasm=binary', '--conditions=production', ...flags];
+    const made = spawnSync('esbuild', ['entry.js', ...options], { cwd: folder, encoding: 'utf8' });
+    assert.deepEqual([made.status, made.stderr.includes('warning')], [0, false], made.stderr);
+    return readFileSync(join(folder, out), 'utf8');
+  };
+  copyFileSync(wasm, join(folder, 'imagesize.wasm'));
+  const imported = `import { probe } from 'imagesize-proved'; ${PRINTED}`;
+  const required = `const { probe } = require('imagesize-proved'); ${PRINTED}`;
+  for (const [name, program] of [['imported', imported], ['required', required]]) {
+    for (const [end, format] of [['cjs', 'cjs'], ['mjs', 'esm']]) {
+      // A program of its own name each, in which nothing of the package is left to be found at run time.
+      const code = bundle(`${name}.${end}`, program, `--format=${format}`, '--platform=node');
+      assert.ok(!code.includes('./out/imagesize.cjs'), `${name}.${end}`);
+      if (name === 'imported' || format === 'cjs') assert.equal(run(`${name}.${end}`, code), 'Gif 100 50');
+    }
+  }
+  const embedded = `import { init, probe } from 'imagesize-proved';
+    import library from 'imagesize-proved/imagesize.wasm';
+    init(library).then(() => { ${PRINTED.replace('Buffer.from', 'bytesOf').replace(", 'hex'", '')} });
+    function bytesOf(hex) { return Uint8Array.from(hex.match(/../g), (byte) => parseInt(byte, 16)); }`;
+  for (const entry of [embedded, embedded.replace("import { init, probe } from 'imagesize-proved'", "const { init, probe } = require('imagesize-proved')")]) {
+    for (const format of ['iife', 'cjs', 'esm']) {
+      assert.equal(run(`page-${format}.${format === 'esm' ? 'mjs' : 'cjs'}`, bundle('page.js', entry, `--format=${format}`, '--platform=browser')), 'Gif 100 50');
+    }
+  }
+});
+
+test('Node without addons takes the same module by import and by require', () => {
+  writeFileSync(join(folder, 'without.cjs'), `const required = require('imagesize-proved');
+    import('imagesize-proved').then((module) => { const { probe } = module; ${PRINTED} console.log(module.probe === required.probe); });`);
+  assert.equal(execFileSync(process.execPath, ['--no-addons', 'without.cjs'], { cwd: folder, encoding: 'utf8' }), 'Gif 100 50\ntrue\n');
 });
 
 test('types for import and for require', { skip: none('tsc') }, () => {

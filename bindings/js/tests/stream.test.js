@@ -225,7 +225,7 @@ test('a request that is passed as it is stays open, and has its whole body after
     const streams = [bytes, Readable.toWeb(Readable.from(bytes.length ? [...chunksOf(bytes, 50_000)] : []))];
     for (const body of streams) {
       await withServer(async (request, response) => {
-        const found = await lineOf(() => probeStream(request));
+        const found = await lineOf(() => probeStream(request, { maxBytes: 2 ** 22 }));
         const rest = await bodyOf(request);
         response.end(`${found} ${rest.equals(bytes)}`);
       }, async (url) => {
@@ -278,6 +278,39 @@ test('a request that has too many bytes, stalls, is cut or was read is not destr
     }
   });
   assert.deepEqual(found, ['LIMIT_REACHED', 'TimeoutError', 'END_OF_INPUT']);
+});
+
+test('of a request at most 1 MiB is stored, where a call names no other limit', async () => {
+  const long = jpegBehind(30, 60_000);
+  const found = [];
+  await withServer(async (request, response, index) => {
+    const error = await probeStream(request, index === 1 ? {} : { maxBytes: 2 ** 22 }).catch((reason) => reason);
+    found.push(error.code ?? error.width, error.bytesRead <= 2 ** 20, (await bodyOf(request)).equals(long));
+    response.end();
+  }, async (url) => {
+    for (let count = 0; count < 2; count += 1) await (await fetch(url, { method: 'POST', body: long })).text();
+  });
+  assert.deepEqual(found, ['LIMIT_REACHED', true, true, 7, false, true]);
+  assert.equal((await probeStream([long])).width, 7); // of other streams no bytes are stored
+});
+
+test('a request or a stream that gives strings is an error that names setEncoding', async () => {
+  const text = Buffer.from(gif).toString('latin1');
+  await withServer(async (request, response) => {
+    request.setEncoding('latin1');
+    const error = await probeStream(request).catch((reason) => reason);
+    let body = '';
+    for await (const chunk of request) body += chunk;
+    response.end(`${error.name}: ${error.message} ${body === text}`);
+  }, async (url) => {
+    const response = await fetch(url, { method: 'POST', body: gif });
+    assert.match(await response.text(), /^TypeError: .* setEncoding .* true$/);
+  });
+  const path = join(folder, 'text.gif');
+  writeFileSync(path, gif);
+  const stream = createReadStream(path, { encoding: 'utf8' });
+  await assert.rejects(probeStream(stream), { name: 'TypeError', message: /setEncoding/ });
+  assert.ok(stream.destroyed);
 });
 
 test('a request whose client goes away is an error', async () => {

@@ -28,6 +28,7 @@ int main(void)
     uint32_t type = 7, compression = 7;
     uint64_t width = 7, height = 7;
     size_t count = 7;
+    expect(imagesize_is_portable() == 1, "the library says that it is the portable one");
     for (int times = 0; times < 1000; times++) {
         expect(imagesize_probe(gif, sizeof gif, &type, &compression, &width, &height) == IMAGESIZE_TRAPPED, "a probe is trapped");
         expect(imagesize_size(gif, sizeof gif, &width, &height) == IMAGESIZE_TRAPPED, "a size is trapped");

@@ -12,6 +12,7 @@ some of its bytes. A `StreamProbe` is fed with chunks as they come.
 """
 
 from ._calls import image_type, probe, probe_async, probe_with, size, spans
+from ._library import is_portable
 from ._stream import StreamProbe
 from ._types import (
     Compression,
@@ -23,6 +24,7 @@ from ._types import (
     Size,
     Span,
     Status,
+    TrapError,
     status_text,
 )
 
@@ -39,8 +41,10 @@ __all__ = [
     "Span",
     "Status",
     "StreamProbe",
+    "TrapError",
     "__version__",
     "image_type",
+    "is_portable",
     "probe",
     "probe_async",
     "probe_with",

@@ -1,17 +1,18 @@
 """Prints type and size of image files, as the command `imagesize` does: `python -m imagesize_proved [OPTION].. PATH..`
 
+Options may come before, between and after the paths, up to the word `--`.
 A line for each file has its type, its size and its path, and after the path the error where there is no size. The path `-` is
 standard input, which is read once where it cannot seek. A path with a control character, a backslash or bytes that are no UTF-8 is
 printed with escapes, so that each file has one line. The status is 0 if each file has a size, 1 if one has none or if the output
-cannot be written, and 2 if no file is named.
+cannot be written, and 2 if no file is named. An interrupt ends the program with status 130, and with no words.
 """
 
 from __future__ import annotations
 
-import argparse
 import collections
 import contextlib
 import functools
+import getopt
 import io
 import json
 import os
@@ -20,7 +21,7 @@ import shutil
 import stat
 import sys
 import time
-from typing import Any, Callable, Deque, Dict, Iterable, Iterator, List, Optional, Sequence, TextIO, Union
+from typing import Any, Callable, Deque, Dict, Iterable, Iterator, List, NamedTuple, Optional, Sequence, TextIO, Union
 
 from . import ImageError, Status, __version__, probe, spans
 
@@ -34,14 +35,48 @@ BATCH = 64
 ESCAPES = {0x5C: "\\\\", 0x0A: "\\n", 0x0D: "\\r", 0x09: "\\t"}
 
 
+USAGE = "usage: imagesize [-h] [-0] [-r] [--json] [--spans] [--jobs N] [--version] PATH..\n"
+HELP = """
+Prints type and size in pixels of image files. Options and paths may come in any order.
+
+  PATH             a file, - for standard input, or a folder with --recursive
+  -0, --null       read more paths from standard input, each ended by a zero byte; - is then a file
+  -r, --recursive  read all regular files below folders
+  --json           print a JSON array with an object for each file
+  --spans          print the bytes that each result depends on
+  --jobs N         read files in N processes; the order of the lines stays
+  --version        print the version
+  -h, --help       print this
+  --               only paths follow
+
+The status is 0 if each file has a size, 1 if one has none, and 2 if no file is named.
+"""
+MOST_JOBS = 1024
+
+
+class Asked(NamedTuple):
+    """The options and the paths of the command. `shown` is a text to print instead."""
+
+    paths: List[str]
+    null: bool
+    recursive: bool
+    json: bool
+    spans: bool
+    jobs: int
+    shown: str
+
+
+class Misused(Exception):
+    """The command has a wrong option, or no path. The text says which."""
+
+
 def main(arguments: Optional[Sequence[str]] = None) -> int:
     """Runs the program. Returns its status."""
-    options = parser()
-    asked = options.parse_args(arguments)
-    if not asked.paths and not asked.null:
-        options.error("no file is named")
     try:
-        return run(options, asked)
+        return run(asked_by(sys.argv[1:] if arguments is None else arguments))
+    except Misused as error:
+        print(f"{USAGE}imagesize: {error}", file=sys.stderr)
+        return 2
     except Ended as error:
         with contextlib.suppress(OSError):
             sys.stdout.flush()
@@ -55,40 +90,44 @@ def main(arguments: Optional[Sequence[str]] = None) -> int:
         return 130
 
 
-def parser() -> argparse.ArgumentParser:
-    """The options."""
-    asked = argparse.ArgumentParser("imagesize", description="Prints type and size in pixels of image files.")
-    asked.add_argument("paths", nargs="*", metavar="PATH", help="a file, - for standard input, or a folder with --recursive")
-    asked.add_argument("-0", "--null", action="store_true", help="read more paths from standard input, each ended by a zero byte; - is then a file")
-    asked.add_argument("-r", "--recursive", action="store_true", help="read all regular files below folders")
-    asked.add_argument("--json", action="store_true", help="print a JSON array with an object for each file")
-    asked.add_argument("--spans", action="store_true", help="print the bytes that each result depends on")
-    asked.add_argument("--jobs", type=whole, default=1, metavar="N", help="read files in N processes; the order of the lines stays")
-    asked.add_argument("--version", action="version", version=__version__)
-    return asked
+def asked_by(words: Sequence[str]) -> Asked:
+    """Reads the words of the command as `getopt_long` of C does: options may be among the paths, and may be shortened."""
+    try:
+        options, paths = getopt.gnu_getopt(list(words), "0hr", ["help", "jobs=", "json", "null", "recursive", "spans", "version"])
+    except getopt.GetoptError as error:
+        raise Misused(error.msg) from None
+    names = [name for name, _ in options]
+    jobs = [whole(text) for name, text in options if name == "--jobs"]
+    shown = [f"{__version__}\n" if name == "--version" else USAGE + HELP for name in names if name in ("--version", "--help", "-h")]
+    return Asked(
+        paths, "--null" in names or "-0" in names, "--recursive" in names or "-r" in names, "--json" in names, "--spans" in names,
+        jobs[-1] if jobs else 1, shown[0] if shown else "",
+    )
 
 
 def whole(text: str) -> int:
-    """A number of processes."""
-    number = int(text)
-    if not 1 <= number < 1 << 63:
-        raise ValueError
-    return min(number, 1024)
+    """A number of processes, of digits alone."""
+    if not re.fullmatch("0*[1-9][0-9]{0,18}", text) or int(text[-19:]) >= 1 << 63:
+        raise Misused(f"no number of processes: {text}")
+    return min(int(text[-19:]), MOST_JOBS)
 
 
-def run(options: argparse.ArgumentParser, asked: argparse.Namespace) -> int:
+def run(asked: Asked) -> int:
     """Prints the rows. Only the output raises `OSError` here."""
     if sys.stdout is None:
         raise OSError(9, "Bad file descriptor")
+    if asked.shown:
+        print(asked.shown, end="", flush=True)
+        return 0
     if isinstance(sys.stdout, io.TextIOWrapper):
         sys.stdout.reconfigure(errors="backslashreplace")  # for an output that is ASCII
     # With --null standard input has the paths, and - is a file of that name.
     names = Counted(named(asked))
     rows = described(files(names, asked.recursive, asked.null), asked.spans, asked.null, asked.jobs)
-    sized = print_json(rows) if asked.json else print_table(rows)
+    sized = print_json(rows, names) if asked.json else print_table(rows)
     sys.stdout.flush()
     if not names.count:
-        options.error("no file is named")
+        raise Misused("no file is named")
     return 0 if sized else 1
 
 
@@ -109,24 +148,38 @@ class Counted:
             yield path
 
 
-def named(asked: argparse.Namespace) -> Iterator[str]:
+def named(asked: Asked) -> Iterator[str]:
     """The paths of the command, and with --null those that standard input has."""
     yield from asked.paths
     if asked.null:
-        rest = b""
+        rest: List[bytes] = []
         for block in iter(names_read, b""):
-            *whole, rest = (rest + block).split(b"\0")
-            yield from map(os.fsdecode, whole)
-        if rest:
-            yield os.fsdecode(rest)
+            first, *more = block.split(b"\0")
+            rest.append(first)
+            for piece in more:
+                yield os.fsdecode(b"".join(rest))
+                rest = [piece]
+        if any(rest):
+            yield os.fsdecode(b"".join(rest))
 
 
 def names_read() -> bytes:
     """Some bytes of standard input, or none at its end."""
     try:
-        return os.read(0, 1 << 16)
+        return input_read(1 << 16)
     except OSError as error:
         raise Ended(f"standard input: {error.strerror}") from None
+
+
+def input_read(length: int) -> bytes:
+    """Some bytes of standard input, or none at its end. Waits for them too where another program made it non-blocking."""
+    while True:
+        try:
+            return os.read(0, length)
+        except BlockingIOError:
+            import select
+
+            select.select([0], [], [])
 
 
 def files(paths: Iterable[str], recursive: bool, null: bool = False) -> Iterator[str]:
@@ -181,18 +234,48 @@ def by_jobs(paths: Iterable[str], with_spans: bool, null: bool, jobs: int) -> It
 
     waiting: Deque[Callable[[], List[Row]]] = collections.deque()
     try:
-        with ProcessPoolExecutor(jobs, initializer=end_with_parent) as pool:
+        with ProcessPoolExecutor(jobs, initializer=end_with_parent) as pool, stopped_early():
             for batch in batches(paths, null):
                 if batch == ["-"] and not null:
                     waiting.append(functools.partial(rows_of, batch, with_spans, null))
                 else:
-                    waiting.append(pool.submit(rows_of, batch, with_spans, null).result)
+                    with interrupts_held():
+                        waiting.append(pool.submit(rows_of, batch, with_spans, null).result)
                 if len(waiting) > 2 * jobs:
                     yield from waiting.popleft()()
             while waiting:
                 yield from waiting.popleft()()
     except BrokenProcessPool:
         raise Ended("a process that reads files has ended") from None
+
+
+@contextlib.contextmanager
+def stopped_early() -> Iterator[None]:
+    """Kills the processes of a pool if the run ends early, as by an interrupt: the pool would wait for all that they have begun, and one may
+    read a pipe from which nothing comes."""
+    try:
+        yield
+    except BaseException:
+        import multiprocessing
+
+        for process in multiprocessing.active_children():
+            process.kill()
+        raise
+
+
+@contextlib.contextmanager
+def interrupts_held() -> Iterator[None]:
+    """Holds an interrupt back meanwhile. A process that is started meanwhile never gets one, so that it says nothing of it."""
+    import signal
+
+    if not hasattr(signal, "pthread_sigmask"):  # on Windows
+        yield
+        return
+    before = signal.pthread_sigmask(signal.SIG_BLOCK, {signal.SIGINT})
+    try:
+        yield
+    finally:
+        signal.pthread_sigmask(signal.SIG_SETMASK, before)
 
 
 def end_with_parent() -> None:
@@ -256,7 +339,7 @@ def input_at(path: str, null: bool = False) -> Iterator[Union[str, io.FileIO, It
     writer."""
     if path == "-" and not null:
         file = io.FileIO(0, closefd=False)
-        yield file if stat.S_ISREG(os.fstat(0).st_mode) else iter(functools.partial(file.read, 4096), b"")
+        yield file if stat.S_ISREG(os.fstat(0).st_mode) else iter(functools.partial(input_read, 4096), b"")
     elif is_read_once(path):
         with io.FileIO(path, opener=lambda name, flags: os.open(name, flags | getattr(os, "O_NONBLOCK", 0))) as file:
             if hasattr(os, "O_NONBLOCK"):
@@ -281,13 +364,15 @@ def spans_of(path: str, null: bool = False) -> Optional[List[Sequence[int]]]:
         return None
 
 
-def print_json(rows: Iterator[Row]) -> bool:
-    """Prints an array with an object for each file, each on a line of its own. Returns whether each has a size."""
+def print_json(rows: Iterator[Row], names: Counted) -> bool:
+    """Prints an array with an object for each file, each on a line of its own; nothing if no file is named. Returns whether each has a
+    size."""
     sized, mark = True, "[\n"
     for row in rows:
         print(mark, json.dumps(row), sep="", end="", flush=True)
         sized, mark = sized and row["error"] is None, ",\n"
-    print("[]" if mark == "[\n" else "\n]")
+    if names.count:
+        print("[]" if mark == "[\n" else "\n]")
     return sized
 
 

@@ -11,7 +11,7 @@ from typing import TYPE_CHECKING, Any, Awaitable, Callable, List, Optional, Prot
 from ._library import PNG, Told, png_spans, probe_front, probe_two, probe_whole, spans_of, type_of
 from ._parts import BLOCK, BUDGET, SPENT, WANTED, BytesLike, Parts, Stored, TypeParts, blocks, bytes_in, checked, checked_limit, first_block
 from ._stream import AsyncChunks, Chunks, Keep, check_binary, is_read_once, read_once, read_once_async
-from ._types import ImageError, ImageType, Probed, Size, Span, Status, filename, known_type, probed
+from ._types import ImageType, Probed, Size, Span, Status, error_of, filename, known_type, probed
 
 if TYPE_CHECKING:
     _Path = os.PathLike[str]
@@ -83,7 +83,7 @@ def image_type(image: Input, *, budget: int = BUDGET) -> ImageType:
     budget = checked(budget)
     status, told = type_of(image) if type(image) is bytes else _type(image, budget)
     if not told[0]:
-        raise ImageError(status, None, filename(image))
+        raise error_of(status, None, filename(image))
     return known_type(told[0], told[1])
 
 
@@ -146,7 +146,7 @@ def spans(image: Image, *, limit: int = LIMIT, budget: int = BUDGET) -> List[Spa
     """
     status, told = _spans(image, checked_limit(limit), checked(budget))
     if status:
-        raise ImageError(status, None, filename(image))
+        raise error_of(status, None, filename(image))
     return list(map(Span, told[::2], told[1::2]))
 
 
@@ -156,8 +156,8 @@ def _spans(image: Image, limit: int, budget: int) -> Tuple[int, List[int]]:
             return _within(limit, png_spans(image, len(image)))
         return spans_of(image, len(image), limit)
     parts = _parts(image, budget, [])
-    if parts.told is SPENT or not parts.total:
-        return SPENT[0] if parts.told is SPENT else 0, []
+    if parts.told[0] in (SPENT[0], Status.TRAPPED) or not parts.total:
+        return parts.told[0] if parts.total else 0, []
     if parts.told[1][0] == PNG:
         return _within(limit, png_spans(parts.front, parts.total))
     filled = parts.filled()

@@ -1,7 +1,7 @@
 """The shared library, and its calls as Python has them.
 
 It is looked for at the path in the environment's IMAGESIZE_LIBRARY, or else in this folder, where the wheel has it, or else where
-`examples/run build` puts it.
+`examples/run build` puts it, or else where an editable install puts the portable one.
 """
 
 from __future__ import annotations
@@ -16,10 +16,15 @@ Told = Tuple[int, List[int]]
 
 _HERE = os.path.dirname(os.path.realpath(__file__))
 _PACKED = os.path.join(_HERE, "libimagesize.so")
-_BUILT = os.path.join(_HERE, "..", "..", "..", "examples", "out", "libimagesize.so")
+_TOP = os.path.join(_HERE, "..", "..", "..")
+_BUILT = os.path.join(_TOP, "examples", "out", "libimagesize.so")
+_COMPILED = os.path.join(_TOP, "bindings", "portable", "out", "libimagesize.so")
 
 PNG = 1000
 """PNG among the numbers of types. The library has calls of its own for PNG, and no number."""
+
+TRAPPED = 255
+"""The status of a call of the portable library whose code did what WebAssembly does not allow, as in `imagesize_portable.h`."""
 
 _WANTED = 30
 
@@ -52,7 +57,7 @@ _CALLS = (
 
 
 def _loaded() -> ctypes.CDLL:
-    path = os.environ.get("IMAGESIZE_LIBRARY") or (_PACKED if os.path.exists(_PACKED) else _BUILT)
+    path = os.environ.get("IMAGESIZE_LIBRARY") or next((found for found in (_PACKED, _BUILT, _COMPILED) if os.path.exists(found)), _BUILT)
     try:
         library = ctypes.CDLL(path)
         for name in _CALLS:
@@ -77,6 +82,11 @@ _parts_new = _QUICK.imagesize_parts_new
 _parts_answer = _QUICK.imagesize_parts_answer
 _stream_push = _QUICK.imagesize_stream_push
 _stream_finish = _QUICK.imagesize_stream_finish
+
+
+def is_portable() -> bool:
+    """Whether the portable library is loaded, and not the native one. The answer comes from the library itself."""
+    return hasattr(_LIBRARY, "imagesize_is_portable")
 
 
 class _Buffer:
@@ -191,6 +201,7 @@ def png_spans(front: bytes, total: int) -> List[int]:
         known += front[start : start + length]
         spans.extend((start, length))
         status, told = _probe_png(known, spans, total)
+    _check(status)
     return list(spans)
 
 
@@ -272,7 +283,7 @@ def spans_of(data: Union[bytes, ctypes.c_char], length: int, limit: int) -> Tupl
 def text(call: str, *numbers: int) -> Optional[str]:
     """The text of a call that tells one; None where no text has these numbers."""
     told, asked, length = getattr(_LIBRARY, call), list(map(ctypes.c_uint32, numbers)), ctypes.c_size_t()
-    told(*asked, ctypes.create_string_buffer(1), ctypes.c_size_t(), ctypes.byref(length))
+    _check(told(*asked, ctypes.create_string_buffer(1), ctypes.c_size_t(), ctypes.byref(length)))
     buffer = ctypes.create_string_buffer(length.value + 1)
     refused = told(*asked, buffer, length, ctypes.byref(length))
     return None if refused else buffer.raw[: length.value].decode("ascii")
@@ -281,5 +292,13 @@ def text(call: str, *numbers: int) -> Optional[str]:
 def number(call: str, *numbers: int) -> int:
     """The number of a call that tells one."""
     told = ctypes.c_uint32()
-    getattr(_LIBRARY, call)(*map(ctypes.c_uint32, numbers), ctypes.byref(told))
+    _check(getattr(_LIBRARY, call)(*map(ctypes.c_uint32, numbers), ctypes.byref(told)))
     return told.value
+
+
+def _check(status: int) -> None:
+    """Raises `TrapError` for the status of a call that was trapped. All other statuses are for the caller."""
+    if status == TRAPPED:
+        from ._types import TrapError
+
+        raise TrapError

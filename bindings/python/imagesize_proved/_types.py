@@ -7,11 +7,14 @@ import os
 from enum import IntEnum
 from typing import Any, Dict, NamedTuple, Optional, Tuple
 
-from ._library import PNG as _PNG, Told, number, text
+from ._library import PNG as _PNG, TRAPPED as _TRAPPED, Told, number, text
 
 
 class Status(IntEnum):
-    """What a call of the library returns: `ANSWERED`, or an error. The numbers are the same as in `imagesize.h`."""
+    """What a call of the library returns: `ANSWERED`, or an error. The numbers are the same as in `imagesize.h`.
+
+    `TRAPPED` is of the portable library alone: see `TrapError`.
+    """
 
     # by bindings/lists.py: statuses
     ANSWERED = 0
@@ -46,6 +49,7 @@ class Status(IntEnum):
     UNKNOWN_STATUS = 29
     BYTES_WANTED = 30
     # end of the list
+    TRAPPED = _TRAPPED
 
 
 _MESSAGES: Dict[Status, str] = {
@@ -78,6 +82,7 @@ _MESSAGES: Dict[Status, str] = {
     Status.PNM_DIMENSIONS_NOT_FOUND: "the width or the height of a PNM is not a number",
     Status.BUFFER_TOO_SMALL: "there are more spans than the limit",
     # end of the list
+    Status.TRAPPED: "the portable library was trapped: this is a mistake in it",
 }
 
 
@@ -320,11 +325,12 @@ class ImageType:
         compression = self.compression_name
         return f"{self.name}({compression})" if compression else self.name
 
+    # The library has no number for PNG, and is not asked.
     def _text(self, call: str) -> str:
-        return _text(call, self.kind, self.compression) or ""
+        return "" if self.kind is Kind.PNG else _text(call, self.kind, self.compression) or ""
 
     def _number(self, call: str) -> int:
-        return number(call, self.kind, self.compression)
+        return 0 if self.kind is Kind.PNG else number(call, self.kind, self.compression)
 
 
 class Probed(NamedTuple):
@@ -368,11 +374,31 @@ class ImageError(Exception):
         return type(self), (self.status, self.image_type, self.filename), self.__dict__
 
 
+class TrapError(ImageError):
+    """The portable library was trapped: its code did what WebAssembly does not allow, such as a read outside of its memory.
+
+    This is a mistake in the library or in its compiler, and says nothing about the image. None is expected. The native library never
+    raises it. The `status` is `Status.TRAPPED`.
+    """
+
+    def __init__(
+        self, status: int = _TRAPPED, image_type: Optional[ImageType] = None, filename: Optional[str] = None, *, message: Optional[str] = None
+    ) -> None:
+        super().__init__(status, image_type, filename, message=message)
+
+
+def error_of(status: int, image_type: Optional[ImageType] = None, filename: Optional[str] = None) -> ImageError:
+    """The error for a status that the library returned."""
+    if status == _TRAPPED:
+        return TrapError(status, image_type, filename)
+    return ImageError(status, image_type, filename)
+
+
 def probed(told: Told, image: object = None) -> Probed:
     """A result of the library. Raises its error, with the name of the image if it has one."""
     status, (number, compression, width, height, _, _) = told
     if status:
-        raise ImageError(status, known_type(number, compression) if number else None, filename(image))
+        raise error_of(status, known_type(number, compression) if number else None, filename(image))
     return Probed(known_type(number, compression), Size(width, height))
 
 
@@ -384,6 +410,8 @@ def filename(image: object) -> Optional[str]:
 
 def status_text(status: int) -> str:
     """The library's text for a status. Raises `ValueError` if no status has this number."""
+    if status == _TRAPPED:  # of which the library has none
+        return "The portable library was trapped"
     return _text("imagesize_status_text", Status(status)) or ""
 
 

@@ -3,6 +3,8 @@
 import os
 import pathlib
 import re
+import shlex
+import shutil
 import subprocess
 import sys
 import tarfile
@@ -13,6 +15,7 @@ import zipfile
 
 import build_wheel
 import imagesize_proved
+from imagesize_proved import _library
 
 HERE = pathlib.Path(__file__).resolve().parent
 SCRIPT = "import imagesize_proved as i; print(i.__file__, i.__version__, i.probe(b'GIF89a\\x80\\x02\\xe0\\x01\\0\\0').size)"
@@ -137,6 +140,107 @@ class Install(Installing):
 
     def test_one_version(self) -> None:
         self.assertEqual(build_wheel.project()["version"], imagesize_proved.__version__)
+
+
+# A library each of whose calls returns 0. It stands for either one in a build, which does not call it.
+SOURCE = "".join(f"unsigned {call}(void) {{ return 0; }}\n" for call in _library._CALLS)
+IS_PORTABLE = "unsigned imagesize_is_portable(void) { return 1; }\n"
+COMPILER = shlex.split(os.environ.get("CC", "cc"))
+
+
+class WhichLibrary(Installing):
+    """Which library a package has, by what is in it, by its licences, and by what it says when it is imported."""
+
+    def setUp(self) -> None:
+        super().setUp()
+        if not shutil.which(COMPILER[0]):
+            self.skipTest(f"no {COMPILER[0]} here")
+        if not build_wheel.is_native():
+            self.skipTest("the native library does not run here")
+        # The package as the repository has it, with both libraries.
+        self.top = pathlib.Path(self.folder) / "repository"
+        self.python = self.top / "bindings" / "python"
+        shutil.copytree(HERE.parent, self.python, ignore=shutil.ignore_patterns("tests", "__pycache__", "*.so"))
+        shutil.copy(build_wheel.TOP / "LICENSE", self.top)
+        for name in ("docs", "examples"):
+            shutil.copytree(build_wheel.TOP / name, self.top / name, ignore=shutil.ignore_patterns("out", "page"))
+        self.sources = self.top / "bindings" / "portable" / "out" / "imagesize-portable"
+        self.sources.mkdir(parents=True)
+        (self.sources / "imagesize_portable.c").write_text(SOURCE + IS_PORTABLE)
+        for name in ("imagesize.h", "LICENSE-wasm2c"):
+            (self.sources / name).write_text("")
+        self.native = self.top / "examples" / "out" / build_wheel.LIBRARY
+        self.native.parent.mkdir()
+        (self.top / "native.c").write_text(SOURCE)
+        subprocess.run([*COMPILER, "-shared", "-fPIC", "-o", str(self.native), str(self.top / "native.c")], check=True)
+
+    def built(self, what: str, folder: pathlib.Path, portable: bool = False, machine: str = "") -> pathlib.Path:
+        """What a call of build_wheel writes, in a folder that has it. The machine may be another one."""
+        environment = {**os.environ, "IMAGESIZE_PORTABLE": "1" if portable else "", "IMAGESIZE_LIBRARY": ""}
+        other = f"import platform; platform.machine = lambda: {machine!r}; " if machine else ""
+        script = f"{other}import build_wheel; print(build_wheel.{what}('.'))"
+        run = subprocess.run([sys.executable, "-c", script], cwd=folder, env=environment, stdout=subprocess.PIPE, text=True)
+        self.assertEqual(run.returncode, 0, what)
+        return folder / run.stdout.splitlines()[-1]
+
+    def unpacked(self, sdist: pathlib.Path) -> pathlib.Path:
+        folder = pathlib.Path(tempfile.mkdtemp(dir=self.folder))
+        with tarfile.open(sdist) as archive:
+            archive.extractall(folder)
+        return next(folder.iterdir())
+
+    def check_wheel(self, wheel: pathlib.Path, is_portable: bool) -> None:
+        """The library of a wheel, its licences, and what it says of itself."""
+        folder = pathlib.Path(tempfile.mkdtemp(dir=self.folder))
+        with zipfile.ZipFile(wheel) as packed:
+            packed.extractall(folder)
+        self.check_metadata(folder, is_portable)
+        script = "import imagesize_proved as i; print(i.is_portable())"
+        environment = {**os.environ, "PYTHONPATH": str(folder), "IMAGESIZE_LIBRARY": ""}
+        run = subprocess.run([sys.executable, "-c", script], env=environment, cwd=folder, stdout=subprocess.PIPE, text=True)
+        self.assertEqual(run.stdout, f"{is_portable}\n")
+
+    def check_metadata(self, folder: pathlib.Path, is_portable: bool) -> None:
+        (info,) = folder.glob("*.dist-info")
+        self.assertEqual("Apache-2.0" in (info / "METADATA").read_text(), is_portable)
+        self.assertEqual((info / "licenses" / "LICENSE-wasm2c").exists(), is_portable)
+
+    def test_wheel(self) -> None:
+        for portable in (False, True):
+            self.check_wheel(self.built("build_wheel", self.python, portable), portable)
+
+    def test_sdist(self) -> None:
+        """It has the native library, whatever the one who packs it asks for, and each machine takes the right one of the two."""
+        for portable in (False, True):
+            sdist = self.unpacked(self.built("build_sdist", self.python, portable))
+            self.assertEqual((sdist / "imagesize_proved" / build_wheel.LIBRARY).read_bytes(), self.native.read_bytes())
+            self.assertIn("Apache-2.0", (sdist / "PKG-INFO").read_text())
+            for asked in (False, True):
+                self.check_wheel(self.built("build_wheel", sdist, asked), asked)
+            self.check_wheel(self.built("build_wheel", sdist, machine="riscv64"), True)
+
+    def test_sdist_without_the_native_library(self) -> None:
+        """As a machine packs it that cannot build the native one. It has no library, and every machine compiles the portable one."""
+        self.native.unlink()
+        sdist = self.unpacked(self.built("build_sdist", self.python, machine="riscv64"))
+        self.assertFalse((sdist / "imagesize_proved" / build_wheel.LIBRARY).exists())
+        self.check_wheel(self.built("build_wheel", sdist), True)
+
+    def test_editable(self) -> None:
+        """The library that is loaded from the repository: the native one if it is there, and else the portable one, in a folder of its own."""
+        for portable in (False, True):
+            with self.subTest(portable=portable):
+                if portable:
+                    self.native.unlink()
+                wheel = self.built("build_editable", self.python, portable)
+                folder = pathlib.Path(tempfile.mkdtemp(dir=self.folder))
+                with zipfile.ZipFile(wheel) as packed:
+                    packed.extractall(folder)
+                self.check_metadata(folder, portable)
+                script = "import imagesize_proved as i; print(i.is_portable())"
+                environment = {**os.environ, "PYTHONPATH": str(self.python), "IMAGESIZE_LIBRARY": ""}
+                run = subprocess.run([sys.executable, "-c", script], env=environment, cwd=folder, stdout=subprocess.PIPE, text=True)
+                self.assertEqual((run.stdout, self.native.exists()), (f"{portable}\n", not portable))
 
 
 class Portable(Installing):

@@ -34,7 +34,7 @@ class Program(unittest.TestCase):
         for name, data in (("a.gif", GIF), ("c.jpg", CUT), ("b/d.gif", GIF), ("b/e.txt", b"no image, but a text")):
             (self.folder / name).write_bytes(data)
 
-    def run_it(self, *arguments: str, stdin: Any = None, stdout: int = subprocess.PIPE, **how: Any) -> "subprocess.CompletedProcess[str]":
+    def run_it(self, *arguments: str, stdin: Any = None, stdout: Any = subprocess.PIPE, **how: Any) -> "subprocess.CompletedProcess[str]":
         command = [sys.executable, "-m", "imagesize_proved", *arguments]
         environment = {**os.environ, "PYTHONPATH": str(PACKAGE), "PYTHONUNBUFFERED": ""}  # with a buffer, as for most users
         return subprocess.run(command, cwd=self.folder, env=environment, stdin=stdin, stdout=stdout, stderr=subprocess.PIPE, text=True, **how)
@@ -127,6 +127,34 @@ class Program(unittest.TestCase):
 
     def test_version(self) -> None:
         self.assertEqual(self.run_it("--version").stdout, f"{imagesize_proved.__version__}\n")
+
+    def test_options_after_paths(self) -> None:
+        (row, cut) = json.loads(self.run_it("a.gif", "--json", "c.jpg").stdout)
+        self.assertEqual((row["path"], row["width"], cut["path"]), ("a.gif", 640, "c.jpg"))
+        self.assertEqual(self.run_it("b", "-r").stdout.count("\n"), 2)
+        self.assertIn("--json: No such file", self.run_it("a.gif", "--", "--json").stdout)
+        for words in ("a.gif", "--none"), ("a.gif", "--jobs"), ("-r x",), ("--j",):
+            said = self.run_it(*words)
+            self.assertEqual((said.returncode, said.stdout, "usage: imagesize" in said.stderr), (2, "", True))
+
+    def test_help_and_version_where_nothing_can_be_written(self) -> None:
+        with open("/dev/full", "wb") as full:
+            for word in "--help", "--version":
+                said = self.run_it(word, stdout=full)
+                self.assertEqual((said.returncode, said.stderr), (1, "imagesize: standard output: No space left on device\n"))
+
+    def test_standard_input_that_does_not_wait(self) -> None:
+        """Its bytes come later than it is read. It stays non-blocking, as another program made it."""
+        for words, pieces in (("-",), (GIF[:6], GIF[6:])), (("--null",), (b"a.g", b"if")):
+            reader, writer = os.pipe()
+            os.set_blocking(reader, False)
+            script = "import sys, time, os\nfor piece in sys.argv[1:]: time.sleep(0.4); os.write(1, bytes.fromhex(piece))"
+            late = subprocess.Popen([sys.executable, "-c", script, *(piece.hex() for piece in pieces)], stdout=writer)
+            os.close(writer)
+            said = self.run_it(*words, stdin=reader, timeout=60)
+            self.assertEqual((said.returncode, said.stderr, said.stdout.split()[:2]), (0, "", ["Gif", "640x480"]))
+            self.assertEqual((late.wait(), os.get_blocking(reader)), (0, False))
+            os.close(reader)
 
     def test_progress(self) -> None:
         def written(seconds: List[float], stream: io.StringIO) -> str:

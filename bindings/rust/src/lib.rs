@@ -38,7 +38,7 @@ pub use compression::{
     AtcCompression, Compression, CompressionFamily, DdsCompression, PkmCompression,
     PvrtcCompression,
 };
-pub use error::{ImageError, ImageResult};
+pub use error::{ImageError, ImageResult, Trapped};
 pub use image_size::ImageSize;
 pub use image_type::ImageType;
 pub use stream::{stream_probe, stream_size, Probed, StreamProbe};

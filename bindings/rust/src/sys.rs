@@ -10,6 +10,8 @@ pub(crate) const END_OF_INPUT: u32 = 4;
 pub(crate) const NOT_ENOUGH_DATA: u32 = 5;
 pub(crate) const BUDGET_SPENT: u32 = 6;
 pub(crate) const BYTES_WANTED: u32 = 30;
+/// Of the portable library alone, as in `imagesize_portable.h`.
+pub(crate) const TRAPPED: u32 = 255;
 
 /// The longest text of the library has fewer bytes.
 const TEXT_CAPACITY: usize = 128;

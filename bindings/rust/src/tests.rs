@@ -219,3 +219,24 @@ fn a_record_takes_two_rounds_at_most() {
         assert!(rounds <= 2 * segments + 4, "{rounds}");
     }
 }
+
+/// A trap fits no variant of its own: callers match all three.
+#[test]
+fn a_trap_is_an_error_of_its_own() {
+    match ImageError::of_status(sys::TRAPPED) {
+        ImageError::IoError(error) => {
+            assert_eq!(error.kind(), std::io::ErrorKind::Other);
+            assert!(error
+                .get_ref()
+                .is_some_and(|inner| inner.is::<crate::Trapped>()));
+        }
+        error => panic!("{error:?}"),
+    }
+    for status in (1..=31).chain([254, 256]) {
+        let error = ImageError::of_status(status);
+        assert!(
+            !matches!(error, ImageError::IoError(error) if error.kind() == std::io::ErrorKind::Other),
+            "{status}"
+        );
+    }
+}
