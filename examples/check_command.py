@@ -229,6 +229,33 @@ def check_killed(program):
     print("--jobs: no process is left behind, and none is waited for in vain")
 
 
+def check_early_ends(program):
+    """A full disk, a pipe that is closed and an interrupt end a run whose processes have much before them."""
+    many = pathlib.Path("many names")
+    many.write_bytes((b"./" * 47 + b"/a.gif\0") * 200_000)  # names of 100 bytes, more than the pipes to the processes can have in them
+    for command, interrupted in ([program], -signal.SIGINT), (IN_PYTHON, 130):
+        for early in ("disk", "pipe", "interrupt") * 5:
+            with open(many, "rb") as names, open("/dev/full", "wb") as full:
+                run = subprocess.Popen([*command, "--null", "--jobs", "16"], stdin=names, stdout=full if early == "disk" else subprocess.PIPE,
+                                       stderr=subprocess.PIPE, env={**os.environ, "PYTHONPATH": str(PACKAGE)}, start_new_session=True)
+            if early != "disk":
+                assert b"/a.gif" in run.stdout.readline()
+            if early == "pipe":
+                run.stdout.close()
+            if early == "interrupt":
+                os.killpg(run.pid, signal.SIGINT)  # while nobody reads what was written
+            try:
+                status = run.wait(timeout=20)
+            except subprocess.TimeoutExpired:
+                os.killpg(run.pid, signal.SIGKILL)
+                raise AssertionError(f"{command}: {early} does not end it") from None
+            error = {"disk": "No space left on device", "pipe": "Broken pipe"}.get(early)
+            said = (status, run.stderr.read().decode())
+            assert said == ((1, f"imagesize: standard output: {error}\n") if error else (interrupted, "")), (command, early, said)
+    many.unlink()
+    print("--jobs: an early end is not waited for")
+
+
 def check_interrupted(program):
     """An interrupt from the terminal ends the run with the status that a shell calls 130, says nothing, and leaves no process behind."""
     writer = os.open("below/pipe", os.O_RDWR)  # a pipe from which nothing comes
@@ -450,8 +477,8 @@ def main(program, worked):
         os.makedirs("below/deep")
         for name, data in FILES.items():
             pathlib.Path(name).write_bytes(data)
-        for check in (check_lines, check_json, check_spans, check_recursive, check_names, check_jobs, check_killed, check_interrupted,
-                      check_standard_input, check_input_that_does_not_wait, check_pipes, check_output,
+        for check in (check_lines, check_json, check_spans, check_recursive, check_names, check_jobs, check_killed, check_early_ends,
+                      check_interrupted, check_standard_input, check_input_that_does_not_wait, check_pipes, check_output,
                       check_progress, check_usage, check_order, check_traps):
             check(program)
         check_test_vectors(program, worked)

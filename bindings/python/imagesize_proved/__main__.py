@@ -21,7 +21,7 @@ import shutil
 import stat
 import sys
 import time
-from typing import Any, Callable, Deque, Dict, Iterable, Iterator, List, NamedTuple, Optional, Sequence, TextIO, Union
+from typing import Any, Callable, Deque, Dict, Generator, Iterable, Iterator, List, NamedTuple, Optional, Sequence, TextIO, Tuple, Union
 
 from . import ImageError, Status, __version__, probe, spans
 
@@ -70,24 +70,51 @@ class Misused(Exception):
     """The command has a wrong option, or no path. The text says which."""
 
 
-def main(arguments: Optional[Sequence[str]] = None) -> int:
-    """Runs the program. Returns its status."""
+def command() -> None:
+    """Runs the program, and ends this process. After an early end it waits for nothing: a process that was killed may not end, as in a read
+    from a server that is gone, and nobody may read what is still in a buffer."""
+    status, early = 130, True
+    with contextlib.suppress(KeyboardInterrupt):  # a second one, which comes during an early end
+        status, early = outcome(sys.argv[1:])
+    if not early:
+        sys.exit(status)
     try:
-        return run(asked_by(sys.argv[1:] if arguments is None else arguments))
+        import threading
+
+        latest = threading.Timer(1, os._exit, (status,))
+        latest.daemon = True
+        latest.start()
+        for stream in (sys.stdout, sys.stderr):
+            with contextlib.suppress(OSError):
+                if stream is not None:
+                    stream.flush()
+    finally:
+        os._exit(status)
+
+
+def main(arguments: Optional[Sequence[str]] = None) -> int:
+    """Runs the program inside another one. Returns its status. An early end kills the processes that this call started."""
+    return outcome(sys.argv[1:] if arguments is None else arguments)[0]
+
+
+def outcome(arguments: Sequence[str]) -> Tuple[int, bool]:
+    """Runs the program. Returns its status, and whether it ended early."""
+    try:
+        return run(asked_by(arguments)), False
     except Misused as error:
         print(f"{USAGE}imagesize: {error}", file=sys.stderr)
-        return 2
+        return 2, False
     except Ended as error:
         with contextlib.suppress(OSError):
             sys.stdout.flush()
         print(f"imagesize: {error}", file=sys.stderr)
-        return 1
+        return 1, True
     except OSError as error:
         print(f"imagesize: standard output: {error.strerror}", file=sys.stderr)
         os.dup2(os.open(os.devnull, os.O_WRONLY), 1)  # what is still in the buffer cannot be written at the end either
-        return 1
+        return 1, True
     except KeyboardInterrupt:
-        return 130
+        return 130, True
 
 
 def asked_by(words: Sequence[str]) -> Asked:
@@ -123,9 +150,9 @@ def run(asked: Asked) -> int:
         sys.stdout.reconfigure(errors="backslashreplace")  # for an output that is ASCII
     # With --null standard input has the paths, and - is a file of that name.
     names = Counted(named(asked))
-    rows = described(files(names, asked.recursive, asked.null), asked.spans, asked.null, asked.jobs)
-    sized = print_json(rows, names) if asked.json else print_table(rows)
-    sys.stdout.flush()
+    with contextlib.closing(described(files(names, asked.recursive, asked.null), asked.spans, asked.null, asked.jobs)) as rows:
+        sized = print_json(rows, names) if asked.json else print_table(rows)
+        sys.stdout.flush()
     if not names.count:
         raise Misused("no file is named")
     return 0 if sized else 1
@@ -215,52 +242,139 @@ def is_shown(path: str) -> bool:
         return True
 
 
-def described(paths: Iterable[str], with_spans: bool, null: bool = False, jobs: int = 1) -> Iterator[Row]:
+def described(paths: Iterable[str], with_spans: bool, null: bool = False, jobs: int = 1) -> Generator[Row, None, None]:
     """What is found of each file. On a terminal a line says how far it is."""
     progress = Progress(sys.stderr)
-    rows = by_jobs(paths, with_spans, null, jobs) if jobs > 1 else (row_of(path, with_spans, null) for path in paths)
-    for row in rows:
-        progress.show(row)
-        if sys.stdout.isatty():
-            progress.clear()
-        yield row
+    with contextlib.closing(by_jobs(paths, with_spans, null, jobs) if jobs > 1 else (row_of(path, with_spans, null) for path in paths)) as rows:
+        for row in rows:
+            progress.show(row)
+            if sys.stdout.isatty():
+                progress.clear()
+            yield row
     progress.clear()
 
 
-def by_jobs(paths: Iterable[str], with_spans: bool, null: bool, jobs: int) -> Iterator[Row]:
+def by_jobs(paths: Iterable[str], with_spans: bool, null: bool, jobs: int) -> Generator[Row, None, None]:
     """What is found of each file, in the order of the paths, by a pool of processes. Standard input is read by this process."""
-    from concurrent.futures import ProcessPoolExecutor
-    from concurrent.futures.process import BrokenProcessPool
-
     waiting: Deque[Callable[[], List[Row]]] = collections.deque()
-    try:
-        with ProcessPoolExecutor(jobs, initializer=end_with_parent) as pool, stopped_early():
-            for batch in batches(paths, null):
-                if batch == ["-"] and not null:
-                    waiting.append(functools.partial(rows_of, batch, with_spans, null))
-                else:
-                    with interrupts_held():
-                        waiting.append(pool.submit(rows_of, batch, with_spans, null).result)
-                if len(waiting) > 2 * jobs:
-                    yield from waiting.popleft()()
-            while waiting:
+    with Pool(min(jobs, most_processes()), with_spans, null) as pool:
+        for batch in batches(paths, null):
+            if batch == ["-"] and not null:
+                waiting.append(functools.partial(rows_of, batch, with_spans, null))
+            else:
+                waiting.append(pool.submit(batch))
+            if len(waiting) > 2 * jobs:
                 yield from waiting.popleft()()
-    except BrokenProcessPool:
-        raise Ended("a process that reads files has ended") from None
+        while waiting:
+            yield from waiting.popleft()()
+
+
+class Pool:
+    """Processes that read files. An early end, such as an interrupt, kills them and waits for none: one may read a pipe from which nothing
+    comes. A `ProcessPoolExecutor` would wait then, for a thread that may wait for a killed process.
+
+    A process has one batch at a time, so that it never waits for this one while this one waits for it.
+    """
+
+    def __init__(self, jobs: int, with_spans: bool, null: bool) -> None:
+        self.jobs = jobs
+        self.options = with_spans, null
+        self.processes: List[Any] = []
+        self.idle: List[Any] = []  # this end of the pipe of each process that has no batch
+        self.busy: Dict[Any, int] = {}  # this end of the pipe of each other process, with the number of its batch
+        self.found: Dict[int, List[Row]] = {}
+        self.count = 0
+
+    def __enter__(self) -> Pool:
+        return self
+
+    def __exit__(self, kind: Optional[type], *_: object) -> None:
+        with interrupts_held():
+            for process in self.processes if kind else ():
+                process.kill()
+            for pipe in (*self.idle, *self.busy):
+                with contextlib.suppress(OSError):
+                    if not kind:
+                        pipe.send(None)
+                pipe.close()
+        for process in () if kind else self.processes:
+            process.join()
+
+    def submit(self, batch: List[str]) -> Callable[[], List[Row]]:
+        """Passes some paths to a process. Returns a function that waits for what it finds."""
+        if not self.idle and len(self.processes) < self.jobs:
+            self.start()
+        while not self.idle:
+            self.receive()
+        number, pipe = self.count, self.idle.pop()
+        self.count, self.busy[pipe] = number + 1, number
+        with killed_is_said():
+            pipe.send(batch)
+        return functools.partial(self.result, number)
+
+    def start(self) -> None:
+        """Starts a process. If this machine has no more of them, those that there are go on."""
+        import multiprocessing
+
+        sys.stdout.flush()  # as each start of a process does, whose error would not be that of the output
+        with interrupts_held():
+            try:
+                ours, theirs = multiprocessing.Pipe()
+                with theirs:
+                    process = multiprocessing.Process(target=read_batches, args=(theirs, *self.options), daemon=True)
+                    process.start()
+            except OSError as error:
+                if not self.processes:
+                    raise Ended(f"a process that reads files: {error.strerror}") from None
+                self.jobs = len(self.processes)
+                return
+            self.processes.append(process)
+            self.idle.append(ours)
+
+    def receive(self) -> None:
+        """Waits for what a process finds."""
+        from multiprocessing.connection import wait
+
+        ready: List[Any] = wait(list(self.busy))
+        for pipe in ready:
+            with killed_is_said():
+                found = pipe.recv()
+            self.found[self.busy.pop(pipe)] = found
+            self.idle.append(pipe)
+
+    def result(self, number: int) -> List[Row]:
+        """What is found of a batch."""
+        while number not in self.found:
+            self.receive()
+        return self.found.pop(number)
 
 
 @contextlib.contextmanager
-def stopped_early() -> Iterator[None]:
-    """Kills the processes of a pool if the run ends early, as by an interrupt: the pool would wait for all that they have begun, and one may
-    read a pipe from which nothing comes."""
+def killed_is_said() -> Iterator[None]:
+    """A pipe whose process was killed raises `Ended`."""
     try:
         yield
-    except BaseException:
-        import multiprocessing
+    except (EOFError, OSError):
+        raise Ended("a process that reads files has ended") from None
 
-        for process in multiprocessing.active_children():
-            process.kill()
-        raise
+
+def read_batches(pipe: Any, with_spans: bool, null: bool) -> None:
+    """What each process of a pool does, until there is no further batch."""
+    end_with_parent()
+    batch: List[str]
+    with contextlib.suppress(EOFError, OSError):
+        for batch in iter(pipe.recv, None):
+            pipe.send(rows_of(batch, with_spans, null))
+
+
+def most_processes() -> int:
+    """How many processes this one can talk to: each takes three of its file descriptors, and Windows waits for no more than 63."""
+    try:
+        import resource
+    except ImportError:  # on Windows
+        return 61
+    most = resource.getrlimit(resource.RLIMIT_NOFILE)[0]
+    return MOST_JOBS if most == resource.RLIM_INFINITY else max(1, most // 4)
 
 
 @contextlib.contextmanager
@@ -430,4 +544,4 @@ class Progress:
 
 
 if __name__ == "__main__":
-    sys.exit(main())
+    command()

@@ -4,6 +4,7 @@ import io
 import json
 import os
 import pathlib
+import signal
 import subprocess
 import sys
 import tempfile
@@ -185,6 +186,62 @@ class Program(unittest.TestCase):
         self.assertEqual([line.split()[0] for line in said.stdout.splitlines()], ["Jpeg", "Gif", "Gif"])
         for jobs in ("0", "-1", "many", ""):
             self.assertEqual(self.run_it("--jobs", jobs, "a.gif").returncode, 2)
+
+    def test_jobs_that_end_early(self) -> None:
+        """The run ends at a full disk, at a pipe that is closed, and at an interrupt, however much the processes have before them."""
+        names = self.many_names()
+        for _ in range(5):
+            with open(names, "rb") as listed, open("/dev/full", "wb") as full:
+                said = self.run_it("--null", "--jobs", "16", stdin=listed, stdout=full, timeout=20)
+            self.assertEqual((said.returncode, said.stderr), (1, "imagesize: standard output: No space left on device\n"))
+            for is_interrupt in (False, True):
+                with open(names, "rb") as listed:
+                    run = subprocess.Popen([sys.executable, "-m", "imagesize_proved", "--null", "--jobs", "16"], cwd=self.folder, stdin=listed,
+                                           stdout=subprocess.PIPE, stderr=subprocess.PIPE, start_new_session=True,
+                                           env={**os.environ, "PYTHONPATH": str(PACKAGE), "PYTHONUNBUFFERED": ""})
+                with run:
+                    assert run.stdout and run.stderr
+                    self.assertIn(b"a.gif", run.stdout.readline())
+                    if is_interrupt:
+                        os.killpg(run.pid, signal.SIGINT)  # while nobody reads what was written
+                    else:
+                        run.stdout.close()
+                    try:
+                        status = run.wait(timeout=20)
+                    except subprocess.TimeoutExpired:
+                        os.killpg(run.pid, signal.SIGKILL)
+                        self.fail("the run goes on")
+                    error = b"" if is_interrupt else b"imagesize: standard output: Broken pipe\n"
+                    self.assertEqual((status, run.stderr.read()), (130 if is_interrupt else 1, error))
+
+    def test_jobs_inside_another_program(self) -> None:
+        """The call returns to it, and its own processes stay."""
+        script = ("import multiprocessing, sys, time\nfrom imagesize_proved.__main__ import main\n"
+                  "own = multiprocessing.Process(target=time.sleep, args=(60,), daemon=True)\nown.start()\n"
+                  "status = main(['--null', '--jobs', '16'])\nprint(status, own.is_alive(), file=sys.stderr)\n")
+        with open(self.many_names(), "rb") as listed, open("/dev/full", "wb") as full:
+            run = subprocess.Popen([sys.executable, "-c", script], cwd=self.folder, stdin=listed, stdout=full, stderr=subprocess.PIPE,
+                                   start_new_session=True, env={**os.environ, "PYTHONPATH": str(PACKAGE), "PYTHONUNBUFFERED": ""})
+        try:
+            error = run.communicate(timeout=20)[1]
+        except subprocess.TimeoutExpired:
+            os.killpg(run.pid, signal.SIGKILL)
+            error = run.communicate()[1] + b"and the program does not end"
+        self.assertEqual((run.returncode, error), (0, b"imagesize: standard output: No space left on device\n1 True\n"))
+
+    def many_names(self) -> pathlib.Path:
+        """A file with many names of 100 bytes, each of one file: more than the pipes to the processes can have in them."""
+        names = self.folder / "names"
+        names.write_bytes((b"./" * 47 + b"/a.gif\0") * 200_000)
+        return names
+
+    def test_jobs_of_few_file_descriptors(self) -> None:
+        """As many processes read as this one can have. The lines are the same."""
+        wanted = self.run_it(*["a.gif"] * 5000).stdout
+        resource = __import__("resource")
+        said = self.run_it("--jobs", "1024", *["a.gif"] * 5000, timeout=60,
+                           preexec_fn=lambda: resource.setrlimit(resource.RLIMIT_NOFILE, (40, 40)))
+        self.assertEqual((said.stderr, said.stdout == wanted), ("", True))
 
     def test_interrupt(self) -> None:
         with mock.patch.object(program, "probe", side_effect=KeyboardInterrupt):
