@@ -34,9 +34,11 @@ HERE = pathlib.Path(__file__).resolve().parent
 TOP = HERE.parent.parent
 PACKAGE = "imagesize_proved"
 LIBRARY = "libimagesize.so"
-# The native library in an sdist and in the repository, and the portable one in an editable install. _library.py looks for it in this order.
+# The native library in an sdist and in the repository, and the portable one in an editable install of either. _library.py looks for them: in an
+# sdist for the portable one first, which is there if an editable install takes it, and in the repository for the native one first.
 PACKED = HERE / PACKAGE / LIBRARY
 BUILT = TOP / "examples" / "out" / LIBRARY
+COMPILED_IN_SDIST = HERE / PACKAGE / "libimagesize_portable.so"
 COMPILED = TOP / "bindings" / "portable" / "out" / LIBRARY
 RUNS_ON = "Linux on x86-64 processors, with glibc 2.14 or later"
 EXAMPLES = ("examples/form.py", "examples/remote.py", "examples/upload.py")
@@ -60,13 +62,20 @@ def build_wheel(wheel_directory: str, config_settings: Settings = None, metadata
 
 
 def build_editable(wheel_directory: str, config_settings: Settings = None, metadata_directory: Optional[str] = None) -> str:
-    """Writes a wheel that leads to this folder. The native library is loaded there if it is there, whatever is asked for."""
-    if is_native():
-        library()
-    is_portable = native() is None
-    if is_portable:
-        COMPILED.parent.mkdir(parents=True, exist_ok=True)
-        COMPILED.write_bytes(compiled())
+    """
+    Writes a wheel that leads to this folder. In the repository, the native library is loaded if it is there, whatever is asked for. In an
+    unpacked sdist, the library is the one that `build_wheel` packs.
+    """
+    is_portable = not takes_native() and not (is_repository() and native())
+    if not is_portable:
+        if takes_native():
+            library()
+        if COMPILED_IN_SDIST.exists():
+            COMPILED_IN_SDIST.unlink()  # of an install before this one
+    else:
+        path = COMPILED if is_repository() else COMPILED_IN_SDIST
+        path.parent.mkdir(parents=True, exist_ok=True)
+        path.write_bytes(compiled())
     return write_wheel(wheel_directory, f"py3-none-{platform(config_settings)}", [(f"{PACKAGE}.pth", f"{HERE}\n".encode())], is_portable)
 
 
@@ -75,7 +84,7 @@ def build_sdist(sdist_directory: str, config_settings: Settings = None) -> str:
     Writes the sdist to a folder, and returns its name. It has the native library in it, if this machine has it or can build it, and the
     sources of the portable one if bindings/portable/build made them.
     """
-    if is_native():
+    if takes_native():
         library()
     found = native()
     stem = f"{PACKAGE}-{project()['version']}"
@@ -156,14 +165,19 @@ def fitting(settings: Settings = None) -> Tuple[bytes, bool]:
     named = (settings or {}).get("library")
     if named:
         return pathlib.Path(str(named)).read_bytes(), True
-    if is_native() and (native() or is_repository()):
+    if takes_native():
         return library(), False
     return compiled(), True
 
 
+def takes_native() -> bool:
+    """Whether the native library runs here, and is there or can be built."""
+    return is_native() and (native() is not None or is_repository())
+
+
 def native() -> Optional[pathlib.Path]:
-    """The file of the native library, if it is there."""
-    return next((path for path in (PACKED, BUILT) if path.exists()), None)
+    """The file of the native library, if it is there. Outside the folder of an sdist there is none."""
+    return next((path for path in (PACKED, BUILT) if path.exists() and (path == PACKED or is_repository())), None)
 
 
 def is_repository() -> bool:
@@ -180,7 +194,7 @@ def is_native() -> bool:
 def portable() -> Files:
     """The sources of the portable library, or none if they were not made."""
     packed, built = HERE / "portable", TOP / "bindings" / "portable" / "out" / "imagesize-portable"
-    folder = packed if packed.exists() else built
+    folder = packed if packed.exists() or not is_repository() else built
     return [(name, (folder / name).read_bytes()) for name in PORTABLE] if folder.exists() else []
 
 

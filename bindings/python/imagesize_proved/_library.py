@@ -1,7 +1,8 @@
 """The shared library, and its calls as Python has them.
 
 It is looked for at the path in the environment's IMAGESIZE_LIBRARY, or else in this folder, where the wheel has it, or else where
-`examples/run build` puts it, or else where an editable install puts the portable one.
+`examples/run build` puts it, or else where an editable install puts the portable one. In an unpacked sdist it is looked for in this
+folder alone, and first by the name that an editable install there gives to the portable one.
 """
 
 from __future__ import annotations
@@ -19,6 +20,8 @@ _PACKED = os.path.join(_HERE, "libimagesize.so")
 _TOP = os.path.join(_HERE, "..", "..", "..")
 _BUILT = os.path.join(_TOP, "examples", "out", "libimagesize.so")
 _COMPILED = os.path.join(_TOP, "bindings", "portable", "out", "libimagesize.so")
+_IN_SDIST = os.path.join(_HERE, "libimagesize_portable.so"), _PACKED
+_ELSEWHERE = _PACKED, _BUILT, _COMPILED
 
 PNG = 1000
 """PNG among the numbers of types. The library has calls of its own for PNG, and no number."""
@@ -56,14 +59,21 @@ _CALLS = (
 )
 
 
+def _found() -> str:
+    is_sdist = os.path.exists(os.path.join(_HERE, "..", "PKG-INFO"))
+    paths = _IN_SDIST if is_sdist else _ELSEWHERE
+    return next(filter(os.path.exists, paths), _PACKED if is_sdist else _BUILT)
+
+
 def _loaded() -> ctypes.CDLL:
-    path = os.environ.get("IMAGESIZE_LIBRARY") or next((found for found in (_PACKED, _BUILT, _COMPILED) if os.path.exists(found)), _BUILT)
+    path = os.environ.get("IMAGESIZE_LIBRARY") or _found()
     try:
         library = ctypes.CDLL(path)
         for name in _CALLS:
             getattr(library, name).restype = ctypes.c_uint32
     except (OSError, AttributeError) as error:
-        hint = "it is for another platform: install the package again, on this machine" if path == _PACKED else "`examples/run build` builds it"
+        is_installed = path.startswith(_HERE)
+        hint = "it is for another platform: install the package again, on this machine" if is_installed else "`examples/run build` builds it"
         raise ImportError(f"no library of imagesize_proved ({error}); {hint}", path=path) from error
     return library
 

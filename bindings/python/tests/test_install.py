@@ -226,21 +226,48 @@ class WhichLibrary(Installing):
         self.assertFalse((sdist / "imagesize_proved" / build_wheel.LIBRARY).exists())
         self.check_wheel(self.built("build_wheel", sdist), True)
 
+    def check_editable(self, where: pathlib.Path, is_portable: bool, asked: bool = False, machine: str = "") -> None:
+        """What an editable install of a folder says of its library, and what is loaded there."""
+        wheel = self.built("build_editable", where, asked, machine)
+        folder = pathlib.Path(tempfile.mkdtemp(dir=self.folder))
+        with zipfile.ZipFile(wheel) as packed:
+            packed.extractall(folder)
+        self.check_metadata(folder, is_portable)
+        script = "import imagesize_proved as i; print(i.is_portable())"
+        environment = {**os.environ, "PYTHONPATH": str(where), "IMAGESIZE_LIBRARY": ""}
+        run = subprocess.run([sys.executable, "-c", script], env=environment, cwd=folder, stdout=subprocess.PIPE, text=True)
+        self.assertEqual(run.stdout, f"{is_portable}\n")
+
     def test_editable(self) -> None:
         """The library that is loaded from the repository: the native one if it is there, and else the portable one, in a folder of its own."""
-        for portable in (False, True):
-            with self.subTest(portable=portable):
-                if portable:
-                    self.native.unlink()
-                wheel = self.built("build_editable", self.python, portable)
-                folder = pathlib.Path(tempfile.mkdtemp(dir=self.folder))
-                with zipfile.ZipFile(wheel) as packed:
-                    packed.extractall(folder)
-                self.check_metadata(folder, portable)
-                script = "import imagesize_proved as i; print(i.is_portable())"
-                environment = {**os.environ, "PYTHONPATH": str(self.python), "IMAGESIZE_LIBRARY": ""}
-                run = subprocess.run([sys.executable, "-c", script], env=environment, cwd=folder, stdout=subprocess.PIPE, text=True)
-                self.assertEqual((run.stdout, self.native.exists()), (f"{portable}\n", not portable))
+        self.check_editable(self.python, False)
+        self.check_editable(self.python, False, asked=True)
+        self.native.unlink()
+        self.check_editable(self.python, True, asked=True)
+        self.assertFalse(self.native.exists())
+
+    def test_editable_sdist(self) -> None:
+        """Each install takes the library that fits, as a wheel of the sdist does, and the one before it leaves none."""
+        sdist = self.unpacked(self.built("build_sdist", self.python))
+        self.check_editable(sdist, False)
+        self.check_editable(sdist, True, asked=True)
+        self.check_wheel(self.built("build_wheel", sdist), False)
+        self.check_editable(sdist, False)
+        self.check_editable(sdist, True, machine="riscv64")
+
+    def test_editable_sdist_without_the_native_library(self) -> None:
+        """The portable library is compiled into its own folder, where no build takes it for the native one. Nothing around it is read or written."""
+        self.native.unlink()
+        sdist = self.unpacked(self.built("build_sdist", self.python, machine="riscv64"))
+        self.check_editable(sdist, True)
+        self.assertFalse((pathlib.Path(self.folder) / "bindings").exists())
+        self.check_wheel(self.built("build_wheel", sdist), True)
+        again = self.unpacked(self.built("build_sdist", sdist))
+        self.assertEqual([path.name for path in again.rglob("*.so")], [])
+        around = pathlib.Path(self.folder) / "examples" / "out"  # where the repository has the native library
+        around.mkdir(parents=True)
+        subprocess.run([*COMPILER, "-shared", "-fPIC", "-o", str(around / build_wheel.LIBRARY), str(self.top / "native.c")], check=True)
+        self.check_editable(again, True)
 
 
 class Portable(Installing):
