@@ -114,10 +114,10 @@ def union(words):
     lines, line = [], "  |"
     for word in words:
         if len(line) + len(word) + 5 > WIDTH:
-            lines.append(line.removesuffix(" |"))
+            lines.append(line[:-2])
             line = "  |"
         line += f" '{word}' |"
-    return [*lines, line.removesuffix(" |")]
+    return [*lines, line[:-2]]
 
 
 def page_names():
@@ -155,7 +155,8 @@ def rust_types():
     for name, (number, comment) in found.items():
         compression = f"({COMPRESSED[name]})" if name in COMPRESSED else ""
         lines += RUST_PNG if name == "PNM" else []
-        lines += [f"        /// {sentence(comment.removesuffix(HAS_COMPRESSION))}", f"        {own_name(name)}{compression} = {number},"]
+        comment = comment[:-len(HAS_COMPRESSION)] if comment.endswith(HAS_COMPRESSION) else comment
+        lines += [f"        /// {sentence(comment)}", f"        {own_name(name)}{compression} = {number},"]
     return lines
 
 

@@ -194,7 +194,7 @@ def commands(page, text):
     """Commands of the kit that there are none of, and options that a script of the repository does not know."""
     lines = CODE.findall(text) + [line for block in FENCED.findall(text) for line in block.split("\n")]
     for line in lines:
-        for part in re.split(r"&&|\||;", line.removeprefix("$ ")):
+        for part in re.split(r"&&|\||;", re.sub(r"^[$] ", "", line)):
             words = part.split()
             if len(words) > 1 and words[0] == "rt" and re.fullmatch(r"[a-z-]+", words[1]) and words[1] not in RT:
                 yield f"no command rt {words[1]}"

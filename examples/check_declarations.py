@@ -116,7 +116,7 @@ def check_spans(header, folder):
     (body,) = re.findall(r"typedef struct imagesize_span \{ (.*?) \} imagesize_span;", header)
     low = pathlib.Path(folder).parent.parent / "imagesize_source" / "src"
     (fields,) = [found for path in low.glob("*.rt") for found in re.findall(r"pub struct Span \{ (.*?) \}", plain(path.read_text()))]
-    wanted = " ".join(f"{named(name.removeprefix('pub '), PASSED[kind][0])};" for name, kind in parameters(fields))
+    wanted = " ".join(f"{named(re.sub('^pub ', '', name), PASSED[kind][0])};" for name, kind in parameters(fields))
     assert body == wanted, f"a span is `{wanted}`, and not `{body}`"
 
 

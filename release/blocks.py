@@ -11,8 +11,8 @@ A block that cannot be run has this comment on the line before it, which no read
     <!-- not run: REASON -->
 
 LANGUAGE!REASON leaves out the blocks of a language, as where a tool is missing. A line `not run: ..` is printed for each block that is
-left out, with its reason, and the last line is the number of those that ran. The status is 1 if a block fails, or if no command is given
-for its language.
+left out, with its reason, and the last line is the number of those that ran. The status is 1 if a block fails, if no command is given
+for its language, or if the README has no block in these languages.
 """
 
 import pathlib
@@ -58,7 +58,7 @@ def blocks(page):
             end += 1
         assert end < len(lines), f"line {at + 1}: a block does not end"
         if language.lower() in LANGUAGES:
-            text = "".join(line.removeprefix(indent) + "\n" for line in lines[at + 1:end])
+            text = "".join((line[len(indent):] if line.startswith(indent) else line) + "\n" for line in lines[at + 1:end])
             mark = MARK.fullmatch(lines[at - 1].strip()) if at else None
             yield Block(at + 1, ONE[LANGUAGES[language.lower()]], text, mark and mark[1])
         at = end + 1
@@ -97,7 +97,7 @@ def options(words):
 def main(readme, folder, *words):
     page, folder = pathlib.Path(readme), pathlib.Path(folder)
     commands, reasons = options(words)
-    ran = failed = 0
+    ran = failed = number = 0
     for number, block in enumerate(blocks(page.read_text(encoding="utf-8")), 1):
         name = f"{page.name}, line {block.line}, {block.language}"
         reason = block.reason or reasons.get(block.language)
@@ -109,8 +109,10 @@ def main(readme, folder, *words):
             print(f"FAILED: {name}: {status if isinstance(status, str) else f'status {status}'}", flush=True)
             failed += 1
         ran += 1
+    if not number:
+        print(f"FAILED: {page.name}: it has no block in a language that can be run", flush=True)
     print(f"{page.name}: {ran - failed} blocks ran" + (f", and {failed} failed" if failed else ""))
-    return 1 if failed else 0
+    return 1 if failed or not number else 0
 
 
 if __name__ == "__main__":

@@ -1,5 +1,6 @@
 """Tests blocks.py on the READMEs of packages that are not there, and that each block of the READMEs of this repository is run or marked."""
 
+import ast
 import contextlib
 import io
 import pathlib
@@ -89,6 +90,14 @@ class Blocks(unittest.TestCase):
         status, lines = self.ran("<!-- not run: a reason -->\n\n```sh\nexit 3\n```\n")
         self.assertEqual((status, lines[0]), (1, "FAILED: README.md, line 3, sh: status 3"))
 
+    def test_a_readme_without_a_block(self):
+        """A README whose fences have other words is no README that was run. One whose blocks are all left out is."""
+        for readme in ("# A package\n", "```text\ntrue\n```\n", "```console\n$ true\n```\n"):
+            status, lines = self.ran(readme)
+            self.assertEqual((status, lines[-1]), (1, "README.md: 0 blocks ran"), readme)
+            self.assertEqual(lines[0], "FAILED: README.md: it has no block in a language that can be run")
+        self.assertEqual(self.ran("```sh\nexit 3\n```\n", "sh!no shell here")[0], 0)
+
     def test_a_block_that_does_not_end(self):
         self.assertEqual(self.ran("```sh\ntrue\n")[0], 1)
 
@@ -119,11 +128,26 @@ class Readmes(unittest.TestCase):
 
 class Pages(unittest.TestCase):
     def test_pages_that_show_a_call_that_waits_say_so(self):
-        """The program imagesize_probe and Rattle's `size` wait for a pipe without a writer. All other calls do not."""
+        """
+        The program imagesize_probe and Rattle's `size` wait for a pipe without a writer. No other call over a path waits on Linux, macOS and
+        FreeBSD. The Rust package waits where it does not know the number of `O_NONBLOCK`, and Python where it has no such flag.
+        """
         for page, shown in (("README.md", "`imagesize_probe`"), ("CALLING.md", "size(&rt"), ("release/program.md", "`imagesize_probe`")):
             text = (TOP / page).read_text()
             self.assertIn(shown, text, page)
             self.assertRegex(text, "(waits for a pipe without a writer|pipe without a writer .* waited for)", page)
+
+
+class Scripts(unittest.TestCase):
+    def test_python_3_8(self):
+        """docs/RELEASING.md names Python 3.8 for release/build, which runs examples/run. Both run no script that needs a later one."""
+        self.assertIn("Python 3.8,", (TOP / "docs/RELEASING.md").read_text())
+        later = {"removeprefix", "removesuffix", "is_relative_to", "to_thread", "unparse", "randbytes", "lcm", "pairwise", "bit_count"}
+        scripts = "release/*.py", "examples/*.py", "bindings/*.py", "bindings/p*/**/*.py", "bindings/rust/*.py", "docs/*.py", "docs/build"
+        for path in [path for pattern in scripts for path in TOP.glob(pattern)]:
+            tree = ast.parse(path.read_text(encoding="utf-8"), feature_version=(3, 8))
+            used = {node.attr for node in ast.walk(tree) if isinstance(node, ast.Attribute)}
+            self.assertEqual(used & later, set(), path.relative_to(TOP))
 
 
 class Files(unittest.TestCase):
