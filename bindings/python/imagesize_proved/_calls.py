@@ -156,8 +156,10 @@ def _spans(image: Image, limit: int, budget: int) -> Tuple[int, List[int]]:
             return _within(limit, png_spans(image, len(image)))
         return spans_of(image, len(image), limit)
     parts = _parts(image, budget, [])
-    if parts.told[0] in (SPENT[0], Status.TRAPPED) or not parts.total:
-        return parts.told[0] if parts.total else 0, []
+    if parts.told[0] in (SPENT[0], Status.TRAPPED):
+        return parts.told[0], []
+    if not parts.total:
+        return 0, []
     if parts.told[1][0] == PNG:
         return _within(limit, png_spans(parts.front, parts.total))
     filled = parts.filled()

@@ -8,7 +8,6 @@ import shutil
 import subprocess
 import sys
 import tempfile
-import textwrap
 import unittest
 
 import build_wheel
@@ -21,10 +20,12 @@ PACKAGE = pathlib.Path(imagesize_proved.__file__).resolve().parent.parent
 COMPILER = shlex.split(os.environ.get("CC", "cc"))
 PNG = b"\x89PNG\r\n\x1a\n\0\0\0\rIHDR\0\0\0\x07\0\0\0\x05\x08\0\0\0\0"
 
-# Prints what each call raises.
-SCRIPT = f"""
+# Prints what each call raises, of some images, and of an empty input.
+BEGIN = f"""
 import asyncio, io, imagesize_proved as i
 gif, png = {GIF!r}, {PNG!r}
+"""
+CALLS = """
 async def chunks():
     yield gif
 def fed(probe):
@@ -36,6 +37,14 @@ for call in (
     lambda: i.probe_with(lambda start, length: gif[start:start + length], 12), lambda: asyncio.run(i.probe_async(chunks())),
     lambda: i.probe(png), lambda: i.spans(png), lambda: i.ImageType(i.Kind.GIF), lambda: i.status_text(4),
 ):
+"""
+EMPTY = """
+for call in (
+    lambda: i.spans(b""), lambda: i.spans(bytearray()), lambda: i.spans(memoryview(b"")), lambda: i.spans(io.BytesIO()), lambda: i.spans(empty),
+    lambda: i.probe(b""), lambda: i.probe(bytearray()), lambda: i.probe(empty), lambda: i.image_type(empty),
+):
+"""
+END = """
     try:
         print("returned", call())
     except Exception as error:
@@ -59,19 +68,22 @@ class Trapped(unittest.TestCase):
         subprocess.run([*COMPILER, "-shared", "-fPIC", *options, "-o", str(library), str(source)], check=True)
         return str(library)
 
-    def check(self, library: str) -> None:
-        script = f"path = {str(self.gif)!r}\n{textwrap.dedent(SCRIPT)}"
+    def check(self, library: str, calls: str = CALLS, count: int = 16) -> None:
+        (self.folder / "empty").touch()
+        script = f"path, empty = {str(self.gif)!r}, {str(self.folder / 'empty')!r}\n{BEGIN}{calls.rstrip()}{END}"
         environment = {**os.environ, "PYTHONPATH": str(PACKAGE), "IMAGESIZE_LIBRARY": library}
         run = subprocess.run([sys.executable, "-c", script], env=environment, stdout=subprocess.PIPE, text=True, check=True)
         lines = run.stdout.splitlines()
-        self.assertEqual(len(lines), 16)
+        self.assertEqual(len(lines), count)
         for number, line in enumerate(lines):
             self.assertRegex(line, "^TrapError True True .*the portable library was trapped: this is a mistake in it$", number)
 
     def test_each_call(self) -> None:
         source = self.folder / "trapped.c"
         source.write_text("".join(f"unsigned {call}(void) {{ return 255; }}\n" for call in _library._CALLS))
-        self.check(self.library(source))
+        library = self.library(source)
+        self.check(library)
+        self.check(library, EMPTY, 9)
 
     def test_the_portable_library_with_too_little_stack(self) -> None:
         sources = build_wheel.portable()
