@@ -5,8 +5,8 @@ ghost use Rattle.imagesize.specs.Meaning.{kind_of, meaning};
 ghost use Rattle.imagesize_c.specs.Status.{is_stop_status, status_of};
 ghost use Rattle.imagesize_c.specs.Told.{TellsSize, TellsType};
 
-use crate::tell::{tell_found, tell_size, tell_type};
-use imagesize::{blob_probe, blob_size, image_type};
+use crate::tell::{tell_found, tell_size};
+use imagesize::{blob_size, image_type};
 
 /// Detects the type of an image from its first bytes, with its compression. With an error neither number changes.
 #[unsafe(no_mangle)]
@@ -42,7 +42,6 @@ pub extern "C" fn imagesize_probe(
     ensures kind { TellsType (result_ok (kind_of bytes.now 0).answer) number.old number.new compression.old compression.new }
     ensures size { TellsSize (meaning bytes.now 0).answer width.old width.new height.old height.new }
 {
-    let (kind, answer) = blob_probe(bytes);
-    tell_type(kind, number, compression);
-    tell_size(answer, width, height)
+    imagesize_type(bytes, number, compression);
+    imagesize_size(bytes, width, height)
 }
