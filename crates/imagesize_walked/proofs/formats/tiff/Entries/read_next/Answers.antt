@@ -19,14 +19,14 @@ pub returns-in-Some-clause-runs : goal.returns-in-Some-clause-runs
 returns-in-Some-clause-runs g c =
     let s = c.args.self.now in
     next_said s.header s.count s.seen s.width s.height c.args.offset c.if-self.false c.in_ok-entry.entry
-    c.side_behind-self.result c.side_behind-self-2.result
-    (Some c.in-Some.size) c.side_behind-self.ensures c.side_behind-self-2.ensures
-    (sym c.size_of_sides.ensures ∙ c.in-Some.is) c.in_ok-entry.ensures.runs
+    c.size_with.new.self.width c.size_with.new.self.height
+    (Some c.in-Some.size) c.size_with.ensures.width c.size_with.ensures.height
+    (sym c.size_with.ensures.size ∙ c.in-Some.is) c.in_ok-entry.ensures.runs
 
 pub returns-in-None-clause-runs : goal.returns-in-None-clause-runs
 returns-in-None-clause-runs g c =
     let s = c.args.self.now in
     let length : g.row.HEAD + g.row.VALUE ≡ entry_bytes s.header.version = omega (arith, s.head, s.value) in
     rw length (next_said s.header s.count s.seen s.width s.height c.args.offset c.if-self.false c.in_ok-entry.entry
-    c.side_behind-self.result c.side_behind-self-2.result None c.side_behind-self.ensures c.side_behind-self-2.ensures
-    (sym c.size_of_sides.ensures ∙ c.in-None.is) c.in_ok-entry.ensures.runs)
+    c.size_with.new.self.width c.size_with.new.self.height None c.size_with.ensures.width c.size_with.ensures.height
+    (sym c.size_with.ensures.size ∙ c.in-None.is) c.in_ok-entry.ensures.runs)
