@@ -24,7 +24,7 @@ from lists import usual_names  # noqa: E402
 import promises  # noqa: E402
 
 # The most words of all pages together, without the headers and what a script writes.
-LIMIT = 25000
+LIMIT, LIMIT_OF_DOCS = 25000, 19000
 
 LINK = re.compile(r"\[[^\]]*\]\(([^)#\s]+)(?:#[^)]*)?\)")
 CODE = re.compile(r"`([^`\n]+)`")
@@ -574,11 +574,14 @@ def words_of(page, text):
 
 
 def total(page, text):
-    """More words than all pages may have together; README.md stands for all."""
+    """More words than all pages may have together, or README.md and docs/ alone; README.md stands for all."""
     if page == TOP / "README.md":
-        has = sum(words_of(other, text if other == page else other.read_text())[0] for other in pages())
-        if has > LIMIT:
-            yield f"{has} words in all pages, of at most {LIMIT}"
+        has = {other: words_of(other, text if other == page else other.read_text())[0] for other in pages()}
+        of_docs = sum(words for other, words in has.items() if other == page or other.parent == TOP / "docs")
+        if sum(has.values()) > LIMIT:
+            yield f"{sum(has.values())} words in all pages, of at most {LIMIT}"
+        if of_docs > LIMIT_OF_DOCS:
+            yield f"{of_docs} words in README.md and docs/, of at most {LIMIT_OF_DOCS}"
 
 
 # Checks of what the sources say, and of the words in all, with a mistake for each.
@@ -623,8 +626,9 @@ def show_counts():
         lengths = [len(sentence.split()) for sentence in sentences(text)] if is_read(page) else []
         print(f"{str(page.relative_to(TOP)):34} {by_hand:6} {made:9} {sum(n > 25 for n in lengths):4} {sum(n > 30 for n in lengths):4} "
               f"{len(old_words(text)) if is_read(page) else 0:9}")
-    print(f"{'all pages, without the headers':34} {sum(counts[page][0] for page in pages()):6} {sum(counts[page][1] for page in pages()):9}"
-          f"    at most {LIMIT}")
+    pages_of_docs = [page for page in pages() if page == TOP / "README.md" or page.parent == TOP / "docs"]
+    for name, some, limit in (("all pages, without the headers", pages(), LIMIT), ("README.md and docs/", pages_of_docs, LIMIT_OF_DOCS)):
+        print(f"{name:34} {sum(counts[page][0] for page in some):6} {sum(counts[page][1] for page in some):9}    at most {limit}")
 
 
 def write():

@@ -11,6 +11,7 @@ import os
 import pathlib
 import re
 import resource
+import select
 import shutil
 import socket
 import subprocess
@@ -19,6 +20,8 @@ import tempfile
 
 HERE = pathlib.Path(__file__).resolve().parent
 USAGE = "usage: imagesize_probe [--spans] FILE...\n"
+# How many seconds a program may take for one line.
+PATIENCE = 20
 
 GIF = b"GIF89ad\0d\0\0\0"
 SEGMENTS = 1000
@@ -69,6 +72,8 @@ def check_program(probe):
         (["--spans", "."], (folder, "", 1)),
         (["--spans", "tiny.gif"], (sized + "  0+12\n  6+2\n  8+2\n", "", 0)),
         (["tiny.gif"] * 64 + ["cut.gif", "tiny.gif"], (sized * 64 + refused + sized, "", 1)),
+        # Names are printed as they are.
+        (["a\nb", "tiny.gif"], ("a\nb: error: No such file or directory (os error 2)\n" + sized, "", 1)),
     ]:
         got = run(probe, *arguments)
         assert got == want, f"{arguments[:3]}: {got}, and not {want}"
@@ -111,6 +116,24 @@ def check_memory(probe):
         packets = [packet for packet in iter(lambda: ours.recv(1 << 16), b"")]
     assert packets == [b"tiny.gif: Gif 100x100\n"] * 5, f"a line is not written at once within 32 MiB: {packets[:6]}"
     print("memory: spans of 2 GiB within 128 MiB, and lines go out whole within 32 MiB")
+
+
+def check_order(probe):
+    """A line goes out before the next file is opened, which may block. Without a reader of the lines, no other file is opened."""
+    os.mkfifo("later")
+    with subprocess.Popen([probe, "tiny.gif", "later"], stdout=subprocess.PIPE) as program:
+        ready, _, _ = select.select([program.stdout], [], [], PATIENCE)
+        # The program waits for a writer.
+        os.close(os.open("later", os.O_RDWR | os.O_NONBLOCK) if not ready else os.open("later", os.O_WRONLY))
+        assert ready, "no line before a file that blocks"
+        lines = program.stdout.read()
+        assert lines == b"tiny.gif: Gif 100x100\nlater: error: Illegal seek (os error 29)\n", f"a file that blocks: {lines}"
+    reads, writes = os.pipe()
+    os.close(reads)
+    with open(writes, "wb") as broken:
+        told = subprocess.run([probe, "tiny.gif", "later"], stdout=broken, stderr=subprocess.DEVNULL, timeout=PATIENCE, check=False)
+    assert told.returncode == 1, f"a broken pipe: status {told.returncode}"
+    print("order: each line goes out before the next file is opened")
 
 
 def traced(command, name):
@@ -204,6 +227,7 @@ def main(folder, probe, sizes):
         check_program(probe)
         check_files(probe, sizes)
         check_memory(probe)
+        check_order(probe)
         for tool, check in [("strace", lambda: check_calls(probe, sizes)), ("valgrind", lambda: check_instructions(folder, probe)),
                             ("valgrind", lambda: check_streams(folder))]:
             if shutil.which(tool):

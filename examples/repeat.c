@@ -3,9 +3,9 @@
  *
  *     repeat CALL TIMES FILE
  *
- * CALL is size, probe, spans, parts, many, stream, chunks or none: `parts` passes one part, which has all bytes; `many` passes 63
- * parts more, which lie past the end and have no bytes. `stream` passes all bytes to a push parser at once, and `chunks` passes them
- * in chunks of 4096 bytes.
+ * CALL is size, probe, spans, parts, many, stream, chunks, bytes or none: `parts` passes one part, which has all bytes; `many` passes 63
+ * parts more, which lie past the end and have no bytes. `stream` passes all bytes to a push parser at once, `chunks` in chunks of 4,096
+ * bytes, and `bytes` the first 4,096 bytes one by one.
  */
 #include "imagesize.h"
 
@@ -73,16 +73,27 @@ static uint32_t stream(const uint8_t *bytes, size_t length, struct told *told)
     return imagesize_stream_push(&state, bytes, length, &told->type, &told->compression, &told->width, &told->height);
 }
 
-static uint32_t chunks(const uint8_t *bytes, size_t length, struct told *told)
+/* Passes at most this many bytes to a push parser, in chunks of a size. */
+static uint32_t pushed(const uint8_t *bytes, size_t most, size_t chunk, size_t length, struct told *told)
 {
     imagesize_stream state;
     uint32_t status = IMAGESIZE_BYTES_WANTED;
     imagesize_stream_new(&state, length);
-    for (size_t at = 0; at < length && status == IMAGESIZE_BYTES_WANTED; at += CHUNK) {
-        status = imagesize_stream_push(&state, bytes + at, length - at < CHUNK ? length - at : CHUNK, &told->type, &told->compression,
+    for (size_t at = 0; at < most && status == IMAGESIZE_BYTES_WANTED; at += chunk) {
+        status = imagesize_stream_push(&state, bytes + at, most - at < chunk ? most - at : chunk, &told->type, &told->compression,
                                        &told->width, &told->height);
     }
     return status;
+}
+
+static uint32_t chunks(const uint8_t *bytes, size_t length, struct told *told)
+{
+    return pushed(bytes, length, CHUNK, length, told);
+}
+
+static uint32_t by_bytes(const uint8_t *bytes, size_t length, struct told *told)
+{
+    return pushed(bytes, length < CHUNK ? length : CHUNK, 1, length, told);
 }
 
 static call *called(const char *name)
@@ -91,7 +102,7 @@ static call *called(const char *name)
         const char *name;
         call *called;
     } calls[] = {{"size", size}, {"probe", probe}, {"spans", spans}, {"parts", parts}, {"many", many}, {"stream", stream},
-                 {"chunks", chunks}};
+                 {"chunks", chunks}, {"bytes", by_bytes}};
     for (size_t i = 0; i < sizeof calls / sizeof *calls; i++) {
         if (strcmp(name, calls[i].name) == 0) {
             return calls[i].called;
