@@ -23,7 +23,7 @@ from lists import usual_names  # noqa: E402
 
 import promises  # noqa: E402
 
-# The most words of all pages together, without the headers and what a script writes.
+# The most words of all pages together, and of README.md and docs/, without the headers and what a script writes.
 LIMIT, LIMIT_OF_DOCS = 25000, 19000
 
 LINK = re.compile(r"\[[^\]]*\]\(([^)#\s]+)(?:#[^)]*)?\)")
@@ -601,6 +601,7 @@ PLANTED += [
     (tested, "docs/promises.tsv", "imagesize_texts\tblank_word_as_the_width\timagesize_png::blob_size value"),
     (numbers, "README.md", "1000 calls of `include/imagesize.h`"),
     (total, "README.md", "word " * 99999),
+    (total, "README.md", "word " * 1500),
 ]
 
 

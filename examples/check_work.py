@@ -122,12 +122,16 @@ def check_order(probe):
     """A line goes out before the next file is opened, which may block. Without a reader of the lines, no other file is opened."""
     os.mkfifo("later")
     with subprocess.Popen([probe, "tiny.gif", "later"], stdout=subprocess.PIPE) as program:
-        ready, _, _ = select.select([program.stdout], [], [], PATIENCE)
-        # The program waits for a writer.
-        os.close(os.open("later", os.O_RDWR | os.O_NONBLOCK) if not ready else os.open("later", os.O_WRONLY))
-        assert ready, "no line before a file that blocks"
-        lines = program.stdout.read()
-        assert lines == b"tiny.gif: Gif 100x100\nlater: error: Illegal seek (os error 29)\n", f"a file that blocks: {lines}"
+        ready = select.select([program.stdout], [], [], PATIENCE)[0]
+        # The writer that the program waits for.
+        later = os.open("later", os.O_RDWR | os.O_NONBLOCK)
+        try:
+            assert ready, "no line before a file that blocks"
+            lines, _ = program.communicate(timeout=PATIENCE)
+        finally:
+            program.kill()
+            os.close(later)
+    assert lines == b"tiny.gif: Gif 100x100\nlater: error: Illegal seek (os error 29)\n", f"a file that blocks: {lines}"
     reads, writes = os.pipe()
     os.close(reads)
     with open(writes, "wb") as broken:

@@ -1,19 +1,17 @@
 """Counts the instructions of each call of the library on many inputs, by callgrind, and compares them with counts.tsv.
 
-    python3 count.py FOLDER            prints the counts, and fails if one is too high
+    python3 count.py FOLDER            prints the counts, and fails if one differs
     python3 count.py FOLDER --write    writes them to counts.tsv: its diff says what got faster and what slower
 
-FOLDER has the program `repeat`, as `run` compiles it. The inputs are those of bench/inputs: ordinary files, and images of 1,000
-records. The instructions of a call that does nothing are left out.
+FOLDER has libimagesize.a. The inputs are those of bench/inputs: ordinary files, and images of 1,000 records. Only the calls of the library
+are counted, and what they call, but not the program that makes them.
 
-The status is 1 if a call takes over a twentieth more than counts.tsv has, and over 4 instructions more, which the compiler of `repeat`
-may add. The last lines also name each call that takes less than nine tenths: the table is then to be written anew. On an ordinary
-file imagesize_size may take at most 10 instructions more than the crate's blob_size.
+The status is 1 if a call takes over a twentieth more than counts.tsv has. It is 1 too if a call takes less than nine tenths: the table is
+then to be written anew. memcpy, memmove and memset are of the machine's C library, so on another machine than the table's a quarter more is
+allowed. On an ordinary file imagesize_size may take at most 10 instructions more than the crate's blob_size.
 """
 
 import concurrent.futures
-import importlib.machinery
-import importlib.util
 import os
 import pathlib
 import re
@@ -23,11 +21,19 @@ import tempfile
 
 HERE = pathlib.Path(__file__).resolve().parent
 TABLE = HERE / "counts.tsv"
-HEAD = """# The instructions of a call of the library on an input of bench/inputs, by callgrind. `python3 count.py FOLDER --write` writes this file.
-"""
-TIMES = 10
-CALLS = ("size", "probe", "spans", "parts", "many", "stream", "chunks", "bytes")
-MOST, MOST_MORE, LEAST = 1.05, 4, 0.9
+STREAM = ("imagesize_stream_new", "imagesize_stream_push")
+# What `repeat` can do, and the functions of the library that it calls for that.
+CALLS = {
+    "size": ("imagesize_size",),
+    "probe": ("imagesize_probe",),
+    "spans": ("imagesize_spans",),
+    "parts": ("imagesize_probe_parts",),
+    "many": ("imagesize_probe_parts",),
+    "stream": STREAM,
+    "chunks": STREAM,
+    "bytes": STREAM,
+}
+MOST, MOST_ELSEWHERE, LEAST = 1.05, 1.25, 0.9
 MOST_OVER_THE_CRATE = 10
 
 
@@ -43,39 +49,36 @@ def rows():
             yield name, int(crate), bytes(data)
 
 
-def inputs(folder):
-    """Writes the inputs to a folder, and returns their paths."""
-    loader = importlib.machinery.SourceFileLoader("inputs", str(HERE.parent / "bench" / "inputs"))
-    module = importlib.util.module_from_spec(importlib.util.spec_from_loader("inputs", loader))
-    loader.exec_module(module)
-    module.main(folder)
-    return sorted(pathlib.Path(folder).iterdir())
+def machine():
+    """What the counts of memcpy and memset depend on."""
+    version = subprocess.run(["valgrind", "--version"], check=True, capture_output=True, text=True).stdout.strip()
+    has_avx2 = "avx2" in pathlib.Path("/proc/cpuinfo").read_text()
+    return f"{os.confstr('CS_GNU_LIBC_VERSION')}, {version}, {'avx2' if has_avx2 else 'no avx2'}"
 
 
-def instructions(program, call, times, file):
-    """The instructions of the whole program."""
-    command = ["valgrind", "--tool=callgrind", "--callgrind-out-file=/dev/null", program, call, str(times), file]
+def compiled(library, folder):
+    """The program `repeat` over a library. Its symbols are bound at the start: no count has a search of the loader."""
+    program = f"{folder}/repeat"
+    sources = [f"-I{HERE.parent}/include", f"{HERE}/repeat.c", f"{library}/libimagesize.a"]
+    subprocess.run([os.environ.get("CC", "cc"), "-std=c11", "-O2", "-Wl,-z,now", "-o", program, *sources], check=True)
+    return program
+
+
+def instructions(program, call, file):
+    """The instructions of the functions of one call."""
+    toggles = [f"--toggle-collect={function}" for function in CALLS[call]]
+    command = ["valgrind", "--tool=callgrind", "--callgrind-out-file=/dev/null", *toggles, program, call, "1", file]
     run = subprocess.run(command, check=True, capture_output=True, text=True)
-    return int(re.search(r"I +refs: +([0-9,]+)", run.stderr)[1].replace(",", ""))
+    return int(re.search(r"Collected : (\d+)", run.stderr)[1])
 
 
-def of_a_call(program, call, file):
-    """The instructions of one call."""
-    return (instructions(program, call, 2 * TIMES, file) - instructions(program, call, TIMES, file)) / TIMES
-
-
-def known():
-    """The counts of counts.tsv by their file and their call."""
-    lines = [line.split("\t") for line in TABLE.read_text().splitlines() if not line.startswith("#")]
-    return {(name, call): int(number) for name, *numbers in lines[1:] for call, number in zip(lines[0][1:], numbers)}
-
-
-def counted(program):
-    """The counts of the library by their file and their call, in the order of the table."""
+def counted(library):
+    """The counts of a library by their file and their call, in the order of the table."""
     with tempfile.TemporaryDirectory() as folder, concurrent.futures.ThreadPoolExecutor(os.cpu_count()) as pool:
-        pairs = [(file, call) for file in inputs(folder) for call in CALLS]
-        nothing = of_a_call(program, "none", __file__)
-        counts = pool.map(lambda pair: round(of_a_call(program, pair[1], pair[0]) - nothing), pairs)
+        program = compiled(library, folder)
+        subprocess.run([HERE.parent / "bench" / "inputs", f"{folder}/inputs"], check=True)
+        pairs = [(file, call) for file in sorted(pathlib.Path(folder, "inputs").iterdir()) for call in CALLS]
+        counts = pool.map(lambda pair: instructions(program, pair[1], pair[0]), pairs)
         return {(file.name, call): count for (file, call), count in zip(pairs, counts)}
 
 
@@ -86,22 +89,40 @@ def table(found):
     return "\n".join(["\t".join(["file", *CALLS]), *lines]) + "\n"
 
 
-def main(program, *options):
+def written():
+    """The machine and the counts of counts.tsv, by their file and their call."""
+    head, *lines = TABLE.read_text().splitlines()
+    calls, *lines = [line.split("\t") for line in lines]
+    return head.removeprefix("# "), {(name, call): int(number) for name, *numbers in lines for call, number in zip(calls[1:], numbers)}
+
+
+def wrong(found):
+    """A line for each count that is too high, and for each one that shows that the table is old."""
+    where, before = written()
+    is_here = where == machine()
+    for name, crate, _ in rows():
+        if found[name, "size"] > crate + MOST_OVER_THE_CRATE:
+            yield f"size of {name}: {found[name, 'size']}, and the crate's {crate}"
+    for (name, call), count in found.items():
+        known = before.get((name, call))
+        if known is None:
+            yield f"{call} of {name}: not in the table, which is to be written anew"
+        elif count > known * (MOST if is_here else MOST_ELSEWHERE):
+            yield f"{call} of {name}: {count}, and {known} before"
+        elif is_here and count < LEAST * known:
+            yield f"{call} of {name}: {count}, and {known} before: the table is to be written anew"
+
+
+def main(library, *options):
     """Prints the counts, and compares or writes them."""
-    found = counted(program)
+    found = counted(library)
     print(table(found), end="")
-    crate = {name: count for name, count, _ in rows()}
-    above = [f"size of {name} above the crate's {count}" for name, count in crate.items() if found[name, "size"] > count + MOST_OVER_THE_CRATE]
     if options == ("--write",):
-        TABLE.write_text(HEAD + table(found))
-    of_before = known()
-    above += [f"{call} of {name}: {count}, and not {of_before.get((name, call))}" for (name, call), count in found.items()
-              if count > MOST * of_before.get((name, call), 0) + MOST_MORE]
-    below = [f"{call} of {name}: {count}, and not {of_before[name, call]}" for (name, call), count in found.items()
-             if count < LEAST * of_before.get((name, call), 0)]
-    print(f"{len(found)} counts; too high: {', '.join(above) or 'none'}; to be written anew: {', '.join(below) or 'none'}")
-    return 1 if above else 0
+        TABLE.write_text(f"# {machine()}\n{table(found)}")
+    lines = list(wrong(found))
+    print(*lines, f"{len(found)} counts, {len(lines)} wrong", sep="\n")
+    return 1 if lines else 0
 
 
 if __name__ == "__main__":
-    sys.exit(main(f"{sys.argv[1]}/repeat", *sys.argv[2:]))
+    sys.exit(main(*sys.argv[1:]))

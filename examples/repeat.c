@@ -1,11 +1,14 @@
 /*
- * Calls the library TIMES times over the bytes of a file, for count.py.
+ * Calls the library TIMES times over the bytes of a file, for count.py and check_work.py.
  *
  *     repeat CALL TIMES FILE
  *
- * CALL is size, probe, spans, parts, many, stream, chunks, bytes or none: `parts` passes one part, which has all bytes; `many` passes 63
- * parts more, which lie past the end and have no bytes. `stream` passes all bytes to a push parser at once, `chunks` in chunks of 4,096
- * bytes, and `bytes` the first 4,096 bytes one by one.
+ *     size, probe, spans    the call of that name
+ *     parts                 imagesize_probe_parts with one part, which has all bytes
+ *     many                  the same with 63 parts more, which lie past the end and have no bytes
+ *     stream                a push parser that gets all bytes at once
+ *     chunks, bytes         one that gets chunks of 4,096 bytes, or the first 4,096 bytes one by one
+ *     none                  nothing
  */
 #include "imagesize.h"
 
@@ -127,5 +130,5 @@ int main(int count, char **words)
         sum += chosen(bytes, length, &told) + told.width;
     }
     free(bytes);
-    return sum == 1;
+    return sum == UINT64_MAX;
 }
