@@ -93,7 +93,7 @@ def written():
     """The machine and the counts of counts.tsv, by their file and their call."""
     head, *lines = TABLE.read_text().splitlines()
     calls, *lines = [line.split("\t") for line in lines]
-    return head.removeprefix("# "), {(name, call): int(number) for name, *numbers in lines for call, number in zip(calls[1:], numbers)}
+    return head[len("# "):], {(name, call): int(number) for name, *numbers in lines for call, number in zip(calls[1:], numbers)}
 
 
 def wrong(found):
