@@ -1,5 +1,5 @@
 //! TIFF, by "TIFF Revision 6.0" (section 2), and BigTIFF, by "The BigTIFF File Format".
-ghost use Rattle.std.specs.Prelude.{◌≡◌, ◌+◌, ◌<◌, ◌≤◌, IfErr, IfOk, ◌==◌, if◌then◌else◌, false, take, length};
+ghost use Rattle.std.specs.Prelude.{◌≡◌, ◌+◌, ◌<◌, ◌≤◌, IfErr, IfOk, false, take, length};
 ghost use Rattle.imagesize_walked.specs.Tiff.{byte_order, count_bytes, directory_at, entry_behind, head_bytes, is_tiff, field_type_in, field_type_of, side_with, stated_offset, tag_in, tiff, tiff_entries, tiff_entry, tiff_head, tiff_header, tiff_value, value_bytes, value_of, version_of};
 ghost use Rattle.imagesize_types.specs.Sides.{size_if_known};
 ghost use Rattle.imagesize_source.specs.Chain.{chain_at};
@@ -285,7 +285,7 @@ impl<const HEAD: usize, const VALUE: usize> Entries<HEAD, VALUE> {
         match entry.tag {
             0x100 => self.width = entry.value,
             0x101 => self.height = entry.value,
-            // Most entries state no side and come before the width. This saves the search for a size: 5 of 60 instructions.
+            // Without a width there is no size. In a directory of many other entries, this saves 4 of 70 instructions for each.
             _ if self.width.is_none() => return None,
             _ => {}
         }
