@@ -22,13 +22,13 @@ use Rattle.imagesize_io.specs.Standing.{stand}
 use Rattle.imagesize_io.specs.StopOf.{failures_of}
 use Rattle.imagesize_io.specs.Telling.{Account}
 use Rattle.imagesize_source.specs.Text.{delimits, front_through, text_front, is_ended, ends}
-use Rattle.std.specs.List.{list_any}
 use Rattle.imagesize_source.proofs.Counts.{total-span_at, total-span_of, total_there}
 use Rattle.imagesize_source.proofs.Layouts.{no_part, no_span}
 use Rattle.imagesize_source.proofs.Agreement.{span-some, whole_span}
 use Rattle.imagesize_source.proofs.Runs.{part_is, past-held}
 use Rattle.imagesize_io.proofs.Windows.{sound_at, told_by}
 use Rattle.imagesize_source.proofs.Texts.{front_length, line_front, no_front, through-cons, word_front}
+use Rattle.imagesize_source.proofs.Unended.{through_on}
 use Rattle.imagesize_source.proofs.Parts.{part_length, part_none}
 
 -- what is left of a text behind some of its bytes, of which one was no white space or none was
@@ -77,23 +77,12 @@ rest_some t begun b bs = by_end (ends t begun b) refl where
   by_end true is = omega (arith, ap length (rest_ends t begun b bs is))
   by_end false is = omega (arith, ap length (rest_goes_on t begun b bs is))
 
--- bytes of which none passes are before the first that does
-through_open : (p : ℕ → Bool) (bs more : List ℕ) → list_any p bs ≡ false
-    → front_through p (bs ++ more) ≡ bs ++ front_through p more
-through_open p [] more none = refl
-through_open p (b ∷ bs) more none =
-    let Goal : Bool → Type 0 = λ is. is || list_any p bs ≡ false
-    → cond is (b ∷ []) (b ∷ front_through p (bs ++ more)) ≡ b ∷ (bs ++ front_through p more) in
-    let cases : Goal (p b) =
-    elim (p b) as Goal [ true ↦ λ h. absurd cc | false ↦ λ h. ap (λ xs. b ∷ xs) (through_open p bs more h) ] in
-    through-cons p b (bs ++ more) ∙ cases none
-
 -- a line that does not end in some bytes goes on behind them
 pub line_open : (t : Text) (bs more : List ℕ) → is_line t ≡ true → is_ended t bs ≡ false
     → text_front t (bs ++ more) ≡ bs ++ text_rest t false more
 unfolding is_ended
 line_open (Line delimiter) bs more line still = line_front delimiter (bs ++ more)
-    ∙ through_open (delimits (Line delimiter)) bs more still
+    ∙ through_on (delimits (Line delimiter)) bs more still
 line_open Word bs more line still = absurd cc
 
 -- the readings of a span and of the byte behind it, by a source that counts and records nothing, are one

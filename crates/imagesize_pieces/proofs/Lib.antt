@@ -5,5 +5,4 @@ pub mod Going
 pub mod Reaching
 pub mod Keeping
 pub mod Needing
-pub mod Unended
 pub mod Streaming

@@ -1,14 +1,8 @@
 -- Texts whose end has not arrived.
-use Rattle.std.specs.Prelude.{◌≡◌, ℕ, ◌+◌, ◌-◌, ◌<◌, ◌++◌, max, min, Bool, false, not, List, length, take, drop}
-use Rattle.std.specs.Char.{is_ascii_whitespace}
-use Rattle.std.specs.List.{list_any}
+use Rattle.std.specs.Prelude.{◌≡◌, ℕ, ◌+◌, ◌-◌, ◌<◌, ◌++◌, max, min, false, List, length, take, drop}
 use Rattle.imagesize_pieces.specs.declared.stand.Stand.{Stand}
 use Rattle.imagesize_source.specs.Text.{is_ended}
 use Rattle.imagesize_source.specs.declared.text.Text.{Text}
-
--- whether one of the bytes is no white space
-abbrev pub has_begun : List ℕ → Bool
-has_begun bs = list_any (λ b. not (is_ascii_whitespace b)) bs
 
 -- These bytes arrived too. Those from the next record's offset on are kept. They belong to the text there, which has fewer than
 -- `most` bytes so far. Neither they nor the bytes kept before end it. The input has more bytes.

@@ -2,8 +2,8 @@
 ghost use Rattle.std.specs.Prelude.{◌≡◌, ◌+◌, ◌-◌, ◌≤◌, ◌++◌, false, true, length, not, take};
 ghost use Rattle.std.specs.Char.{is_ascii_whitespace};
 ghost use Rattle.std.specs.List.{list_any};
-ghost use Rattle.imagesize_source.specs.Text.{is_ended};
-ghost use Rattle.imagesize_pieces.specs.Pending.{KeepsPending, has_begun};
+ghost use Rattle.imagesize_source.specs.Text.{has_begun, is_ended};
+ghost use Rattle.imagesize_pieces.specs.Pending.{KeepsPending};
 
 use crate::buffer::bytes_behind;
 use crate::stand::Stand;

@@ -6,6 +6,7 @@ ghost use Rattle.imagesize_source.specs.Input.{part, span_at};
 ghost use Rattle.imagesize_source.specs.Known.{AllKnown, Lacks};
 ghost use Rattle.imagesize_source.specs.Reading.{part_read, text_read, map_answer};
 ghost use Rattle.imagesize_source.specs.State.{Runs};
+ghost use Rattle.imagesize_source.specs.Text.{is_ended};
 ghost use Rattle.imagesize_pieces.specs.Stream.{byte_at, came, end_of, stream_input, stream_state};
 
 use crate::buffer::bytes_behind;
@@ -208,10 +209,17 @@ impl<'a> StreamSource<'a> {
         Some(found)
     }
 
-    // A text that no slice contains as a whole. `None` means that a byte is missing.
+    // A text that no slice contains as a whole. The first `searched` bytes do not end it. `None` means that a byte is missing.
     #[cold]
     #[inline(never)]
-    fn gather_text(&mut self, offset: u64, text: Text, buffer: &mut [u8]) -> Option<usize>
+    fn gather_text(
+        &mut self,
+        offset: u64,
+        text: Text,
+        searched: usize,
+        buffer: &mut [u8],
+    ) -> Option<usize>
+        requires { is_ended text (part (stream_input self.old.told self.old.start self.old.kept.now self.old.chunk.now) offset searched) ≡ false }
         ensures bound { IfSome result (λ n. n ≤ length buffer.new) }
         ensures there { IfSome result (λ n. n ≤ self.old.told - offset) }
         ensures runs { Runs (stream_state self.old.told self.old.start self.old.kept.now self.old.chunk.now self.old.log.spans self.old.missed)
@@ -220,7 +228,8 @@ impl<'a> StreamSource<'a> {
             (text_read (stream_input self.old.told self.old.start self.old.kept.now self.old.chunk.now) text offset (length buffer.new)) }
     {
         let (found, wanted) = self.fill_known(offset, buffer);
-        let Some(count) = uncut_length(text, &buffer[..found], wanted) else {
+        let searched = searched.min(found);
+        let Some(count) = uncut_length(text, &buffer[..found], searched, wanted) else {
             self.miss(offset, found, 1, wanted - found);
             return None;
         };
@@ -256,8 +265,12 @@ impl Source for StreamSource<'_> {
 
     #[inline(always)]
     fn read_text(&mut self, offset: u64, text: Text, buffer: &mut [u8]) -> Result<usize, Halt> {
-        let Some(count) = copy_ended(self.known_from(offset), text, buffer) else {
-            return self.gather_text(offset, text, buffer).ok_or(Halt::Failed);
+        let known = self.known_from(offset);
+        let Some(count) = copy_ended(known, text, buffer) else {
+            let searched = known.len().min(buffer.len());
+            return self
+                .gather_text(offset, text, searched, buffer)
+                .ok_or(Halt::Failed);
         };
         self.see(offset, count);
         Ok(count)

@@ -31,4 +31,5 @@ pub mod Strides
 pub mod Tests
 pub mod TextEnds
 pub mod Texts
+pub mod Unended
 pub mod Way

@@ -8,7 +8,7 @@ use Rattle.imagesize_source.specs.declared.text.Text.TheVariants.{Line, Word}
 use Rattle.imagesize_source.specs.Text.{is_ended}
 use Rattle.imagesize_source.proofs.Texts.{found, not_found}
 
-any_found : (p : ℕ → Bool) (bs : List ℕ) → list_any p bs ≡ is_some (position p bs)
+pub any_found : (p : ℕ → Bool) (bs : List ℕ) → list_any p bs ≡ is_some (position p bs)
 any_found p bs = any_below p bs ∙ some_test (leb (suc (position_or_len p bs)) (length bs)) where
   some_test : (test : Bool) → test ≡ is_some (cond test (Some (position_or_len p bs)) None)
   some_test true = refl

@@ -110,7 +110,7 @@ pub no_front : text_front Word [] ≡ []
 unfolding text_front
 no_front = refl
 
-no_end : is_ended Word [] ≡ false
+pub no_end : is_ended Word [] ≡ false
 unfolding is_ended
 no_end = refl
 

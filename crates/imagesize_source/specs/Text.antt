@@ -31,3 +31,7 @@ is_ended t bs = list_any (delimits t) (drop (space_before t bs) bs)
 abbrev pub ends : Text → Bool → ℕ → Bool
 ends (Line delimiter) begun b = b == delimiter
 ends Word begun b = begun && is_ascii_whitespace b
+
+-- whether one of the bytes is no white space
+abbrev pub has_begun : List ℕ → Bool
+has_begun bs = list_any (λ b. not (is_ascii_whitespace b)) bs

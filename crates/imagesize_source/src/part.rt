@@ -1,5 +1,5 @@
 //! Parts of a slice from an offset on, as far as the slice goes.
-ghost use Rattle.std.specs.Prelude.{◌≡◌, ◌+◌, ◌<◌, ◌≤◌, min, ◌-◌, ◌++◌, take, drop, length, true, IfSome};
+ghost use Rattle.std.specs.Prelude.{◌≡◌, ◌+◌, ◌<◌, ◌≤◌, min, ◌-◌, ◌++◌, take, drop, length, true, false, None, IfSome};
 ghost use Rattle.imagesize_source.specs.Input.{part};
 ghost use Rattle.imagesize_source.specs.Reading.{text_part};
 ghost use Rattle.imagesize_source.specs.Text.{is_ended, text_front};
@@ -64,6 +64,7 @@ pub fn copy_ended(bytes: &[u8], text: Text, buffer: &mut [u8]) -> Option<usize>
     ensures copied { IfSome result (λ n. take n buffer.new ≡ take n bytes.now) }
     ensures ended { IfSome result (λ n. is_ended text (take n bytes.now) ≡ true) }
     ensures whole { IfSome result (λ n. text_front text (take n bytes.now) ≡ take n bytes.now) }
+    ensures open { result ≡ None → is_ended text (take (length buffer.new) bytes.now) ≡ false }
 {
     let most = bytes.len().min(buffer.len());
     match ended_length(text, &bytes[..most]) {

@@ -1,8 +1,8 @@
 //! Texts within an input: bytes up to one that ends them.
-ghost use Rattle.std.specs.Prelude.{◌≡◌, ◌≤◌, not, true, false, None, length, IfSome};
-ghost use Rattle.std.specs.List.{position};
+ghost use Rattle.std.specs.Prelude.{◌≡◌, ◌+◌, ◌++◌, ◌≤◌, not, true, false, None, length, IfSome};
+ghost use Rattle.std.specs.List.{list_any, position, position_or_len};
 ghost use Rattle.std.specs.Char.{is_ascii_whitespace};
-ghost use Rattle.imagesize_source.specs.Text.{ends, is_ended, text_front};
+ghost use Rattle.imagesize_source.specs.Text.{ends, front_through, has_begun, is_ended, text_front};
 
 use crate::search::first_of;
 
@@ -40,6 +40,48 @@ pub fn ended_length(text: Text, bytes: &[u8]) -> Option<usize>
     match text {
         Text::Line { delimiter } => line_length(delimiter, bytes),
         Text::Word => word_length(bytes),
+    }
+}
+
+/// How many of the rest belong to a text that the first bytes do not end, with the byte that ends it. `None` if none of the rest
+/// ends it either.
+///
+/// The first bytes are not searched again.
+#[inline]
+pub fn ended_behind(text: Text, first: &[u8], rest: &[u8]) -> Option<usize>
+    requires { is_ended text first.now ≡ false }
+    ensures ended { IfSome result (λ _. is_ended text (first.now ++ rest.now) ≡ true) }
+    ensures within { IfSome result (λ n. n ≤ length rest.now) }
+    ensures length { IfSome result (λ n. length first.now + n ≡ length (text_front text (first.now ++ rest.now))) }
+    ensures open { result ≡ None → is_ended text (first.now ++ rest.now) ≡ false }
+{
+    match text {
+        Text::Line { delimiter } => line_length(delimiter, rest),
+        Text::Word if has_begun(first) => through_white(rest),
+        Text::Word => word_length(rest),
+    }
+}
+
+// Whether a word that these bytes do not end has begun. If it has, the last of them is a byte of the word.
+#[inline(always)]
+fn has_begun(bytes: &[u8]) -> bool
+    requires { is_ended Text.Word bytes.now ≡ false }
+    ensures { result ≡ has_begun bytes.now }
+{
+    let count = bytes.len();
+    count > 0 && !bytes[count - 1].is_ascii_whitespace()
+}
+
+// How many bytes there are up to and with the first white space, if it is there.
+#[inline(always)]
+fn through_white(bytes: &[u8]) -> Option<usize>
+    ensures ended { IfSome result (λ _. list_any is_ascii_whitespace bytes.now ≡ true) }
+    ensures length { IfSome result (λ n. n ≡ length (front_through is_ascii_whitespace bytes.now)) }
+    ensures open { result ≡ None → list_any is_ascii_whitespace bytes.now ≡ false }
+{
+    match first_white(bytes) {
+        Some(white) => Some(white + 1),
+        None => None,
     }
 }
 

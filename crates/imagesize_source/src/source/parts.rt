@@ -12,7 +12,7 @@ ghost use Rattle.imagesize_source.specs.Text.{is_ended, text_front};
 use super::Source;
 use super::log::SpanLog;
 use crate::part::{copy_ended, part_of};
-use crate::text::ended_length;
+use crate::text::ended_behind;
 use crate::{Halt, ImageError, Reason, Span, Text};
 
 /// What a read misses, from its first unknown byte on.
@@ -176,10 +176,17 @@ impl<'a> PartsSource<'a> {
         Ok(found)
     }
 
-    // A text that `front` does not contain as a whole.
+    // A text that `front` does not contain as a whole. The first `searched` bytes do not end it.
     #[cold]
     #[inline(never)]
-    fn gather_text(&mut self, offset: u64, text: Text, buffer: &mut [u8]) -> Result<usize, Halt>
+    fn gather_text(
+        &mut self,
+        offset: u64,
+        text: Text,
+        searched: usize,
+        buffer: &mut [u8],
+    ) -> Result<usize, Halt>
+        requires { is_ended text (part (filled_input self.old.told self.old.spans.now self.old.bytes.now) offset searched) ≡ false }
         ensures bound { IfOk result (λ n. n ≤ length buffer.new) }
         ensures there { IfOk result (λ n. n ≤ self.old.told - offset) }
         ensures runs { Runs (parts_state self.old.told self.old.spans.now self.old.bytes.now self.old.log.spans self.old.missed)
@@ -188,7 +195,8 @@ impl<'a> PartsSource<'a> {
             (text_read (filled_input self.old.told self.old.spans.now self.old.bytes.now) text offset (length buffer.new)) }
     {
         let (found, wanted) = self.fill_known(offset, buffer);
-        let Some(count) = uncut_length(text, &buffer[..found], wanted) else {
+        let searched = searched.min(found);
+        let Some(count) = uncut_length(text, &buffer[..found], searched, wanted) else {
             return Err(self.miss(offset, found, 1, wanted - found));
         };
         self.see(offset, count);
@@ -223,8 +231,10 @@ impl Source for PartsSource<'_> {
 
     #[inline(always)]
     fn read_text(&mut self, offset: u64, text: Text, buffer: &mut [u8]) -> Result<usize, Halt> {
-        let Some(count) = copy_ended(bytes_behind(self.front, offset), text, buffer) else {
-            return self.gather_text(offset, text, buffer);
+        let run = bytes_behind(self.front, offset);
+        let Some(count) = copy_ended(run, text, buffer) else {
+            let searched = run.len().min(buffer.len());
+            return self.gather_text(offset, text, searched, buffer);
         };
         self.see(offset, count);
         Ok(count)
@@ -262,16 +272,18 @@ pub fn count_there(told: u64, offset: u64, buffer: usize) -> usize
 }
 
 /// How many bytes the text at the front of the bytes has. `None` if it may go on after them: none of them ends it, and the read
-/// requests more.
+/// requests more. The first `searched` bytes do not end it.
 #[tactic(auto, using(crate::proofs::Texts::fronts))]
-pub fn uncut_length(text: Text, bytes: &[u8], wanted: usize) -> Option<usize>
+pub fn uncut_length(text: Text, bytes: &[u8], searched: usize, wanted: usize) -> Option<usize>
+    requires searched { searched ≤ length bytes.now }
+    requires unended { is_ended text (take searched bytes.now) ≡ false }
     ensures within { IfSome result (λ n. n ≤ length bytes.now) }
     ensures length { IfSome result (λ n. n ≡ length (text_front text bytes.now)) }
     ensures uncut { IfSome result (λ _. (nat_lt (length bytes.now) wanted && not (is_ended text bytes.now)) ≡ false) }
     ensures cut { result ≡ None → (nat_lt (length bytes.now) wanted && not (is_ended text bytes.now)) ≡ true }
 {
-    match ended_length(text, bytes) {
-        Some(length) => Some(length),
+    match ended_behind(text, &bytes[..searched], &bytes[searched..]) {
+        Some(more) => Some(searched + more),
         None if bytes.len() < wanted => None,
         None => Some(bytes.len()),
     }

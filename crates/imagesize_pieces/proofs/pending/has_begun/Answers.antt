@@ -1,5 +1,5 @@
 use Rattle.std.proofs.Common.{not, ap, ◌∙◌, arith}
-use Rattle.imagesize_pieces.proofs.Unended.{begun_at}
+use Rattle.imagesize_source.proofs.Unended.{begun_at}
 use Rattle.imagesize_pieces.proofs.pending.has_begun.Goals as goal
 
 pub returns-then-count-gt0 : goal.returns-then-count-gt0

@@ -1,5 +1,5 @@
 use Rattle.std.proofs.Common.{◌++◌, not, sym, ap, ◌∙◌}
-use Rattle.imagesize_pieces.proofs.Unended.{line_on}
+use Rattle.imagesize_source.proofs.Unended.{line_on}
 use Rattle.imagesize_source.specs.Text.{is_ended}
 use Rattle.imagesize_pieces.proofs.pending.stays_pending.Goals as goal
 

@@ -1,7 +1,7 @@
 use Rattle.std.proofs.Common.{not, cond, sym, ap, ◌∙◌}
 use Rattle.std.specs.Char.{is_ascii_whitespace}
 use Rattle.std.specs.List.{list_any}
-use Rattle.imagesize_pieces.proofs.Unended.{word_on}
+use Rattle.imagesize_source.proofs.Unended.{word_on}
 use Rattle.imagesize_source.specs.Text.{is_ended}
 use Rattle.imagesize_source.specs.declared.text.Text.TheVariants.{Word}
 use Rattle.imagesize_pieces.proofs.pending.word_stays_pending.Goals as goal

@@ -1,8 +1,14 @@
-use Rattle.std.proofs.Common.{◌-◌, ◌+◌, refl, sym, ◌++◌}
+use Rattle.std.proofs.Common.{◌-◌, ◌+◌, arith, refl, sym, ◌++◌}
 use Rattle.imagesize_pieces.specs.Stream.{came}
 use Rattle.imagesize_pieces.proofs.Streaming.{run_is, both_bytes}
 use Rattle.imagesize_source.proofs.KnownReadings.{cut_is, parts_text, parts_text_missing, state_is}
+use Rattle.imagesize_source.proofs.Unended.{open_part}
 use Rattle.imagesize_pieces.proofs.source.StreamSource.gather_text.Goals as goal
+
+pub uncut_length-requires-clause-unended : goal.uncut_length-requires-clause-unended
+uncut_length-requires-clause-unended c =
+    open_part c.args.text _ _ c.args.offset c.args.searched _ _ c.fill_known-found.ensures.copied
+    (omega (arith, c.min-searched.ensures)) (omega (arith, c.min-searched.ensures)) c.requires
 
 pub returns-in_default-clause-runs : goal.returns-in_default-clause-runs
 returns-in_default-clause-runs c =

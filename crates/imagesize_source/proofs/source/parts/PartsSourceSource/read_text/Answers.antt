@@ -3,6 +3,7 @@ use Rattle.std.proofs.lemmas.List.{length-take, take-take}
 use Rattle.imagesize_source.specs.Input.{part}
 use Rattle.imagesize_source.specs.Text.{is_ended, text_front}
 use Rattle.imagesize_source.proofs.Gathering.{front_there}
+use Rattle.imagesize_source.proofs.Unended.{open_first}
 use Rattle.imagesize_source.proofs.KnownReadings.{parts_ended, state_is}
 use Rattle.imagesize_source.proofs.source.parts.PartsSourceSource.read_text.Goals as goal
 
@@ -20,22 +21,35 @@ again n bs there =
     let long : length (take n bs) ≡ n = omega (arith, length-take n bs, there) in
     ap (λ k. take k (take n bs)) long ∙ take-take n n bs (omega arith)
 
+pub gather_text-requires : goal.gather_text-requires
+gather_text-requires c =
+    let s = c.args.self.now in
+    let bs : List ℕ = c.bytes_behind-run.result.now in
+    let n : ℕ = c.min-searched.result in
+    let fits : n ≤ length bs = omega (arith, c.min-searched.ensures) in
+    let there = front_there s.told s.spans.now s.bytes.now s.front.now s.front_known (take n bs) c.args.offset
+    (first_part s.front.now bs c.args.offset n fits c.bytes_behind-run.ensures) in
+    let long : length (take n bs) ≡ n = omega (arith, length-take n bs, fits) in
+    ap (is_ended c.args.text) (sym (ap (part _ c.args.offset) long) ∙ sym there.1 ∙ again n bs fits)
+    ∙ open_first c.args.text bs n (length c.copy_ended.new.buffer) (omega (arith, c.min-searched.ensures))
+    (c.copy_ended.ensures.open c.in_default.is)
+
 pub returns-clause-pays : goal.returns-clause-pays
 returns-clause-pays c = λ some behind.
     let s = c.args.self.now in
-    let bs : List ℕ = c.bytes_behind.result.now in
+    let bs : List ℕ = c.bytes_behind-run.result.now in
     let there = front_there s.told s.spans.now s.bytes.now s.front.now s.front_known (take c.in-Some.count bs) c.args.offset
-    (first_part s.front.now bs c.args.offset c.in-Some.count c.in-Some.ensures.there c.bytes_behind.ensures) in
+    (first_part s.front.now bs c.args.offset c.in-Some.count c.in-Some.ensures.there c.bytes_behind-run.ensures) in
     absurd (omega (arith, some, behind, there.0, length-take c.in-Some.count bs, c.in-Some.ensures.there))
 
 pub returns-clause-runs : goal.returns-clause-runs
 returns-clause-runs c =
     let s = c.args.self.now in
     let has = c.in-Some.ensures in
-    let bs : List ℕ = c.bytes_behind.result.now in
+    let bs : List ℕ = c.bytes_behind-run.result.now in
     let n : ℕ = c.in-Some.count in
     let there = front_there s.told s.spans.now s.bytes.now s.front.now s.front_known (take n bs) c.args.offset
-    (first_part s.front.now bs c.args.offset n has.there c.bytes_behind.ensures) in
+    (first_part s.front.now bs c.args.offset n has.there c.bytes_behind-run.ensures) in
     let long : length (take n bs) ≡ n = omega (arith, length-take n bs, has.there) in
     parts_ended s.told s.spans.now s.bytes.now s.log.spans s.missed _ c.args.text c.copy_ended.new.buffer c.args.offset n
     has.bound (omega (arith, there.0, long))
