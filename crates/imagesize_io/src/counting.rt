@@ -1,6 +1,6 @@
 //! The bytes of a reader in memory, as a source that counts them.
 ghost use Rattle.std.specs.Prelude.{◌≡◌, ℕ, ◌+◌, ◌<◌, ◌≤◌, true, false, List, None, length, option_map};
-ghost use Rattle.imagesize_source.specs.Limits.{allowance};
+ghost use Rattle.imagesize_source.specs.Limits.{allowance, most_held};
 ghost use Rattle.imagesize_io.specs.Memory.{IsMemory, IsPaid, IsSpent, counting_state};
 ghost use Rattle.imagesize_io.specs.Telling.{at_offset};
 
@@ -28,6 +28,7 @@ pub struct CountingSource<'a> {
     ghost within: { left ≤ length bytes.now + allowance },
     ghost there: { position ≤ length bytes.now },
     ghost same: { free ≡ front },
+    ghost held: { front ≤ most_held },
 }
 
 impl<'a> CountingSource<'a> {
@@ -114,7 +115,7 @@ impl<'a> CountingSource<'a> {
         self.left -= end - start;
         self.position = end;
         if offset <= self.front {
-            self.front = end.min(WINDOW as u64).max(self.front);
+            self.front = end.min(WINDOW as u64);
             self.free = self.front;
         }
         true
