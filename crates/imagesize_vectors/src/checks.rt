@@ -151,7 +151,11 @@ fn is_traced<A: Allocator>(
 
 fn check_trace(alloc: Global, row: &Row<'_>, spans: &[Span]) -> Result<(), Wrong> {
     let trace = blob_trace(alloc, &row.bytes)?;
-    holds(is_traced(alloc, row, spans, &trace)?, "the trace")
+    holds(is_traced(alloc, row, spans, &trace)?, "the trace")?;
+    holds(
+        trace.spans.capacity() <= most_capacity(spans.len()),
+        "a capacity for more spans than there are",
+    )
 }
 
 /// Whether one of the spans has this offset.
@@ -182,6 +186,11 @@ fn check_free_bytes(alloc: Global, row: &Row<'_>, spans: &[Span]) -> Result<(), 
         }
     }
     Ok(())
+}
+
+// The largest capacity that a trace of so many spans may have. A `Vec` that is not empty has a capacity of at least four.
+fn most_capacity(spans: usize) -> usize {
+    if spans == 0 { 0 } else { spans.max(4) }
 }
 
 // How often memory is allocated for so many spans.
