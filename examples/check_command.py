@@ -472,6 +472,7 @@ def check_test_vectors(program, worked):
 
 def main(program, worked):
     program, worked = (str(pathlib.Path(path).resolve()) for path in (program, worked))
+    signal.signal(signal.SIGINT, signal.default_int_handler)  # a background job ignores interrupts, and so would the commands
     with tempfile.TemporaryDirectory() as folder:
         os.chdir(folder)
         os.makedirs("below/deep")

@@ -21,6 +21,10 @@ PACKAGE = pathlib.Path(imagesize_proved.__file__).resolve().parent.parent
 CUT = b"\xff\xd8\xff\xe0\0\x10JFIF\0\1"
 
 
+def setUpModule() -> None:
+    signal.signal(signal.SIGINT, signal.default_int_handler)  # a background job ignores interrupts, and so would the commands
+
+
 class Terminal(io.StringIO):
     def isatty(self) -> bool:
         return True
