@@ -43,7 +43,7 @@ none_found {a} {b} halt offset h =
 bounded_kind : IsBounded kind_reads
 bounded_kind d offset = omega (arith, kind_within d offset)
 
-bounded_meaning : IsBounded meaning_reads
+pub bounded_meaning : IsBounded meaning_reads
 bounded_meaning d offset = omega (arith, cost_within d offset)
 
 -- the type that a reader was found to hold
@@ -115,7 +115,7 @@ probes_opened (Some t) mid count home opened a b probed r is start told opens h 
       short = λ few goes_on. sym (answers.answer goes_on) ∙ no_meaning t.bytes t.offset few;
     }
 
-bounded_size : (type : ImageType) → IsBounded (λ d offset. size_reads type d)
+pub bounded_size : (type : ImageType) → IsBounded (λ d offset. size_reads type d)
 bounded_size type d offset = omega (arith, size_within type d)
 
 -- the size that a reader was found to have, read as a type

@@ -35,7 +35,8 @@ use Rattle.imagesize_source.specs.Way.{Way, Fixed, Recorded, Texts, by_way}
 use Rattle.imagesize_source.specs.declared.endian.Endian.TheVariants.{Big, Little}
 use Rattle.imagesize_source.specs.declared.halt.Halt.{Halt}
 use Rattle.imagesize_source.specs.declared.span.Span.{Span}
-use Rattle.imagesize_source.proofs.Counts.{text_length}
+use Rattle.imagesize_io.proofs.Leaving.{EndsWithin}
+use Rattle.imagesize_source.proofs.Counts.{place_within, text_length}
 use Rattle.imagesize_source.proofs.Parts.{part_length}
 
 one_within : (n : ℕ) (s : Span) → IsWithin n s → AreWithin n (s ∷ [])
@@ -184,6 +185,15 @@ unfolding meaning_reads
 meaning_within d offset =
     then_within (length d) (kind_reads d offset) (λ found. size_reads found d) (layout_within d (kind (length d) offset))
     (λ found. size_within found d)
+
+-- so no reader is left past the end of its bytes
+pub meaning_ends : EndsWithin meaning_reads
+meaning_ends t = place_within (length t.bytes) 0 (length t.bytes) (meaning_reads t.bytes t.offset).marks (omega arith)
+    (λ k s below. (meaning_within t.bytes t.offset k s below).1)
+
+pub size_ends : (type : ImageType) → EndsWithin (λ d offset. size_reads type d)
+size_ends type t = place_within (length t.bytes) 0 (length t.bytes) (size_reads type t.bytes).marks (omega arith)
+    (λ k s below. (size_within type t.bytes k s below).1)
 
 -- there are no more of them than they are long
 count_within : (n : ℕ) (spans : List Span) → AreWithin n spans → length spans ≤ total spans

@@ -1,6 +1,6 @@
 //! The calls: type and size of the image in a slice, or in a reader's bytes.
 ghost use Rattle.std.specs.Prelude.{◌≡◌, ℕ, ◌+◌, ◌<◌, ◌≤◌, List, length, ◌++◌, IsTrue, IfOk, IsOkAnd, IfErr, IfSome, IsSome, Some, true, false, Option, Ok, Err, option_map};
-ghost use Rattle.imagesize_io.specs.Answers.{Answers, CountsWithin, IsLast, Leaves};
+ghost use Rattle.imagesize_io.specs.Answers.{Answers, CountsWithin, IsLast, Leaves, LeavesAt};
 ghost use Rattle.imagesize_source.specs.Limits.{allowance};
 ghost use Rattle.imagesize_source.specs.Errors.{end_of_input, is_fault, is_memory, budget_spent, is_stopped};
 ghost use Rattle.imagesize_source.specs.Reading.{is_stopped as has_stopped};
@@ -207,7 +207,9 @@ pub fn reader_size<R: Told>(mut reader: R) -> ImageResult<ImageSize>
 
 /// Reads type and size of the image in a reader's bytes, and counts the bytes that are read for them.
 ///
-/// The errors are those of `reader_size`. Afterwards the reader's offset is unspecified, and the reader may be used again.
+/// The errors are those of `reader_size`. Afterwards the reader may be used again. A reader whose calls cannot fail is left where
+/// the last read ended that gave a byte past the kept ones. If no read gave one, it is left at its end. The first bytes of the
+/// input, at most 32, are kept.
 ///
 /// ```
 /// use imagesize::reader_probe;
@@ -229,6 +231,10 @@ pub fn reader_probe<R: Told>(reader: &mut R) -> Probed
     // A `Fault` carries the error of the last call that failed, and the reader may be used again.
     ensures fault { IfErr result.answer (λ e. is_fault e ≡ true → IsLast (R.failure reader.new) e) }
     ensures leaves { Leaves (R.telling reader.old) (R.telling reader.new) }
+
+    // An honest reader that cannot fail is left where the last read ended that gave a byte past the kept ones. If no read gave one,
+    // it is left at its end.
+    ensures offset { LeavesAt (R.telling reader.old) (R.telling reader.new) meaning }
 {
     let opened = match open(reader, Origin::Offset) {
         Ok(opened) => opened,
@@ -268,8 +274,8 @@ impl ImageType {
     /// Reads the size in pixels of the image in a reader's bytes, as this type.
     ///
     /// The size is read at offsets from the first byte of the input, whatever the reader's offset. The bytes need not be of
-    /// this type. The errors are those of `reader_size` except `NotSupported`. Afterwards the reader's offset is unspecified,
-    /// and the reader may be used again.
+    /// this type. The errors are those of `reader_size` except `NotSupported`. Afterwards the reader may be used again. It is left
+    /// where `reader_probe` would leave it after the same reads.
     ///
     /// ```
     /// use imagesize::ImageType;
@@ -289,6 +295,10 @@ impl ImageType {
         // A `Fault` carries the error of the last call that failed, and the reader may be used again.
         ensures fault { IfErr result (λ e. is_fault e ≡ true → IsLast (R.failure reader.new) e) }
         ensures leaves { Leaves (R.telling reader.old) (R.telling reader.new) }
+
+        // An honest reader that cannot fail is left where the last read ended that gave a byte past the kept ones. If no read gave
+        // one, it is left at its end.
+        ensures offset { LeavesAt (R.telling reader.old) (R.telling reader.new) (λ d offset. size_of self.now d) }
     {
         let opened = open(reader, Origin::Start)?;
         size_by(*self, reader, opened)
@@ -338,6 +348,8 @@ fn size_by<R: Told>(kind: ImageType, reader: &mut R, opened: Opened) -> ImageRes
     ensures fault { IfErr result (λ e. is_fault e ≡ true → IsLast (R.failure reader.new) e) }
     ensures leaves { (telling : Option Telling) → Opens telling (R.telling reader.old) (Ok opened)
         → Leaves telling (R.telling reader.new) }
+    ensures offset { (telling : Option Telling) → Opens telling (R.telling reader.old) (Ok opened)
+        → LeavesAt telling (R.telling reader.new) (λ d offset. size_of kind d) }
 {
     let Some(bytes) = reader.in_memory() else {
         return size_opened(kind, reader, opened);
@@ -376,6 +388,8 @@ fn size_opened<R: Told>(kind: ImageType, reader: &mut R, opened: Opened) -> Imag
     ensures fault { IfErr result (λ e. is_fault e ≡ true → IsLast (R.failure reader.new) e) }
     ensures leaves { (telling : Option Telling) → Opens telling (R.telling reader.old) (Ok opened)
         → Leaves telling (R.telling reader.new) }
+    ensures offset { (telling : Option Telling) → Opens telling (R.telling reader.old) (Ok opened)
+        → LeavesAt telling (R.telling reader.new) (λ d offset. size_of kind d) }
 {
     let mut source = ReaderSource::new(reader, opened.told);
     let found = size(&mut source, kind);
@@ -396,6 +410,8 @@ fn probe_opened<R: Told>(reader: &mut R, opened: Opened) -> Probed
     ensures fault { IfErr result.answer (λ e. is_fault e ≡ true → IsLast (R.failure reader.new) e) }
     ensures leaves { (telling : Option Telling) → Opens telling (R.telling reader.old) (Ok opened)
         → Leaves telling (R.telling reader.new) }
+    ensures offset { (telling : Option Telling) → Opens telling (R.telling reader.old) (Ok opened)
+        → LeavesAt telling (R.telling reader.new) meaning }
 {
     let mut source = ReaderSource::new(reader, opened.told);
     let (kind, found) = probe(&mut source, opened.offset);

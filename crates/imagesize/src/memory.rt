@@ -1,6 +1,6 @@
 //! Calls over bytes in memory.
 ghost use Rattle.std.specs.Prelude.{◌≡◌, ◌≤◌, length, IfOk, IfErr, IfSome, IsSome, false, Option, Ok, Err};
-ghost use Rattle.imagesize_io.specs.Answers.{Answers};
+ghost use Rattle.imagesize_io.specs.Answers.{Answers, PlacedAt};
 ghost use Rattle.imagesize_io.specs.Memory.{IsMemory};
 ghost use Rattle.imagesize_io.specs.ReaderState.{Opens};
 ghost use Rattle.imagesize_io.specs.Telling.{Telling};
@@ -68,6 +68,8 @@ pub(crate) fn memory_probe(bytes: &[u8], opened: Opened) -> Counted
         (λ budget. (budget ≡ result.taken) × (allowance ≤ budget))) }
     ensures memory { IfErr (counted_probe (length bytes.now) result).answer (λ e. is_memory e ≡ false) }
     ensures there { result.position ≤ length bytes.now }
+    ensures offset { (telling mid : Option Telling) → Opens telling mid (Ok opened) → IsMemory mid bytes.now
+        → PlacedAt telling meaning result.position }
 {
     let mut source = CountingSource::new(bytes);
     let (kind, found) = probe(&mut source, opened.offset);
@@ -114,6 +116,8 @@ pub(crate) fn memory_size_as(kind: ImageType, bytes: &[u8]) -> (Result<ImageSize
     ensures spent { IfErr (counted_answer (length bytes.now) result.0) (λ e. IfSome (budget_spent e) (λ budget. allowance ≤ budget)) }
     ensures memory { IfErr (counted_answer (length bytes.now) result.0) (λ e. is_memory e ≡ false) }
     ensures there { result.1 ≤ length bytes.now }
+    ensures offset { (telling mid : Option Telling) (opened : Opened) → Opens telling mid (Ok opened) → IsMemory mid bytes.now
+        → PlacedAt telling (λ d offset. size_of kind d) result.1 }
 {
     let mut source = CountingSource::new(bytes);
     let found = size(&mut source, kind);

@@ -17,36 +17,37 @@ use Rattle.imagesize_source.specs.State.{Runs, new_bytes, state_after, total}
 use Rattle.imagesize_source.specs.declared.halt.Halt.TheVariants.{Spent}
 use Rattle.imagesize_source.specs.declared.text.Text.{Text}
 
-paid_state : (d : List ℕ) (front left front' left' offset n : ℕ) → left ≤ length d + 64 → IsPaid front left front' left' offset n
-    → counting_state d front' left' ≡ state_after (counting_state d front left) (span_at offset n)
-paid_state d front left front' left' offset n within paid =
-    let taken : (length d + 64) - left' ≡ ((length d + 64) - left) + new_bytes front offset n = omega (arith, paid.1, within) in
-    rw (paid.0, taken) (sym (past-span (counting_state d front left) offset n refl refl))
+paid_state : (d : List ℕ) (front left place front' left' place' offset n : ℕ) → left ≤ length d + 64
+    → IsPaid front left place front' left' place' offset n
+    → counting_state d front' left' place' ≡ state_after (counting_state d front left place) (span_at offset n)
+paid_state d front left place front' left' place' offset n within paid =
+    let taken : (length d + 64) - left' ≡ ((length d + 64) - left) + new_bytes front offset n = omega (arith, paid.paid, within) in
+    rw (paid.held, paid.moved, taken) (sym (past-span (counting_state d front left place) offset n refl refl))
 
 -- a read whose bytes were counted
-pub paid_runs : (d got : List ℕ) (reads : Reads (List ℕ)) (front left front' left' offset n : ℕ) → length d < 2 ^ 63
+pub paid_runs : (d got : List ℕ) (reads : Reads (List ℕ)) (front left place front' left' place' offset n : ℕ) → length d < 2 ^ 63
     → left ≤ length d + 64 → reads.answer ≡ Ok got → reads.marks ≡ span_at offset n
-    → IsPaid front left front' left' offset n
-    → Runs (counting_state d front left) (counting_state d front' left') (Ok got) reads
-paid_runs d got reads front left front' left' offset n short within is marks paid = record {
+    → IsPaid front left place front' left' place' offset n
+    → Runs (counting_state d front left place) (counting_state d front' left' place') (Ok got) reads
+paid_runs d got reads front left place front' left' place' offset n short within is marks paid = record {
   sound = λ honest. (refl, short);
   sound_after = λ honest. (refl, short);
   frame = refl;
-  taken = omega (arith, paid.1, within);
-  within = λ honest. omega (arith, paid.1, within, ap total marks, total-span_at offset n);
+  taken = omega (arith, paid.paid, within);
+  within = λ honest. omega (arith, paid.paid, within, ap total marks, total-span_at offset n);
   answer = λ honest goes_on. is;
-  state = λ honest goes_on. paid_state d front left front' left' offset n within paid
-      ∙ ap (state_after (counting_state d front left)) (sym marks);
+  state = λ honest goes_on. paid_state d front left place front' left' place' offset n within paid
+      ∙ ap (state_after (counting_state d front left place)) (sym marks);
   fault = λ honest faults. absurd cc;
   misses = λ honest faults. absurd cc;
   ended = tt;
 }
 
 -- a read that the budget does not have
-pub spent_runs : (d : List ℕ) (reads : Reads (List ℕ)) (front left front' left' offset n : ℕ) → length d < 2 ^ 63
+pub spent_runs : (d : List ℕ) (reads : Reads (List ℕ)) (front left place front' left' place' offset n : ℕ) → length d < 2 ^ 63
     → left ≤ length d + 64 → reads.marks ≡ span_at offset n → IsSpent front left left' offset n
-    → Runs {X = List ℕ} (counting_state d front left) (counting_state d front' left') (Err Spent) reads
-spent_runs d reads front left front' left' offset n short within marks spent = record {
+    → Runs {X = List ℕ} (counting_state d front left place) (counting_state d front' left' place') (Err Spent) reads
+spent_runs d reads front left place front' left' place' offset n short within marks spent = record {
   sound = λ honest. (refl, short);
   sound_after = λ honest. (refl, short);
   frame = refl;
@@ -96,7 +97,7 @@ at_memory t d offset bytes fails interrupts = rw (bytes, fails, interrupts) refl
 
 counted_start : (d : List ℕ) → length d < 2 ^ 63
     → start_state (Some (record { bytes = d; offset = length d; can_fail = false; interruptions = 0 })) None 0 (length d)
-    ≡ counting_state d 0 (length d + 64)
+    ≡ counting_state d 0 (length d + 64) (length d)
 counted_start d short =
     let n = length d in
     let below : ltb n (2 ^ 63) ≡ true = grind (arith, nat_tests) in
@@ -108,7 +109,7 @@ counted_start d short =
 
 -- bytes in memory are the source over their reader, once it was opened
 pub counting_starts : (telling mid : Option Telling) (opened : Opened) (d : List ℕ) → length d < 2 ^ 63
-    → Opens telling mid (Ok opened) → IsMemory mid d → counting_state d 0 (length d + 64) ≡ start_state mid None 0 opened.told
+    → Opens telling mid (Ok opened) → IsMemory mid d → counting_state d 0 (length d + 64) (length d) ≡ start_state mid None 0 opened.told
 counting_starts None mid opened d short opens memory = absurd (subst (λ m. IsMemory m d) opens memory)
 counting_starts (Some t) mid opened d short opens memory =
     let there = subst (λ m. IsMemory m d) opens.0 memory in

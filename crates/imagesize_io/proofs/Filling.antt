@@ -28,6 +28,7 @@ pub record Filling (first now : Option Standing) (a b : Account) (old new : Prog
   pub counts : drift b.count new.taken ≡ drift a.count old.taken
   pub behind : behind b.telling new ≡ behind a.telling old
   pub calm : new.fault ≡ old.fault
+  pub place : new.position ≡ old.position
   pub keeps : KeepsCounts old new
 
 none_reached : (first : Option Standing) (buffer : List ℕ) → Filled first first 0 buffer
@@ -46,6 +47,7 @@ filled_none first a p buffer small = record {
   counts = refl;
   behind = refl;
   calm = refl;
+  place = refl;
   keeps = record { told = refl; budget = refl; taken = omega arith; retries = omega arith; limit = λ few. few };
 }
 
@@ -109,6 +111,7 @@ filling_more {first} {filled = filled} {buffer = buffer} {more = more} {n = n} h
   counts = read.since ∙ h.counts;
   behind = read.behind ∙ h.behind;
   calm = read.calm ∙ h.calm;
+  place = read.place ∙ h.place;
   keeps = keeps_both h.keeps read.keeps;
 }
 
@@ -170,6 +173,7 @@ filling_done {filled = filled} {buffer = buffer} {more = more} {n = n} h read no
   since = read.since ∙ h.counts;
   behind = read.behind ∙ h.behind;
   calm = read.calm ∙ h.calm;
+  place = read.place ∙ h.place;
   keeps = keeps_both h.keeps read.keeps;
   stops = tt;
 }
@@ -198,6 +202,7 @@ filling_stopped {first} {old = old} {newer = newer} {filled = filled} {buffer = 
       since = read.since ∙ h.counts;
       behind = read.behind ∙ h.behind;
       calm = tt;
+      place = tt;
       keeps = keeps_both h.keeps read.keeps;
       stops = read.stops;
     }

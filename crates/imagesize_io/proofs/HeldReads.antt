@@ -168,7 +168,8 @@ held_reads {old} {new} {a} {offset} bytes holds uncounted many ahead near far sm
     let read : ReadsFrom p q (stand a.telling p) (stand a.telling q) a a offset bytes (Ok n) = record {
       bound = omega arith;
       stand = gives;
-      stands = λ told. passed.position;
+      moves = λ some. passed.position;
+      stays = λ none. absurd (omega (arith, many, none));
       taken = passed.taken;
       within = within_given (stand a.telling p) (stand a.telling q) offset q.offset n p.taken q.taken bytes gives passed.taken;
       pays = λ beyond some. absurd (omega (arith, near, beyond));

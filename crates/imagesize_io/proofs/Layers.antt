@@ -84,6 +84,7 @@ module _ {old new : Ledger} {a b : Account} where
       enough = read.bound;
       long = copy.long;
       took = read.taken;
+      placed = (read.moves, read.stays);
       window = window;
       within = read.within;
     });

@@ -5,6 +5,7 @@ pub mod Filling
 pub mod Fronts
 pub mod HeldReads
 pub mod Layers
+pub mod Leaving
 pub mod Openings
 pub mod Standings
 pub mod TextReads

@@ -10,14 +10,17 @@ use Rattle.imagesize_source.specs.Outcome.{outcome_of, stated}
 use Rattle.imagesize_source.proofs.Halts.{failed_is, stated_goes_on, stated_same}
 use Rattle.imagesize_io.specs.declared.reader.Opened.{Opened}
 use Rattle.std.specs.declared.io.Error.{Error}
-use Rattle.imagesize_io.specs.Answers.{AnswersAs, TakesAs, Answers, IsLast, Leaves, Takes}
+use Rattle.imagesize_io.specs.Answers.{AnswersAs, TakesAs, Answers, IsLast, Leaves, Takes, left_by}
 use Rattle.imagesize_io.specs.Standing.{behind_of, in_all}
 use Rattle.imagesize_io.specs.StopOf.{fault_of, last_failed}
 use Rattle.imagesize_source.specs.Reading.{Reads, is_failure, is_stop, is_stopped, is_spent}
 use Rattle.imagesize_io.specs.ReaderState.{start_state, Opens}
-use Rattle.imagesize_source.specs.State.{Behind, EndedBy, State, Held, Runs, state_after, total}
+use Rattle.imagesize_source.specs.State.{Behind, EndedBy, State, Held, Runs, place_by, state_after, total}
 use Rattle.imagesize_io.specs.Telling.{Telling, IsHonest, at_offset}
-use Rattle.imagesize_source.proofs.Counts.{offsets_past}
+use Rattle.imagesize_source.proofs.Counts.{offsets_past, place_past}
+use Rattle.imagesize_source.proofs.Runs.{past-held}
+use Rattle.imagesize_source.specs.declared.span.Span.{Span}
+use Rattle.std.proofs.lemmas.Bool.{false_from_ne_true}
 
 few_leb : (n : ℕ) → n ≤ 64 → leb (n + 0) 64 ≡ true
 few_leb n h = grind (arith, nat_tests)
@@ -224,6 +227,45 @@ opened_takes (Some t) mid count home opened b r reads_of told opens h = λ hones
     takes_of t _ b r (reads_of t.bytes t.offset) (starts_at t count home honest)
     (runs_of t mid count home opened.told opened.offset b r
     reads_of honest began h) told
+
+-- what is known of a source after a call, over an honest reader that cannot fail
+pub record Placed (t : Telling) (b : State) (spans : List Span) : Type 0 where
+  pub told : b.frame.told ≡ length t.bytes
+  pub held : b.held ≡ claim t
+  pub place : b.place ≡ left_by t spans
+
+never_stopped : {X : Type 0} (t : Telling) (a b : State) (r : Result X Halt) (reads : Reads X) → Starts t a → Runs a b r reads
+    → total reads.marks < length t.bytes + 64 → t.can_fail ≡ false → is_stopped r ≡ false
+never_stopped t a b (Ok x) reads starts run small never = refl
+never_stopped t a b (Err halt) reads starts run small never = false_from_ne_true (is_stop halt) (λ stops.
+    let only = fault_only t a b halt reads starts run small stops in
+    let no : true ≡ false = sym only.1 ∙ never in (cc))
+
+placed_of : {X : Type 0} (t : Telling) (a b : State) (r : Result X Halt) (reads : Reads X) → Starts t a → Runs a b r reads
+    → total reads.marks < length t.bytes + 64 → t.can_fail ≡ false → a.frame.told ≡ length t.bytes → a.place ≡ length t.bytes
+    → Placed t b reads.marks
+placed_of t a b r reads starts run small never told at_end =
+    let honest : a.held.honest ≡ true = ap (λ k. k.honest) starts.held in
+    let after : b ≡ state_after a reads.marks = run.state honest (never_stopped t a b r reads starts run small never) in
+    record {
+      told = ap (λ f. f.told) run.frame ∙ told;
+      held = ap (λ s. s.held) after ∙ past-held a reads.marks ∙ starts.held;
+      place = ap (λ s. s.place) after ∙ place_past a reads.marks starts.counts
+          ∙ ap (λ n. place_by n a.place reads.marks) starts.front
+          ∙ ap (λ n. place_by 0 n reads.marks) at_end;
+    }
+
+-- where a call that ran behind an opening left its source
+pub opened_placed : {X : Type 0} (t : Telling) (mid : Option Telling) (count : Option ℕ) (home : ℕ) (opened : Opened)
+    (b : State) (r : Result X Halt) (reads_of : List ℕ → ℕ → Reads X) → IsBounded reads_of → Opens (Some t) mid (Ok opened)
+    → Runs (start_state mid count home opened.told) b r
+    (over_state (start_state mid count home opened.told) reads_of opened.offset)
+    → IsHonest t → t.can_fail ≡ false → Placed t b (reads_of t.bytes t.offset).marks
+opened_placed t mid count home opened b r reads_of bounded opens h honest never =
+    let began : Began t mid opened.told opened.offset =
+    record { at_end = opens.0; length_told = opens.2; at = opens.1 } in
+    placed_of t _ b r (reads_of t.bytes t.offset) (starts_at t count home honest)
+    (runs_of t mid count home opened.told opened.offset b r reads_of honest began h) (bounded t.bytes t.offset) never refl refl
 
 -- no more interruptions are left than come in all
 fewer_left : (b : Bool) (n k : ℕ) → cond b (Some n) None ≡ Some k → n ≤ k

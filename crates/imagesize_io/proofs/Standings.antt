@@ -1,6 +1,7 @@
 -- How a reader stands after its calls.
-use Rattle.std.proofs.Common.{◌≡◌, ℕ, ◌+◌, ◌-◌, ◌^◌, ◌<◌, ◌≤◌, min, Bool, true, false, cond, List, length, Option, Some, None, Ok, Err, IfSome, refl, sym, ap, ◌∙◌, subst, arith}
+use Rattle.std.proofs.Common.{◌≡◌, ℕ, ◌+◌, ◌-◌, ◌^◌, ◌<◌, ◌≤◌, min, Bool, true, false, ◌||◌, cond, leb, List, length, Option, Some, None, Ok, Err, IfSome, refl, sym, ap, ◌∙◌, subst, arith}
 use Rattle.std.proofs.lemmas.Bool.Decides.{nat_tests}
+use Rattle.std.specs.Prelude.{IsSomeAnd}
 use Rattle.imagesize_source.specs.declared.halt.Halt.{Halt}
 use Rattle.imagesize_io.specs.declared.progress.Progress.{Progress}
 use Rattle.imagesize_source.specs.Input.{part}
@@ -33,6 +34,23 @@ pub told_at : (telling : Option Telling) (p : Progress) (s : Standing) → stand
     → (p.told ≡ length s.bytes)
     × (length s.bytes < 2 ^ 63)
 told_at telling p s e = let k = in_step_at telling p s e in (grind (arith, nat_tests), grind (arith, nat_tests))
+
+steady_is : (telling : Option Telling) (retries : ℕ) (s : Standing) → steady telling retries ≡ Some s
+    → IsSomeAnd telling (λ u. s ≡ record { bytes = u.bytes; offset = u.offset; can_fail = u.can_fail })
+steady_is None retries s e = absurd cc
+steady_is (Some u) retries s e =
+    sym (kept_if (u.can_fail || leb (u.interruptions + retries) 64) (record { bytes = u.bytes; offset = u.offset; can_fail = u.can_fail }) s e).1
+
+stand_is : (told offset : ℕ) (fault : Option Error) (st : Option Standing) (s : Standing) → stand_of told offset fault st ≡ Some s
+    → st ≡ Some s
+stand_is told offset fault None s e = absurd cc
+stand_is told offset fault (Some t) s e = ap Some (kept_if (in_step told offset fault t) t s e).1
+
+-- it is the one of the model
+pub model_at : (telling : Option Telling) (p : Progress) (s : Standing) → stand telling p ≡ Some s
+    → IsSomeAnd telling (λ u. s ≡ record { bytes = u.bytes; offset = u.offset; can_fail = u.can_fail })
+model_at telling p s e =
+    steady_is telling p.retries s (stand_is p.told p.offset p.fault (steady telling p.retries) s e)
 
 -- an offset that was not reached has no bytes
 pub not_reached : (first new : Option Standing) (offset now : ℕ) (b : Bool) (buffer : List ℕ)
@@ -105,6 +123,9 @@ calm_in told offset (Some error) s e =
 none_kept : (fault fault' : Option Error) (failure failure' : Option (Option Error)) → fault ≡ None → fault' ≡ fault
     → failures_of fault' failure' ≡ failures_of fault failure
 none_kept fault fault' failure failure' none same = rw (same, none) refl
+
+pub calm_of : (telling : Option Telling) (p : Progress) (s : Standing) → stand telling p ≡ Some s → p.fault ≡ None
+calm_of telling p s e = calm_in p.told p.offset p.fault s (in_step_at telling p s e)
 
 -- so a call that does not fail changes nothing of the last failure
 pub calm_at : (a b : Account) (p q : Progress) → q.fault ≡ p.fault

@@ -14,7 +14,7 @@ use Rattle.imagesize_source.specs.declared.text.Text.TheVariants.{Line, Word}
 use Rattle.imagesize_source.specs.Input.{part, span_at, span_of}
 use Rattle.imagesize_source.specs.Paying.{Paid}
 use Rattle.imagesize_source.specs.Reading.{part_read, text_part, text_read}
-use Rattle.imagesize_source.specs.State.{State, Runs, IsSound, total, state_after, step, new_bytes, front_after}
+use Rattle.imagesize_source.specs.State.{State, Runs, IsSound, total, state_after, step, new_bytes, front_after, place_after}
 use Rattle.imagesize_io.specs.declared.progress.Progress.{Progress}
 use Rattle.imagesize_io.specs.Held.{is_line}
 use Rattle.imagesize_io.specs.ReaderState.{reader_frame, reader_state}
@@ -28,7 +28,7 @@ use Rattle.imagesize_source.proofs.Agreement.{span-some, whole_span}
 use Rattle.imagesize_source.proofs.Runs.{part_is, past-held}
 use Rattle.imagesize_io.proofs.Windows.{sound_at, told_by}
 use Rattle.imagesize_source.proofs.Texts.{front_length, line_front, no_front, through-cons, word_front}
-use Rattle.imagesize_source.proofs.Unended.{through_on}
+use Rattle.imagesize_source.proofs.Unended.{line_front_on}
 use Rattle.imagesize_source.proofs.Parts.{part_length, part_none}
 
 -- what is left of a text behind some of its bytes, of which one was no white space or none was
@@ -80,9 +80,8 @@ rest_some t begun b bs = by_end (ends t begun b) refl where
 -- a line that does not end in some bytes goes on behind them
 pub line_open : (t : Text) (bs more : List ℕ) → is_line t ≡ true → is_ended t bs ≡ false
     → text_front t (bs ++ more) ≡ bs ++ text_rest t false more
-unfolding is_ended
-line_open (Line delimiter) bs more line still = line_front delimiter (bs ++ more)
-    ∙ through_on (delimits (Line delimiter)) bs more still
+line_open (Line delimiter) bs more line still = line_front_on delimiter bs more still
+    ∙ ap (λ xs. bs ++ xs) (line_front delimiter more)
 line_open Word bs more line still = absurd cc
 
 -- the readings of a span and of the byte behind it, by a source that counts and records nothing, are one
@@ -97,12 +96,17 @@ fresh_joins : (front offset n m : ℕ) → 0 < m
     → new_bytes front offset n + new_bytes (front_after front offset n) (offset + n) m ≡ new_bytes front offset (n + m)
 fresh_joins front offset n m some = grind (arith, nat_tests)
 
+place_joins : (front place offset n m : ℕ) → 0 < m
+    → place_after (front_after front offset n) (place_after front place offset n) (offset + n) m
+    ≡ place_after front place offset (n + m)
+place_joins front place offset n m some = grind (arith, nat_tests)
+
 -- a state by what was taken
-abbrev having : State → ℕ → ℕ → State
-having a front taken = record a { front = front; taken = taken; recorded = None }
+abbrev having : State → ℕ → ℕ → ℕ → State
+having a front taken place = record a { front = front; taken = taken; place = place; recorded = None }
 
 step_counts : (a : State) (s : Span) → CountsOnly a → step a s ≡ having a (front_after a.front s.start s.len)
-    (a.taken + new_bytes a.front s.start s.len)
+    (a.taken + new_bytes a.front s.start s.len) (place_after a.front a.place s.start s.len)
 step_counts a s only = let counts = only.0 in let none = only.1 in rw (counts, none) refl
 
 step_joins : (a : State) (offset n m : ℕ) → 0 < m → CountsOnly a → step (step a (record { start = offset; len = n }))
@@ -111,12 +115,16 @@ step_joins a offset n m some only =
     let first = step_counts a (record { start = offset; len = n }) only in
     let front : ℕ = front_after a.front offset n in
     let taken : ℕ = a.taken + new_bytes a.front offset n in
+    let place : ℕ = place_after a.front a.place offset n in
     let more : taken + new_bytes front (offset + n) m ≡ a.taken + new_bytes a.front offset (n + m) =
     omega (arith, fresh_joins a.front offset n m some) in
     ap (λ s. step s (record { start = offset + n; len = m })) first
-    ∙ step_counts (having a front taken) (record { start = offset + n; len = m }) (only.0, refl)
-    ∙ ap (λ w. having a w (taken + new_bytes front (offset + n) m)) (front_joins a.front offset n m some)
-    ∙ ap (λ k. having a (front_after a.front offset (n + m)) k) more
+    ∙ step_counts (having a front taken place) (record { start = offset + n; len = m }) (only.0, refl)
+    ∙ ap (λ w. having a w (taken + new_bytes front (offset + n) m) (place_after front place (offset + n) m))
+    (front_joins a.front offset n m some)
+    ∙ ap (λ k. having a (front_after a.front offset (n + m)) k (place_after front place (offset + n) m)) more
+    ∙ ap (λ o. having a (front_after a.front offset (n + m)) (a.taken + new_bytes a.front offset (n + m)) o)
+    (place_joins a.front a.place offset n m some)
     ∙ sym (step_counts a (record { start = offset; len = n + m }) only)
 
 span_joins : (a : State) (offset n m : ℕ) → 0 < m → CountsOnly a
@@ -462,7 +470,7 @@ one_read {b} {c} d more got next n one is run = subst (λ k. Runs b c (Ok got) (
 -- a reader tells the true length where it is honest
 pub reader_sound : (a : Account) (home : ℕ) (p : Progress) (window : List ℕ) → IsSound (reader_state a home p window)
 reader_sound a home p window =
-    sound_at (reader_frame a home p) (stand a.telling p) (failures_of p.fault a.failure) window p.taken
+    sound_at (reader_frame a home p) (stand a.telling p) (failures_of p.fault a.failure) window p.taken p.position
     (told_by a home p)
 
 -- a buffer of one byte

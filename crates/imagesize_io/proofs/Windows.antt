@@ -1,5 +1,5 @@
 -- What a reading sees through the window of a reader's source.
-use Rattle.std.proofs.Common.{◌≡◌, ◌≢◌, ℕ, ◌+◌, ◌-◌, ◌^◌, ◌<◌, ◌≤◌, min, zero, suc, Bool, true, false, cond, List, [], ◌∷◌, ◌++◌, length, take, drop, leb, eqb, Option, Some, None, Result, Ok, Err, IfSome, refl, sym, ap, ◌∙◌, subst, arith}
+use Rattle.std.proofs.Common.{◌≡◌, ◌≢◌, ℕ, ◌+◌, ◌-◌, ◌^◌, ◌<◌, ◌≤◌, min, max, zero, suc, Bool, true, false, cond, List, [], ◌∷◌, ◌++◌, length, take, drop, leb, eqb, Option, Some, None, Result, Ok, Err, IfSome, refl, sym, ap, ◌∙◌, subst, arith}
 use Rattle.std.proofs.lemmas.Bool.Decides.{nat_tests}
 use Rattle.std.proofs.lemmas.List.{length-append, length-take, length-drop, take-append-le, drop-append-le, take-append-drop, append_assoc, append-nil, take_min, drop_all, take_all}
 use Rattle.std.proofs.Math.Seq.{drop-append-add, take-nil, drop-drop, take-take}
@@ -19,7 +19,7 @@ use Rattle.imagesize_io.specs.Standing.{Standing, GivesFrom, behind, stand, drif
 use borrow.Rule.Slice.PartMut.{put_mid}
 use Rattle.imagesize_io.proofs.Filling.{part-add, take_more, length-put}
 use Rattle.imagesize_source.proofs.Slices.{front_is}
-use Rattle.imagesize_source.specs.State.{Behind as Unchanged, State, Frame, Held, Runs, EndedBy, IsSound, state_after, step, total, new_bytes, front_after, Reader}
+use Rattle.imagesize_source.specs.State.{Behind as Unchanged, State, Frame, Held, Runs, EndedBy, IsSound, state_after, step, total, new_bytes, front_after, place_after, Reader}
 use Rattle.imagesize_source.proofs.Counts.{total_there}
 use Rattle.imagesize_source.proofs.Parts.{part_whole}
 
@@ -39,25 +39,37 @@ leb_is : (a b : ℕ) → leb a b ≡ true → a ≤ b
 leb_is a b e = grind (arith, nat_tests)
 
 -- what an honest source holds
-holds : (s : Standing) (w : List ℕ) → (held_at (Some s) w).honest ≡ true → (length w ≤ length s.bytes)
+pub holds : (s : Standing) (w : List ℕ) → (held_at (Some s) w).honest ≡ true → (length w ≤ length s.bytes)
     × (held_at (Some s) w ≡ record { honest = true; input = with_window w s.bytes; can_fail = s.can_fail })
 holds s w honest =
     let fits = honest_if (leb (length w) (length s.bytes)) _ honest in
     (leb_is (length w) (length s.bytes) fits, rw fits refl)
 
-pub sound_at : (f : Frame) (st : Option Standing) (z : Failures) (w : List ℕ) (taken : ℕ) → ToldBy f st
-    → IsSound (state_at f st z w taken)
-sound_at f None z w taken told honest = absurd cc
-sound_at f (Some s) z w taken told honest =
+pub sound_at : (f : Frame) (st : Option Standing) (z : Failures) (w : List ℕ) (taken place : ℕ) → ToldBy f st
+    → IsSound (state_at f st z w taken place)
+sound_at f None z w taken place told honest = absurd cc
+sound_at f (Some s) z w taken place told honest =
     let h = holds s w honest in
     rw h.1 (told.0 ∙ sym (length-with_window w s.bytes h.0), rw (length-with_window w s.bytes h.0) told.1)
 
 -- the state after a reading, whether or not it has a span
 abbrev pub read_on : State → ℕ → ℕ → State
-read_on a offset n = record a { front = front_after a.front offset n; taken = a.taken + new_bytes a.front offset n }
+read_on a offset n = record a {
+  front = front_after a.front offset n;
+  taken = a.taken + new_bytes a.front offset n;
+  place = place_after a.front a.place offset n;
+}
 
 no_span : (front offset : ℕ) → front_after front offset 0 ≡ front
 no_span front offset = grind (arith, nat_tests)
+
+-- a read that gives no byte behind the front moves nothing
+kept_place : (front place offset n : ℕ) → offset + n ≤ max offset front → place_after front place offset n ≡ place
+kept_place front place offset n fits = grind (arith, nat_tests)
+
+-- any other moves the reader to its end
+new_place : (front place offset n : ℕ) → max offset front < offset + n → place_after front place offset n ≡ offset + n
+new_place front place offset n far = grind (arith, nat_tests)
 
 step_is : (a : State) (s : Span) → a.frame.counts ≡ true → a.recorded ≡ None → step a s ≡ read_on a s.start s.len
 step_is a s counts bare = rw (counts, bare) refl
@@ -71,7 +83,8 @@ pub past-span : (a : State) (offset n : ℕ) → a.frame.counts ≡ true → a.r
 unfolding state_after span_at
 past-span a offset zero counts bare =
     let taken : a.taken + new_bytes a.front offset 0 ≡ a.taken = omega arith in
-    rw (no_span a.front offset, taken) refl
+    let place : place_after a.front a.place offset 0 ≡ a.place = kept_place a.front a.place offset 0 (omega arith) in
+    rw (no_span a.front offset, taken, place) refl
 past-span a offset (suc n) counts bare = ap (state_after a) (span-suc offset n) ∙ step_is a _ counts bare
 
 -- a part of the window is one of the whole
@@ -150,13 +163,13 @@ in_window_answer (Some s) w buffer old offset n count copied all kept honest =
     ∙ sym copied
     ∙ sym (take_all n buffer (omega arith))
 
-in_window_state : (f : Frame) (st : Option Standing) (z : Failures) (w : List ℕ) (taken offset k : ℕ) → f.counts ≡ true
+in_window_state : (f : Frame) (st : Option Standing) (z : Failures) (w : List ℕ) (taken place offset k : ℕ) → f.counts ≡ true
     → k ≤ length w - offset → (held_at st w).honest ≡ true
-    → state_at f st z w taken ≡ state_after (state_at f st z w taken) (span_of (held_at st w).input offset k)
+    → state_at f st z w taken place ≡ state_after (state_at f st z w taken place) (span_of (held_at st w).input offset k)
 unfolding span_of
-in_window_state f None z w taken offset k counts fits honest = absurd cc
-in_window_state f (Some s) z w taken offset k counts fits honest =
-    let a = state_at f (Some s) z w taken in
+in_window_state f None z w taken place offset k counts fits honest = absurd cc
+in_window_state f (Some s) z w taken place offset k counts fits honest =
+    let a = state_at f (Some s) z w taken place in
     let long : length (held_at (Some s) w).input ≡ length s.bytes = ap length (input_is s w honest)
     ∙ length-with_window w s.bytes
     (holds s w honest).0 in
@@ -164,25 +177,30 @@ in_window_state f (Some s) z w taken offset k counts fits honest =
     let all : min k (length (held_at (Some s) w).input - offset) ≡ k = omega (arith, long, within) in
     let same : taken + new_bytes (length w) offset k ≡ taken = omega arith in
     sym (ap (λ m. state_after a (span_at offset m)) all ∙ past-span a offset k counts refl
-    ∙ ap (λ n. record a { front = n; taken = taken + new_bytes (length w) offset k })
+    ∙ ap (λ n. record a {
+      front = n;
+      taken = taken + new_bytes (length w) offset k;
+      place = place_after (length w) place offset k;
+    })
     (kept_front (length w) offset k fits)
-    ∙ ap (λ t. record a { taken = t }) same)
+    ∙ ap (λ t. record a { taken = t; place = place_after (length w) place offset k }) same
+    ∙ ap (λ t. record a { place = t }) (kept_place (length w) place offset k (omega (arith, fits))))
 
-pub in_window : (f : Frame) (st : Option Standing) (z : Failures) (w buffer old : List ℕ) (taken offset n : ℕ)
+pub in_window : (f : Frame) (st : Option Standing) (z : Failures) (w buffer old : List ℕ) (taken place offset n : ℕ)
     → ToldBy f st
     → f.counts ≡ true → n ≡ min (length old) (length w - offset) → buffer ≡ part w offset (length old) ++ drop n old
     → n ≡ length buffer
-    → length buffer ≡ length old → Runs (state_at f st z w taken) (state_at f st z w taken) (Ok (take (length buffer) buffer))
+    → length buffer ≡ length old → Runs (state_at f st z w taken place) (state_at f st z w taken place) (Ok (take (length buffer) buffer))
     (part_read (held_at st w).input offset (length buffer))
-in_window f st z w buffer old taken offset n told counts count copied all kept = record {
-  sound = sound_at f st z w taken told;
-  sound_after = sound_at f st z w taken told;
+in_window f st z w buffer old taken place offset n told counts count copied all kept = record {
+  sound = sound_at f st z w taken place told;
+  sound_after = sound_at f st z w taken place told;
   frame = refl;
   taken = omega arith;
   within = λ honest. omega arith;
   answer = λ honest goes_on. ap Ok
       (in_window_answer st w buffer old offset n count copied all kept honest ∙ ap (λ m. take m buffer) all);
-  state = λ honest goes_on. in_window_state f st z w taken offset (length buffer) counts (omega arith) honest;
+  state = λ honest goes_on. in_window_state f st z w taken place offset (length buffer) counts (omega arith) honest;
   fault = λ honest faults. absurd cc;
   misses = λ honest faults. absurd cc;
   ended = tt;
@@ -264,12 +282,14 @@ grown_if w d more offset k copied n false at small fits count short gave n_fits 
 }
 
 -- states that agree in each part
-together : (f f' : Frame) (h h' : Held) (m m' t t' : ℕ) (z z' : Failures) → f ≡ f' → h ≡ h' → m ≡ m' → t ≡ t' → z ≡ z'
+together : (f f' : Frame) (h h' : Held) (m m' t t' o o' : ℕ) (z z' : Failures) → f ≡ f' → h ≡ h' → m ≡ m' → t ≡ t'
+    → o ≡ o' → z ≡ z'
     → ◌≡◌ {A = State} (record {
       frame = f;
       held = h;
       front = m;
       taken = t;
+      place = o;
       recorded = None;
       missed = None;
       failure =
@@ -281,26 +301,43 @@ together : (f f' : Frame) (h h' : Held) (m m' t t' : ℕ) (z z' : Failures) → 
       held = h';
       front = m';
       taken = t';
+      place = o';
       recorded = None;
       missed = None;
       failure = z'.kept;
       failed =
           Some z'.last;
     })
-together f f' h h' m m' t t' z z' p q r s e = cc
+together f f' h h' m m' t t' o o' z z' p q r s u e = cc
+
+-- a place that a reading moved, if it gave a byte
+abbrev pub Placed : ℕ → ℕ → ℕ → ℕ → Type 0
+Placed place place' offset n = (0 < n → place' ≡ min (offset + n) (2 ^ 64 - 1)) × (n ≡ 0 → place' ≡ place)
+
+-- it is that after the whole reading, of which the window had the first bytes
+placed_at : (front place place' offset copied n k : ℕ) → copied ≡ min k (front - offset) → copied < k
+    → (0 < n → offset + copied + n < 2 ^ 63) → Placed place place' (offset + copied) n
+    → place' ≡ place_after front place offset (copied + n)
+placed_at front place place' offset copied zero k count short few placed =
+    placed.1 refl ∙ sym (kept_place front place offset (copied + 0) (omega (arith, count)))
+placed_at front place place' offset copied (suc n) k count short few placed =
+    let moved : place' ≡ min (offset + copied + suc n) (2 ^ 64 - 1) = placed.0 (omega arith) in
+    let small : offset + copied + suc n < 2 ^ 63 = few (omega arith) in
+    let there : place' ≡ offset + (copied + suc n) = omega (arith, moved, small) in
+    there ∙ sym (new_place front place offset (copied + suc n) (omega (arith, count, short)))
 
 -- the source after a reading that went on behind the window
-behind_state : (f f' : Frame) (s : Standing) (z z' : Failures) (w w' : List ℕ) (taken taken' offset now k copied n : ℕ)
+behind_state : (f f' : Frame) (s : Standing) (z z' : Failures) (w w' : List ℕ) (taken taken' place place' offset now k copied n : ℕ)
     → f.counts ≡ true → f' ≡ f → z' ≡ z → length w ≤ length s.bytes → Grown w w' s.bytes offset (copied + n)
     → (held_at (Some s) w).honest ≡ true
     → copied ≡ min k (length w - offset) → n ≡ min (k - copied) (length s.bytes - (offset + copied)) → copied < k
-    → taken' ≡ taken + n
-    → state_at f' (Some (record s { offset = now })) z' w' taken' ≡ state_after (state_at f (Some s) z w taken)
+    → taken' ≡ taken + n → Placed place place' (offset + copied) n → length s.bytes < 2 ^ 63
+    → state_at f' (Some (record s { offset = now })) z' w' taken' place' ≡ state_after (state_at f (Some s) z w taken place)
     (span_of (held_at (Some s) w).input offset k)
 unfolding span_of
-behind_state f f' s z z' w w' taken taken' offset now k copied n counts frame failed fits grown honest count rest short
-    took =
-    let a = state_at f (Some s) z w taken in
+behind_state f f' s z z' w w' taken taken' place place' offset now k copied n counts frame failed fits grown honest count rest short
+    took placed few =
+    let a = state_at f (Some s) z w taken place in
     let long : length (held_at (Some s) w).input ≡ length s.bytes = ap length (input_is s w honest)
     ∙ length-with_window w s.bytes fits in
     let all : min k (length (held_at (Some s) w).input - offset) ≡ copied + n = omega (arith, long, count, rest) in
@@ -308,14 +345,17 @@ behind_state f f' s z z' w w' taken taken' offset now k copied n counts frame fa
     behind_held s w w' now fits grown.fits grown.same in
     let paid : taken' ≡ taken + new_bytes (length w) offset (copied + n) = omega (arith, took, count) in
     let front = grown.front in
+    let moved : place' ≡ place_after (length w) place offset (copied + n) =
+    placed_at (length w) place place' offset copied n k count short (omega (arith, rest, few)) placed in
     together f' f (held_at (Some (record s { offset = now })) w') (held_at (Some s) w) (length w')
     (front_after (length w) offset (copied + n)) taken'
-    (taken + new_bytes (length w) offset (copied + n)) z' z frame held front paid failed
+    (taken + new_bytes (length w) offset (copied + n)) place' (place_after (length w) place offset (copied + n)) z' z frame
+    held front paid moved failed
     ∙ sym (ap (λ m. state_after a (span_at offset m)) all ∙ past-span a offset (copied + n) counts refl)
 
 -- A reading that the window does not hold: it copied what the window has, and got n bytes more.
 pub record Behind (f f' : Frame) (st st' : Option Standing) (z z' : Failures) (w w' buffer old more : List ℕ)
-    (taken taken' offset now copied n : ℕ) : Type 0 where
+    (taken taken' place place' offset now copied n : ℕ) : Type 0 where
   pub told : ToldBy f st
   pub told_after : ToldBy f' st'
   pub counts : f.counts ≡ true
@@ -330,6 +370,7 @@ pub record Behind (f f' : Frame) (st st' : Option Standing) (z z' : Failures) (w
   pub enough : n ≤ length more
   pub long : length more ≡ length buffer - copied
   pub took : taken' ≡ taken + n
+  pub placed : Placed place place' (offset + copied) n
   pub window : w' ≡ kept_window w (offset + copied) (take n more)
   pub within : IfSome st (λ s. taken' ≤ taken + min (length more) (length s.bytes - (offset + copied)))
 
@@ -343,28 +384,29 @@ behind_grown s st' w w' more offset now k copied n small fits count short gives 
     (omega (arith, gives.2)))
 
 behind_runs_answer : (f f' : Frame) (st st' : Option Standing) (z z' : Failures) (w w' buffer old more : List ℕ)
-    (taken taken' offset now copied n : ℕ) → Behind f f' st st' z z' w w' buffer old more taken taken' offset now copied n
+    (taken taken' place place' offset now copied n : ℕ) → Behind f f' st st' z z' w w' buffer old more taken taken' place place' offset now copied n
     → (held_at st w).honest ≡ true
     → part (held_at st w).input offset (length buffer)
     ≡ take (copied + n) (put_mid copied (length buffer - copied) buffer more)
-behind_runs_answer f f' None st' z z' w w' buffer old more taken taken' offset now copied n h honest = absurd cc
-behind_runs_answer f f' (Some s) st' z z' w w' buffer old more taken taken' offset now copied n h honest =
+behind_runs_answer f f' None st' z z' w w' buffer old more taken taken' place place' offset now copied n h honest = absurd cc
+behind_runs_answer f f' (Some s) st' z z' w w' buffer old more taken taken' place place' offset now copied n h honest =
     ap (λ d. part d offset (length buffer)) (input_is s w honest)
     ∙ behind_answer s st' w buffer old more offset now copied n h.count h.front h.kept h.short h.gives h.enough h.long
 
 behind_runs_state : (f f' : Frame) (st st' : Option Standing) (z z' : Failures) (w w' buffer old more : List ℕ)
-    (taken taken' offset now copied n : ℕ) → Behind f f' st st' z z' w w' buffer old more taken taken' offset now copied n
-    → (held_at st w).honest ≡ true → state_at f' st' z' w' taken'
-    ≡ state_after (state_at f st z w taken) (span_of (held_at st w).input offset (length buffer))
-behind_runs_state f f' None st' z z' w w' buffer old more taken taken' offset now copied n h honest = absurd cc
-behind_runs_state f f' (Some s) st' z z' w w' buffer old more taken taken' offset now copied n h honest =
+    (taken taken' place place' offset now copied n : ℕ) → Behind f f' st st' z z' w w' buffer old more taken taken' place place' offset now copied n
+    → (held_at st w).honest ≡ true → state_at f' st' z' w' taken' place'
+    ≡ state_after (state_at f st z w taken place) (span_of (held_at st w).input offset (length buffer))
+behind_runs_state f f' None st' z z' w w' buffer old more taken taken' place place' offset now copied n h honest = absurd cc
+behind_runs_state f f' (Some s) st' z z' w w' buffer old more taken taken' place place' offset now copied n h honest =
     let fits = (holds s w honest).0 in
     let count : copied ≡ min (length buffer) (length w - offset) = h.count
     ∙ ap (λ k. min k (length w - offset)) (sym h.kept) in
-    ap (λ v. state_at f' v z' w' taken') h.gives.0
-    ∙ behind_state f f' s z z' w w' taken taken' offset now (length buffer) copied n h.counts h.frame h.failed fits
+    ap (λ v. state_at f' v z' w' taken' place') h.gives.0
+    ∙ behind_state f f' s z z' w w' taken taken' place place' offset now (length buffer) copied n h.counts h.frame h.failed fits
     (behind_grown s st' w w' more offset now (length buffer) copied n h.small fits count h.short h.gives h.window)
     honest count (h.gives.2 ∙ ap (λ k. min k (length s.bytes - (offset + copied))) h.long) h.short h.took
+    h.placed h.told.1
 
 within_claim : (st : Option Standing) (w : List ℕ) (taken taken' offset copied k rest : ℕ)
     → copied ≡ min k (length w - offset)
@@ -382,28 +424,28 @@ within_claim (Some s) w taken taken' offset copied k rest count left within hone
     omega (arith, all, within, count, left)
 
 pub behind_window : {f f' : Frame} {st st' : Option Standing} {z z' : Failures} {w w' buffer old more : List ℕ}
-    {taken taken' offset now copied n : ℕ} → Behind f f' st st' z z' w w' buffer old more taken taken' offset now copied n
-    → Runs (state_at f st z w taken) (state_at f' st' z' w' taken')
+    {taken taken' place place' offset now copied n : ℕ} → Behind f f' st st' z z' w w' buffer old more taken taken' place place' offset now copied n
+    → Runs (state_at f st z w taken place) (state_at f' st' z' w' taken' place')
     (Ok (take (copied + n) (put_mid copied (length buffer - copied) buffer more)))
     (part_read (held_at st w).input offset (length (put_mid copied (length buffer - copied) buffer more)))
-behind_window {f} {f'} {st} {st'} {z} {z'} {w} {w'} {buffer} {old} {more} {taken} {taken'} {offset} {now} {copied} {n} h =
+behind_window {f} {f'} {st} {st'} {z} {z'} {w} {w'} {buffer} {old} {more} {taken} {taken'} {place} {place'} {offset} {now} {copied} {n} h =
     let whole : length (put_mid copied (length buffer - copied) buffer more) ≡ length buffer = length-put buffer more copied
     (omega (arith, h.short)) h.long in
     let count : copied ≡ min (length buffer) (length w - offset) = h.count
     ∙ ap (λ k. min k (length w - offset)) (sym h.kept) in
-    subst (λ k. Runs (state_at f st z w taken) (state_at f' st' z' w' taken')
+    subst (λ k. Runs (state_at f st z w taken place) (state_at f' st' z' w' taken' place')
     (Ok (take (copied + n) (put_mid copied (length buffer - copied) buffer more))) (part_read (held_at st w).input offset k))
     (sym whole)
     (record {
-      sound = sound_at f st z w taken h.told;
-      sound_after = sound_at f' st' z' w' taken' h.told_after;
+      sound = sound_at f st z w taken place h.told;
+      sound_after = sound_at f' st' z' w' taken' place' h.told_after;
       frame = h.frame;
       taken = omega (arith, h.took);
       within = λ honest. within_claim st w taken taken' offset copied (length buffer)
           (length more) count h.long h.within honest;
       answer = λ honest goes_on. ap Ok
-          (behind_runs_answer f f' st st' z z' w w' buffer old more taken taken' offset now copied n h honest);
-      state = λ honest goes_on. behind_runs_state f f' st st' z z' w w' buffer old more taken taken' offset now copied n h
+          (behind_runs_answer f f' st st' z z' w w' buffer old more taken taken' place place' offset now copied n h honest);
+      state = λ honest goes_on. behind_runs_state f f' st st' z z' w w' buffer old more taken taken' place place' offset now copied n h
           honest;
       fault = λ honest faults. absurd cc;
       misses = λ honest faults. absurd cc;
@@ -419,7 +461,7 @@ fails_claim (Some s) st' w more offset now e gives honest faults = ap (λ h. h.c
 
 -- A reading behind the window that was stopped.
 pub record Halted (f f' : Frame) (st st' : Option Standing) (z z' : Failures) (w w' buffer old more : List ℕ)
-    (taken taken' offset now copied : ℕ) (e : Halt) : Type 0 where
+    (taken taken' place place' offset now copied : ℕ) (e : Halt) : Type 0 where
   pub told : ToldBy f st
   pub told_after : ToldBy f' st'
   pub frame : f' ≡ f
@@ -431,16 +473,16 @@ pub record Halted (f f' : Frame) (st st' : Option Standing) (z z' : Failures) (w
   pub paid : taken ≤ taken'
   pub within : IfSome st (λ s. taken' ≤ taken + min (length more) (length s.bytes - (offset + copied)))
   pub stops : is_stop e ≡ true
-  pub ended : EndedBy (state_at f' st' z' w' taken') e
+  pub ended : EndedBy (state_at f' st' z' w' taken' place') e
 
 halted : {f f' : Frame} {st st' : Option Standing} {z z' : Failures} {w w' buffer old more : List ℕ}
-    {taken taken' offset now copied : ℕ} {e : Halt} (value : ℕ → List ℕ)
-    → Halted f f' st st' z z' w w' buffer old more taken taken' offset now copied e → Runs (state_at f st z w taken)
-    (state_at f' st' z' w' taken') (map_answer value (Err e)) (part_read (held_at st w).input offset (length buffer))
-halted {f} {f'} {st} {st'} {z} {z'} {w} {w'} {buffer} {old} {more} {taken} {taken'} {offset} {now} {copied} {e} value h =
+    {taken taken' place place' offset now copied : ℕ} {e : Halt} (value : ℕ → List ℕ)
+    → Halted f f' st st' z z' w w' buffer old more taken taken' place place' offset now copied e → Runs (state_at f st z w taken place)
+    (state_at f' st' z' w' taken' place') (map_answer value (Err e)) (part_read (held_at st w).input offset (length buffer))
+halted {f} {f'} {st} {st'} {z} {z'} {w} {w'} {buffer} {old} {more} {taken} {taken'} {place} {place'} {offset} {now} {copied} {e} value h =
     record {
-      sound = sound_at f st z w taken h.told;
-      sound_after = sound_at f' st' z' w' taken' h.told_after;
+      sound = sound_at f st z w taken place h.told;
+      sound_after = sound_at f' st' z' w' taken' place' h.told_after;
       frame = h.frame;
       taken = h.paid;
       within = λ honest. within_claim st w taken taken' offset copied (length buffer) (length more)
@@ -453,18 +495,18 @@ halted {f} {f'} {st} {st'} {z} {z'} {w} {w'} {buffer} {old} {more} {taken} {take
     }
 
 pub behind_stopped : {f f' : Frame} {st st' : Option Standing} {z z' : Failures} {w w' buffer old more : List ℕ}
-    {taken taken' offset now copied : ℕ} {e : Halt} (value : ℕ → List ℕ) (r : Result ℕ Halt)
-    → Halted f f' st st' z z' w w' buffer old more taken taken' offset now copied e → r ≡ Err e
-    → Runs (state_at f st z w taken) (state_at f' st' z' w' taken') (map_answer value r)
+    {taken taken' place place' offset now copied : ℕ} {e : Halt} (value : ℕ → List ℕ) (r : Result ℕ Halt)
+    → Halted f f' st st' z z' w w' buffer old more taken taken' place place' offset now copied e → r ≡ Err e
+    → Runs (state_at f st z w taken place) (state_at f' st' z' w' taken' place') (map_answer value r)
     (part_read (held_at st w).input offset (length (put_mid copied (length buffer - copied) buffer more)))
-behind_stopped {f} {f'} {st} {st'} {z} {z'} {w} {w'} {buffer} {old} {more} {taken} {taken'} {offset} {now} {copied} {e}
+behind_stopped {f} {f'} {st} {st'} {z} {z'} {w} {w'} {buffer} {old} {more} {taken} {taken'} {place} {place'} {offset} {now} {copied} {e}
     value r h is =
     let whole : length (put_mid copied (length buffer - copied) buffer more) ≡ length buffer = length-put buffer more copied
     (omega (arith, h.count, h.kept)) h.long in
-    subst (λ k. Runs (state_at f st z w taken) (state_at f' st' z' w' taken') (map_answer value r)
+    subst (λ k. Runs (state_at f st z w taken place) (state_at f' st' z' w' taken' place') (map_answer value r)
     (part_read (held_at st w).input offset k))
     (sym whole)
-    (subst (λ q. Runs (state_at f st z w taken) (state_at f' st' z' w' taken') (map_answer value q)
+    (subst (λ q. Runs (state_at f st z w taken place) (state_at f' st' z' w' taken' place') (map_answer value q)
     (part_read (held_at st w).input offset (length buffer))) (sym is) (halted value h))
 
 -- the window has nothing from an offset on that lies behind it
@@ -515,7 +557,7 @@ kept_fault (Some e) failure is = refl
 -- a stop of the reader is one of the source
 pub ended_by : (a : Account) (home : ℕ) (p : Progress) (st : Option Standing) (w : List ℕ) (e : Halt)
     → StopsBy p a.failure e
-    → EndedBy (state_at (reader_frame a home p) st (failures_of p.fault a.failure) w p.taken) e
+    → EndedBy (state_at (reader_frame a home p) st (failures_of p.fault a.failure) w p.taken p.position) e
 ended_by a home p st w e stops = record {
   budget = λ spent. (refl, stops.budget spent);
   fault = λ failed. (stops.fault failed, kept_fault p.fault a.failure (stops.fault failed));
@@ -531,31 +573,31 @@ end_answer f (Some s) w offset k told far honest =
     (holds s w honest).0 in
     no_part (held_at (Some s) w).input offset k (omega (arith, long, told.0, far))
 
-end_state : (f : Frame) (st : Option Standing) (z : Failures) (w : List ℕ) (taken offset k : ℕ) → ToldBy f st
+end_state : (f : Frame) (st : Option Standing) (z : Failures) (w : List ℕ) (taken place offset k : ℕ) → ToldBy f st
     → f.told < offset
     → (held_at st w).honest ≡ true
-    → state_at f st z w taken ≡ state_after (state_at f st z w taken) (span_of (held_at st w).input offset k)
+    → state_at f st z w taken place ≡ state_after (state_at f st z w taken place) (span_of (held_at st w).input offset k)
 unfolding span_of span_at state_after
-end_state f None z w taken offset k told far honest = absurd cc
-end_state f (Some s) z w taken offset k told far honest =
+end_state f None z w taken place offset k told far honest = absurd cc
+end_state f (Some s) z w taken place offset k told far honest =
     let long : length (held_at (Some s) w).input ≡ length s.bytes = ap length (input_is s w honest)
     ∙ length-with_window w s.bytes
     (holds s w honest).0 in
     let none : min k (length (held_at (Some s) w).input - offset) ≡ 0 = omega (arith, long, told.0, far) in
-    sym (ap (λ n. state_after (state_at f (Some s) z w taken) (span_at offset n)) none)
+    sym (ap (λ n. state_after (state_at f (Some s) z w taken place) (span_at offset n)) none)
 
 -- a reading above the told length sees nothing, and changes nothing
-pub behind_end : {f : Frame} (st : Option Standing) (z : Failures) (w : List ℕ) (taken offset k : ℕ) → ToldBy f st
+pub behind_end : {f : Frame} (st : Option Standing) (z : Failures) (w : List ℕ) (taken place offset k : ℕ) → ToldBy f st
     → f.told < offset
-    → Runs (state_at f st z w taken) (state_at f st z w taken) (Ok []) (part_read (held_at st w).input offset k)
-behind_end {f} st z w taken offset k told far = record {
-  sound = sound_at f st z w taken told;
-  sound_after = sound_at f st z w taken told;
+    → Runs (state_at f st z w taken place) (state_at f st z w taken place) (Ok []) (part_read (held_at st w).input offset k)
+behind_end {f} st z w taken place offset k told far = record {
+  sound = sound_at f st z w taken place told;
+  sound_after = sound_at f st z w taken place told;
   frame = refl;
   taken = omega arith;
   within = λ honest. omega arith;
   answer = λ honest goes_on. ap Ok (end_answer f st w offset k told far honest);
-  state = λ honest goes_on. end_state f st z w taken offset k told far honest;
+  state = λ honest goes_on. end_state f st z w taken place offset k told far honest;
   fault = λ honest faults. absurd cc;
   misses = λ honest faults. absurd cc;
   ended = tt;

@@ -4,7 +4,8 @@ use Rattle.imagesize_source.specs.declared.error.ImageError.{ImageError}
 use Rattle.imagesize_source.specs.Counts.{offsets}
 use Rattle.imagesize_source.specs.Errors.{is_stopped, is_faulted}
 use Rattle.imagesize_source.specs.Outcome.{Outcome}
-use Rattle.imagesize_source.specs.State.{total}
+use Rattle.imagesize_source.specs.State.{total, place_by}
+use Rattle.imagesize_source.specs.declared.span.Span.{Span}
 use Rattle.std.specs.declared.io.Error.{Error}
 use Rattle.imagesize_io.specs.StopOf.{fault_of}
 use Rattle.imagesize_io.specs.Telling.{Telling, IsHonest}
@@ -60,3 +61,19 @@ pub record LeftAs (t u : Telling) : Type 0 where
 abbrev pub Leaves : Option Telling → Option Telling → Type 0
 Leaves None new = new ≡ None
 Leaves (Some t) new = IsSomeAnd new (LeftAs t)
+
+-- The offset at which reads of these spans leave a reader: where the last read ended that gave a byte past the first
+-- ones that were kept. If no read gave one, the reader is left at the end of its bytes.
+abbrev pub left_by : Telling → List Span → ℕ
+left_by t spans = place_by 0 (length t.bytes) spans
+
+-- the reads leave an honest reader that cannot fail at this offset
+abbrev pub PlacedAt : {X : Type 0} → Option Telling → (List ℕ → ℕ → Outcome X) → ℕ → Type 0
+PlacedAt None reads offset = Unit {0}
+PlacedAt (Some t) reads offset = IsHonest t → t.can_fail ≡ false → offset ≡ left_by t (over_reader t reads).marks
+
+-- a reader after a call: where the reads leave it, if it is honest and cannot fail
+abbrev pub LeavesAt : {X : Type 0} → Option Telling → Option Telling → (List ℕ → ℕ → Outcome X) → Type 0
+LeavesAt None new reads = Unit {0}
+LeavesAt (Some t) new reads =
+    IsHonest t → t.can_fail ≡ false → IsSomeAnd new (λ u. u.offset ≡ left_by t (over_reader t reads).marks)

@@ -38,12 +38,13 @@ reader_frame a home p = record {
 }
 
 -- a reader as a source
-abbrev pub state_at : Frame → Option Standing → Failures → List ℕ → ℕ → State
-state_at frame standing failures window taken = record {
+abbrev pub state_at : Frame → Option Standing → Failures → List ℕ → ℕ → ℕ → State
+state_at frame standing failures window taken place = record {
   frame = frame;
   held = held_at standing window;
   front = length window;
   taken = taken;
+  place = place;
   recorded = None;
   missed = None;
   failure = failures.kept;
@@ -52,7 +53,7 @@ state_at frame standing failures window taken = record {
 
 abbrev pub reader_state : Account → ℕ → Progress → List ℕ → State
 reader_state a home p window =
-    state_at (reader_frame a home p) (stand a.telling p) (failures_of p.fault a.failure) window p.taken
+    state_at (reader_frame a home p) (stand a.telling p) (failures_of p.fault a.failure) window p.taken p.position
 
 -- the window after a read: the next bytes after the window are added to it, up to its length
 abbrev pub kept_window : List ℕ → ℕ → List ℕ → List ℕ
@@ -75,7 +76,7 @@ start_state telling count home told = state_at
       counts = true;
       backing = Reader home (drift count 0) (behind_of told 0 None telling);
     })
-    (stand_of told told None (steady telling 0)) (failures_of None None) [] 0
+    (stand_of told told None (steady telling 0)) (failures_of None None) [] 0 told
 
 -- What a read from an offset on did, over every reader. It saw the bytes that the window has, and those that follow
 -- from the reader.

@@ -117,6 +117,7 @@ pub record ReadsOnce (old new : Progress) (a b : Account) (buffer : List ℕ) (r
   pub since : drift b.count new.taken ≡ drift a.count old.taken
   pub behind : behind b.telling new ≡ behind a.telling old
   pub calm : OnOk r (new.fault ≡ old.fault)
+  pub place : OnOk r (new.position ≡ old.position)
   pub tries : OnOk r (Tries a.telling old.retries b.telling new.retries)
   pub keeps : KeepsCounts old new
   pub stops : IfErr r (StopsBy new b.failure)
@@ -132,6 +133,7 @@ pub record Fills (old new : Progress) (before after : Option Standing) (a b : Ac
   pub since : drift b.count new.taken ≡ drift a.count old.taken
   pub behind : behind b.telling new ≡ behind a.telling old
   pub calm : OnOk r (new.fault ≡ old.fault)
+  pub place : OnOk r (new.position ≡ old.position)
   pub keeps : KeepsCounts old new
   pub stops : IfErr r (StopsBy new b.failure)
 
@@ -140,7 +142,8 @@ pub record ReadsFrom (old new : Progress) (before after : Option Standing) (a b 
     (r : Result ℕ Halt) : Type 0 where
   pub bound : IfOk r (λ n. n ≤ length buffer)
   pub stand : GivesFrom before after offset new.offset buffer r
-  pub stands : IfOk r (λ n. offset ≤ old.told → new.position ≡ min (offset + n) (2 ^ 64 - 1))
+  pub moves : IfOk r (λ n. 0 < n → new.position ≡ min (offset + n) (2 ^ 64 - 1))
+  pub stays : IfOk r (λ n. n ≡ 0 → new.position ≡ old.position)
   pub taken : IfOk r (λ n. new.taken ≡ old.taken + n)
   pub within : IfSome before (λ s. new.taken ≤ old.taken + min (length buffer) (length s.bytes - offset))
   pub pays : IfOk r (λ n. old.told < offset → 0 < n → old.taken < new.taken)

@@ -38,6 +38,7 @@ impl<'a> CountingSource<'a> {
         ensures bytes { result.bytes.now ≡ bytes.now }
         ensures front { result.front ≡ 0 }
         ensures left { result.left ≡ length bytes.now + allowance }
+        ensures position { result.position ≡ length bytes.now }
     {
         CountingSource {
             bytes,
@@ -51,7 +52,8 @@ impl<'a> CountingSource<'a> {
     /// The offset that the reader would have after the last read.
     #[inline(always)]
     pub fn position(&self) -> u64
-        ensures { result ≤ length self.now.bytes.now }
+        ensures within { result ≤ length self.now.bytes.now }
+        ensures position { result ≡ self.now.position }
     {
         self.position
     }
@@ -61,11 +63,11 @@ impl<'a> CountingSource<'a> {
     fn pays(&mut self, offset: u64, count: usize, most: usize) -> bool
         requires there { 0 < count → offset + count ≤ length self.old.bytes.now }
         ensures bytes { self.new.bytes.now ≡ self.old.bytes.now }
-        ensures paid { result ≡ true → IsPaid self.old.front self.old.left self.new.front self.new.left offset count }
+        ensures paid { result ≡ true → IsPaid self.old.front self.old.left self.old.position self.new.front self.new.left self.new.position offset count }
         ensures spent { result ≡ false → IsSpent self.old.front self.old.left self.new.left offset count }
     {
         if count < most {
-            return self.pays_last(offset, count);
+            return self.pays_front(offset, count);
         }
         if offset <= self.front || self.left < count as u64 || count == 0 {
             // A read within the front costs nothing, and moves nothing. Most reads of a size at fixed offsets are such.
@@ -80,27 +82,13 @@ impl<'a> CountingSource<'a> {
         true
     }
 
-    // Counts the bytes of a read that got fewer than it asked for. It saw the end of the bytes, if it began within them.
-    #[inline(never)]
-    fn pays_last(&mut self, offset: u64, count: usize) -> bool
-        requires there { 0 < count → offset + count ≤ length self.old.bytes.now }
-        ensures bytes { self.new.bytes.now ≡ self.old.bytes.now }
-        ensures paid { result ≡ true → IsPaid self.old.front self.old.left self.new.front self.new.left offset count }
-        ensures spent { result ≡ false → IsSpent self.old.front self.old.left self.new.left offset count }
-    {
-        if offset == self.bytes.len() as u64 {
-            self.position = offset;
-        }
-        self.pays_front(offset, count)
-    }
-
     // Counts the bytes of any read. A byte of the front is not counted again, and a read of the front alone does not move the
     // reader. Not inlined, since most reads lie past the front.
     #[inline(never)]
     fn pays_front(&mut self, offset: u64, count: usize) -> bool
         requires there { 0 < count → offset + count ≤ length self.old.bytes.now }
         ensures bytes { self.new.bytes.now ≡ self.old.bytes.now }
-        ensures paid { result ≡ true → IsPaid self.old.front self.old.left self.new.front self.new.left offset count }
+        ensures paid { result ≡ true → IsPaid self.old.front self.old.left self.old.position self.new.front self.new.left self.new.position offset count }
         ensures spent { result ≡ false → IsSpent self.old.front self.old.left self.new.left offset count }
     {
         let end = offset + count as u64;
@@ -123,7 +111,7 @@ impl<'a> CountingSource<'a> {
 }
 
 impl Source for CountingSource<'_> {
-    ghost state = { λ s. counting_state s.bytes.now s.front s.left };
+    ghost state = { λ s. counting_state s.bytes.now s.front s.left s.position };
 
     #[inline(always)]
     fn told(&self) -> u64 {

@@ -14,7 +14,7 @@ pub struct Progress {
     pub taken: u64,
     /// The reader's offset.
     pub offset: u64,
-    /// The offset that the reader would have if reads of the bytes that it holds had moved it.
+    /// The offset at which the reader is to be left: where the last read ended that gave a byte past the first bytes.
     pub position: u64,
     /// How many interrupted reads were tried again.
     pub retries: u64,

@@ -63,18 +63,22 @@ impl<'a, R: Told> ReaderSource<'a, R> {
         ReaderSource { reader, ledger }
     }
 
-    /// The offset at which the reader is to be left, if it is elsewhere: where the last read past the first bytes ended. Reads of
-    /// bytes that the reader holds did not move it. `None` after a fault and after a spent budget.
+    /// The offset at which the reader is to be left, if it is elsewhere: where the last read ended that gave a byte past the first
+    /// bytes. Reads of bytes that the reader holds did not move it. `None` after a fault.
     #[inline(always)]
     pub fn left(&self) -> Option<u64>
         ensures position { IfSome result (λ position. position ≡ self.now.ledger.progress.position) }
         ensures told { IfSome result (λ position. position ≤ self.now.ledger.progress.told) }
         ensures calm { IfSome result (λ _. self.now.ledger.progress.fault ≡ None) }
+
+        // Without a fault, a reader that is not to be moved is there, unless that lies past the reported length.
+        ensures there { result ≡ None → self.now.ledger.progress.fault ≡ None
+            → self.now.ledger.progress.position ≤ self.now.ledger.progress.told
+            → self.now.ledger.progress.position ≡ self.now.ledger.progress.offset }
     {
         let progress = &self.ledger.progress;
         let position = progress.position;
-        let is_spent = progress.taken == progress.budget;
-        if position == progress.offset || position > progress.told || is_spent {
+        if position == progress.offset || position > progress.told {
             return None;
         }
         if progress.fault.is_some() {

@@ -1,5 +1,5 @@
 -- An input that arrives in chunks: what the bytes so far say about every input that begins with them.
-use Rattle.std.specs.Prelude.{◌≡◌, ℕ, ◌+◌, ◌≤◌, ◌<◌, Bool, true, false, List, [], ◌∷◌, ◌++◌, length, take, drop, Option, None, Some, Result}
+use Rattle.std.specs.Prelude.{◌≡◌, ℕ, ◌+◌, ◌-◌, ◌≤◌, ◌<◌, nat_lt, if◌then◌else◌, Bool, true, false, List, [], ◌∷◌, ◌++◌, length, take, drop, Option, None, Some, Result}
 use Rattle.imagesize_source.specs.Agreement.{EndsBetween, is_covered}
 use Rattle.imagesize_source.specs.Known.{byte_in_parts, filled_input, parts_state}
 use Rattle.imagesize_source.specs.Layout.{Layout, done, refuse, field, reading, begin_record}
@@ -52,6 +52,12 @@ came start kept chunk = run_of start (length kept + length chunk)
 -- the byte at an offset, or `None` if it is not one of them
 abbrev pub byte_at : ℕ → ℕ → List ℕ → List ℕ → ℕ → Option ℕ
 byte_at told start kept chunk offset = byte_in_parts told (came start kept chunk) (kept ++ chunk) offset
+
+-- the bytes that came from an offset on, up to the end of the kept ones or of the chunk
+abbrev pub run_at : ℕ → List ℕ → List ℕ → ℕ → List ℕ
+run_at start kept chunk offset =
+    if nat_lt offset start then [] else
+    if nat_lt (offset - start) (length kept) then drop (offset - start) kept else drop (offset - start - length kept) chunk
 
 -- an input that has them, and 1 at every other offset
 abbrev pub stream_input : ℕ → ℕ → List ℕ → List ℕ → List ℕ

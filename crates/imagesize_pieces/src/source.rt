@@ -7,7 +7,7 @@ ghost use Rattle.imagesize_source.specs.Known.{AllKnown, Lacks};
 ghost use Rattle.imagesize_source.specs.Reading.{part_read, text_read, map_answer};
 ghost use Rattle.imagesize_source.specs.State.{Runs};
 ghost use Rattle.imagesize_source.specs.Text.{is_ended};
-ghost use Rattle.imagesize_pieces.specs.Stream.{byte_at, came, end_of, stream_input, stream_state};
+ghost use Rattle.imagesize_pieces.specs.Stream.{byte_at, came, end_of, run_at, stream_input, stream_state};
 
 use crate::buffer::bytes_behind;
 use imagesize_source::part::copy_ended;
@@ -161,6 +161,7 @@ impl<'a> StreamSource<'a> {
     fn known_from(&self, offset: u64) -> &'a [u8]
         ensures known { (i : ℕ) → i < length result.now → byte_at self.now.told self.now.start self.now.kept.now self.now.chunk.now (offset + i) ≡ Some (slice_index result.now i) }
         ensures none { length result.now ≡ 0 → is_some (byte_at self.now.told self.now.start self.now.kept.now self.now.chunk.now offset) ≡ false }
+        ensures run { result.now ≡ run_at self.now.start self.now.kept.now self.now.chunk.now offset }
     {
         if offset < self.start {
             return &self.kept[..0];
@@ -209,17 +210,12 @@ impl<'a> StreamSource<'a> {
         Some(found)
     }
 
-    // A text that no slice contains as a whole. The first `searched` bytes do not end it. `None` means that a byte is missing.
+    // A text that the slice at its offset does not contain as a whole. The bytes of that slice are not searched again. `None` means
+    // that a byte is missing.
     #[cold]
     #[inline(never)]
-    fn gather_text(
-        &mut self,
-        offset: u64,
-        text: Text,
-        searched: usize,
-        buffer: &mut [u8],
-    ) -> Option<usize>
-        requires { is_ended text (part (stream_input self.old.told self.old.start self.old.kept.now self.old.chunk.now) offset searched) ≡ false }
+    fn gather_text(&mut self, offset: u64, text: Text, buffer: &mut [u8]) -> Option<usize>
+        requires { is_ended text (take (length buffer.old) (run_at self.old.start self.old.kept.now self.old.chunk.now offset)) ≡ false }
         ensures bound { IfSome result (λ n. n ≤ length buffer.new) }
         ensures there { IfSome result (λ n. n ≤ self.old.told - offset) }
         ensures runs { Runs (stream_state self.old.told self.old.start self.old.kept.now self.old.chunk.now self.old.log.spans self.old.missed)
@@ -227,8 +223,9 @@ impl<'a> StreamSource<'a> {
             (map_answer (λ n. take n buffer.new) (ok_or result Halt.Failed))
             (text_read (stream_input self.old.told self.old.start self.old.kept.now self.old.chunk.now) text offset (length buffer.new)) }
     {
+        let run = self.known_from(offset).len();
         let (found, wanted) = self.fill_known(offset, buffer);
-        let searched = searched.min(found);
+        let searched = run.min(found);
         let Some(count) = uncut_length(text, &buffer[..found], searched, wanted) else {
             self.miss(offset, found, 1, wanted - found);
             return None;
@@ -265,12 +262,8 @@ impl Source for StreamSource<'_> {
 
     #[inline(always)]
     fn read_text(&mut self, offset: u64, text: Text, buffer: &mut [u8]) -> Result<usize, Halt> {
-        let known = self.known_from(offset);
-        let Some(count) = copy_ended(known, text, buffer) else {
-            let searched = known.len().min(buffer.len());
-            return self
-                .gather_text(offset, text, searched, buffer)
-                .ok_or(Halt::Failed);
+        let Some(count) = copy_ended(self.known_from(offset), text, buffer) else {
+            return self.gather_text(offset, text, buffer).ok_or(Halt::Failed);
         };
         self.see(offset, count);
         Ok(count)

@@ -1,5 +1,7 @@
 -- PNG: what is read of it.
 use Rattle.std.proofs.Common.{◌≡◌, ℕ, ◌-◌, ◌≤◌, Bool, true, false, cond, leb, List, ◌++◌, length, Option, Some, None, is_some, Result, Ok, Err, IfOk, IfErr, refl, sym, ap, ◌∙◌, subst, arith, rules}
+use Rattle.imagesize.proofs.Within.{layout_within}
+use Rattle.imagesize_io.proofs.Leaving.{EndsWithin}
 use Rattle.imagesize_io.proofs.Openings.{IsBounded, opened_answers, opened_takes}
 use Rattle.imagesize_io.specs.Answers.{Answers, CountsWithin, RisesWithin}
 use Rattle.imagesize_io.specs.ReaderState.{Opens, start_state}
@@ -8,7 +10,7 @@ use Rattle.imagesize_io.specs.Telling.{Telling}
 use Rattle.imagesize_io.specs.declared.reader.Opened.{Opened}
 use Rattle.imagesize_png.specs.Png.{is_png, png, png_by, png_of, png_reads, png_sides}
 use Rattle.imagesize_source.proofs.Agreement.{local_layout, without_texts}
-use Rattle.imagesize_source.proofs.Counts.{at_most}
+use Rattle.imagesize_source.proofs.Counts.{at_most, place_within}
 use Rattle.imagesize_source.proofs.Extension.{bytes_more, bytes_ok, more_answer}
 use Rattle.imagesize_source.proofs.Halts.{stated_ok}
 use Rattle.imagesize_source.proofs.Way.{FixedLaws}
@@ -133,8 +135,13 @@ png_final d offset (Err e) is = λ none x.
     ap stated (refused_lasts d x offset (refused_as (png_reads d offset).answer (sym is ∙ ap Err none)))
 
 -- an honest budget is enough for it
-bounded_png : IsBounded png_reads
+pub bounded_png : IsBounded png_reads
 bounded_png d offset = omega (arith, png_within d offset)
+
+-- and no read of it ends past the end of the bytes
+pub png_ends : EndsWithin png_reads
+png_ends t = place_within (length t.bytes) 0 (length t.bytes) (png_reads t.bytes t.offset).marks (omega arith)
+    (λ k s below. (layout_within t.bytes (png t.offset) k s below).1)
 
 -- the size that a reader was found to have
 pub png_answers : (telling mid : Option Telling) (count : Option ℕ) (home : ℕ) (opened : Opened) (a b : State)

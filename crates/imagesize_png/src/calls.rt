@@ -1,7 +1,7 @@
 //! The calls: the size of the PNG in a slice, or in a reader's bytes.
 ghost use Rattle.std.specs.Prelude.{◌≡◌, ℕ, ◌≤◌, List, ◌++◌, IfOk, IfErr, IfSome, Option, Ok, Err, true, false};
 ghost use Rattle.imagesize.specs.Probed.{SpentAll};
-ghost use Rattle.imagesize_io.specs.Answers.{Answers, CountsWithin, IsLast, Leaves};
+ghost use Rattle.imagesize_io.specs.Answers.{Answers, CountsWithin, IsLast, Leaves, LeavesAt};
 ghost use Rattle.imagesize_io.specs.ReaderState.{Opens};
 ghost use Rattle.imagesize_io.specs.Telling.{Telling};
 ghost use Rattle.imagesize_png.specs.Png.{png_of};
@@ -55,8 +55,8 @@ pub fn blob_size(data: &[u8]) -> ImageResult<ImageSize>
 
 /// Reads the size in pixels of the PNG in a reader's bytes. The signature must be at the reader's offset.
 ///
-/// The size is read at offsets from the first byte of the input, as in `imagesize::reader_size`. Afterwards the reader's
-/// offset is unspecified, and the reader may be used again.
+/// The size is read at offsets from the first byte of the input, as in `imagesize::reader_size`. Afterwards the reader may be
+/// used again. It is left as `imagesize::reader_probe` leaves it.
 ///
 /// Errors: those of `blob_size`, and `Fault` if a call of the reader fails. `BudgetSpent` if more bytes would be read than
 /// the length of the input, as its seeks report it, plus 64.
@@ -79,6 +79,10 @@ pub fn reader_size<R: Told>(reader: &mut R) -> ImageResult<ImageSize>
     // A `Fault` carries the error of the last call that failed, and the reader may be used again.
     ensures fault { IfErr result (λ e. is_fault e ≡ true → IsLast (R.failure reader.new) e) }
     ensures leaves { Leaves (R.telling reader.old) (R.telling reader.new) }
+
+    // An honest reader that cannot fail is left where the last read ended that gave a byte past the kept ones. If no read gave one,
+    // it is left at its end.
+    ensures offset { LeavesAt (R.telling reader.old) (R.telling reader.new) png_of }
 {
     let opened = open(reader, Origin::Offset)?;
     size_opened(reader, opened)
@@ -95,6 +99,8 @@ fn size_opened<R: Told>(reader: &mut R, opened: Opened) -> ImageResult<ImageSize
     ensures fault { IfErr result (λ e. is_fault e ≡ true → IsLast (R.failure reader.new) e) }
     ensures leaves { (telling : Option Telling) → Opens telling (R.telling reader.old) (Ok opened)
         → Leaves telling (R.telling reader.new) }
+    ensures offset { (telling : Option Telling) → Opens telling (R.telling reader.old) (Ok opened)
+        → LeavesAt telling (R.telling reader.new) png_of }
 {
     let mut source = ReaderSource::new(reader, opened.told);
     let found = size(&mut source, opened.offset);

@@ -1,5 +1,5 @@
 -- How many bytes are read, and how many offsets are seen.
-use Rattle.std.proofs.Common.{◌≡◌, ℕ, zero, suc, ◌+◌, ◌-◌, ◌*◌, ◌≤◌, min, max, Bool, true, false, cond, eqb, ◌||◌, List, [], ◌∷◌, length, Result, Ok, Err, refl, sym, ap, ◌∙◌, arith}
+use Rattle.std.proofs.Common.{◌≡◌, ℕ, zero, suc, ◌+◌, ◌-◌, ◌*◌, ◌<◌, ◌≤◌, min, max, Bool, true, false, cond, eqb, ◌||◌, List, [], ◌∷◌, length, get_or, Result, Ok, Err, refl, sym, ap, ◌∙◌, arith}
 use Rattle.std.proofs.Math.Nat.{add-zero, mul-add}
 use Rattle.std.proofs.lemmas.Bool.Decides.{nat_tests}
 use Rattle.std.proofs.lemmas.List.Sums.{sum_by-cons}
@@ -15,7 +15,7 @@ use Rattle.imagesize_source.specs.Counts.{offsets, AtMost, Each, IfBytes}
 use Rattle.imagesize_source.specs.Input.{part, span_at, span_of}
 use Rattle.imagesize_source.specs.Layout.{Layout, done, refuse, field, reading, begin_record, layout_reads, bind}
 use Rattle.imagesize_source.specs.Reading.{Reads, Reading, AllOf, PartOf, TextOf, after_records, and_then, go_on, plus, number_at, text_part, read_of, most}
-use Rattle.imagesize_source.specs.State.{State, state_after, step, total, new_bytes, front_after}
+use Rattle.imagesize_source.specs.State.{State, state_after, step, total, new_bytes, front_after, place_after, place_by}
 use Rattle.imagesize_source.proofs.Marks.{plus-is}
 use Rattle.imagesize_source.proofs.Parts.{part_length}
 use Rattle.std.proofs.lemmas.Bool.{or_right}
@@ -268,6 +268,25 @@ unfolding state_after
 covers_past n a [] counts = let front = offsets_total n (front_span a ∷ []) in omega arith
 covers_past n a (s ∷ spans) counts =
     let here = step_covers_all n a s spans counts in let rest = covers_past n (step a s) spans counts in omega arith
+
+-- the place of a source that counts is that of the spans
+pub place_past : (a : State) (spans : List Span) → a.frame.counts ≡ true
+    → (state_after a spans).place ≡ place_by a.front a.place spans
+unfolding state_after
+place_past a [] counts = refl
+place_past a (s ∷ spans) counts = place_past (step a s) spans counts ∙ rw counts refl
+
+-- spans that end within an input leave no reader past its end
+pub place_within : (n front place : ℕ) (spans : List Span) → place ≤ n
+    → ((k : ℕ) (s : Span) → k < length spans → (get_or spans k s).start + (get_or spans k s).len ≤ n)
+    → place_by front place spans ≤ n
+place_within n front place [] near ends = near
+place_within n front place (s ∷ spans) near ends =
+    place_within n (front_after front s.start s.len) (place_after front place s.start s.len) spans
+    (one_within n front place s.start s.len near (ends 0 s (omega arith)))
+    (λ k t below. ends (suc k) t (omega (arith, below))) where
+      one_within : (n front place offset k : ℕ) → place ≤ n → offset + k ≤ n → place_after front place offset k ≤ n
+      one_within n front place offset k near ends = grind (arith, nat_tests)
 
 -- each offset of the spans was taken, by a source that held nothing before
 pub offsets_past : (n : ℕ) (a : State) (spans : List Span) → a.frame.counts ≡ true → a.front ≡ 0

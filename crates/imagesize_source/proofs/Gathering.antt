@@ -3,7 +3,7 @@ use Rattle.std.proofs.Common.{◌≡◌, ℕ, zero, suc, ◌+◌, ◌-◌, ◌<�
 use Rattle.std.specs.Prelude.{unwrap_or}
 use Rattle.std.proofs.lemmas.Bool.{cases_lt}
 use Rattle.std.proofs.lemmas.Bool.Decides.{nat_tests}
-use Rattle.std.proofs.lemmas.List.{length-append, length-take, get_or-take, drop-drop, ext_get_or}
+use Rattle.std.proofs.lemmas.List.{length-append, length-take, get_or-take, drop-drop, ext_get_or, take-take}
 use Rattle.std.proofs.Math.Seq.{drop-cons, take-add, take-append_seam}
 use Rattle.imagesize_source.specs.declared.span.Span.{Span}
 use Rattle.imagesize_source.specs.Input.{part}
@@ -246,3 +246,17 @@ module _ (n : ℕ) (spans : List Span) (k : ℕ) (other : Span) (bytes rest run 
       let some : 0 < m = omega (arith, so_far.0, fits) in
       ap is_some (first ∙ known_here n spans k other rest offset here yes)
       ∙ front_none rest (offset - start) m some (ap length (sym runs) ∙ none)
+
+-- the first bytes behind an offset are a part
+pub first_part : (front bs : List ℕ) (offset n : ℕ) → n ≤ length bs → bs ≡ drop offset front
+    → take n bs ≡ part front offset (length (take n bs))
+unfolding part
+first_part front bs offset n there is =
+    let long : length (take n bs) ≡ n = omega (arith, length-take n bs, there) in
+    ap (take n) is ∙ ap (λ k. take k (drop offset front)) (sym long)
+
+-- it is twice the same
+pub again : (n : ℕ) (bs : List ℕ) → n ≤ length bs → take (length (take n bs)) (take n bs) ≡ take n bs
+again n bs there =
+    let long : length (take n bs) ≡ n = omega (arith, length-take n bs, there) in
+    ap (λ k. take k (take n bs)) long ∙ take-take n n bs (omega arith)

@@ -13,7 +13,7 @@ use Rattle.imagesize_source.specs.Reading.{Reads, part_read, text_part, text_rea
 use Rattle.imagesize_source.specs.State.{State, Runs, IsSound, state_after}
 use Rattle.imagesize_source.specs.Text.{is_ended, text_front}
 use Rattle.imagesize_source.proofs.Agreement.{span-some}
-use Rattle.imagesize_source.proofs.Texts.{found, front_all, front_any, front_first, front_length, front_more, front_take}
+use Rattle.imagesize_source.proofs.Texts.{ended_more, found, front_all, front_any, front_first, front_length, front_more, front_take}
 use Rattle.imagesize_source.proofs.Known.{length-filled_input}
 use Rattle.imagesize_source.proofs.Parts.{part_length, part_front, part_whole}
 
@@ -35,10 +35,6 @@ parts_sound n spans bytes log missed = λ honest.
 and_false : (b : Bool) → b && false ≡ false
 and_false true = refl
 and_false false = refl
-
--- a text that is ended stays so
-ended_more : (t : Text) (xs ys : List ℕ) → is_ended t xs ≡ true → is_ended t (xs ++ ys) ≡ true
-ended_more t xs ys is = sym (front_any t (xs ++ ys)) ∙ ap (is_ended t) (front_more t xs ys is) ∙ front_any t xs ∙ is
 
 -- one that is not ended goes on behind its bytes
 pub goes_behind : (t : Text) (xs ys : List ℕ) → is_ended t xs ≡ false → 0 < length ys

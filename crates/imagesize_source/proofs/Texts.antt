@@ -110,7 +110,7 @@ pub no_front : text_front Word [] ≡ []
 unfolding text_front
 no_front = refl
 
-pub no_end : is_ended Word [] ≡ false
+no_end : is_ended Word [] ≡ false
 unfolding is_ended
 no_end = refl
 
@@ -171,6 +171,10 @@ pub front_any : (t : Text) (bs : List ℕ) → is_ended t (text_front t bs) ≡ 
 unfolding text_front is_ended
 front_any (Line delimiter) bs = through_any (delimits (Line delimiter)) bs
 front_any Word bs = word_any bs
+
+-- a text that is ended stays so
+pub ended_more : (t : Text) (xs ys : List ℕ) → is_ended t xs ≡ true → is_ended t (xs ++ ys) ≡ true
+ended_more t xs ys is = sym (front_any t (xs ++ ys)) ∙ ap (is_ended t) (front_more t xs ys is) ∙ front_any t xs ∙ is
 
 -- a text is the first of the bytes
 pub front_first : (t : Text) (bs : List ℕ) → (rest : List ℕ) × (text_front t bs ++ rest ≡ bs)

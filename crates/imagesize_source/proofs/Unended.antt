@@ -1,11 +1,11 @@
--- What a text that its first bytes do not end is with those after them.
+-- How a text that its first bytes do not end goes on in the bytes after them.
 use Rattle.std.proofs.Common.{◌≡◌, ℕ, zero, suc, ◌+◌, ◌-◌, ◌<◌, ◌≤◌, Bool, true, false, ◌||◌, not, cond, List, [], ◌∷◌, ◌++◌, length, take, drop, slice_index, refl, sym, ap, ◌∙◌, arith}
 use Rattle.std.proofs.lemmas.List.Folds.{list_any-append}
 use Rattle.std.proofs.lemmas.List.{length-append, take-append-drop, take-take}
 use Rattle.std.specs.Char.{is_ascii_whitespace}
 use Rattle.std.specs.List.{list_any}
 use Rattle.imagesize_source.specs.Input.{part}
-use Rattle.imagesize_source.proofs.Texts.{no_end, through-cons, word_ended, word_front}
+use Rattle.imagesize_source.proofs.Texts.{ended_more, through-cons, word_ended, word_front}
 use Rattle.imagesize_source.specs.Text.{delimits, front_through, has_begun, is_ended, text_front}
 use Rattle.imagesize_source.specs.declared.text.Text.{Text}
 use Rattle.imagesize_source.specs.declared.text.Text.TheVariants.{Line, Word}
@@ -31,8 +31,8 @@ word_on (b ∷ bs) ys none =
     ] in
     word_ended b (bs ++ ys) ∙ cases (sym (word_ended b bs) ∙ none)
 
--- bytes of which none passes come before those up to the first that does
-pub through_on : (p : ℕ → Bool) (xs ys : List ℕ) → list_any p xs ≡ false → front_through p (xs ++ ys) ≡ xs ++ front_through p ys
+-- if none of the first bytes passes, they come before the bytes up to the first that passes
+through_on : (p : ℕ → Bool) (xs ys : List ℕ) → list_any p xs ≡ false → front_through p (xs ++ ys) ≡ xs ++ front_through p ys
 through_on p [] ys none = refl
 through_on p (x ∷ xs) ys none =
     let Goal : Bool → Type 0 = λ is. is || list_any p xs ≡ false
@@ -47,8 +47,8 @@ pub line_front_on : (delimiter : ℕ) (xs ys : List ℕ) → is_ended (Line deli
 unfolding text_front is_ended
 line_front_on delimiter xs ys none = through_on (delimits (Line delimiter)) xs ys none
 
--- a word too; once it has begun, it goes on up to white space
-pub word_front_on : (xs ys : List ℕ) → is_ended Word xs ≡ false
+-- a word has the bytes before, and those up to white space once it has begun
+word_front_on : (xs ys : List ℕ) → is_ended Word xs ≡ false
     → text_front Word (xs ++ ys) ≡ xs ++ cond (has_begun xs) (front_through is_ascii_whitespace ys) (text_front Word ys)
 word_front_on [] ys none = refl
 word_front_on (b ∷ bs) ys none =
@@ -61,30 +61,14 @@ word_front_on (b ∷ bs) ys none =
     ] in
     word_front b (bs ++ ys) ∙ cases (sym (word_ended b bs) ∙ none)
 
-first_none : (p : ℕ → Bool) (xs ys : List ℕ) → list_any p (xs ++ ys) ≡ false → list_any p xs ≡ false
-first_none p [] ys none = refl
-first_none p (x ∷ xs) ys none =
-    let Goal : Bool → Type 0 = λ is. is || list_any p (xs ++ ys) ≡ false → is || list_any p xs ≡ false in
-    let cases : Goal (p x) = elim (p x) as Goal [ true ↦ λ h. absurd cc | false ↦ λ h. first_none p xs ys h ] in
-    cases none
+-- where bytes do not end a text, the first of them do not either
+open_before : (t : Text) (xs ys : List ℕ) → is_ended t (xs ++ ys) ≡ false → is_ended t xs ≡ false
+open_before t xs ys none = by_end (is_ended t xs) refl where
+  by_end : (is : Bool) → is_ended t xs ≡ is → is_ended t xs ≡ false
+  by_end false still = still
+  by_end true ends = absurd (let no : true ≡ false = sym (ended_more t xs ys ends) ∙ none in cc)
 
-first_open : (xs ys : List ℕ) → is_ended Word (xs ++ ys) ≡ false → is_ended Word xs ≡ false
-first_open [] ys none = no_end
-first_open (b ∷ bs) ys none =
-    let Goal : Bool → Type 0 = λ is. cond is (is_ended Word (bs ++ ys)) (list_any is_ascii_whitespace (bs ++ ys)) ≡ false
-    → cond is (is_ended Word bs) (list_any is_ascii_whitespace bs) ≡ false in
-    let cases : Goal (is_ascii_whitespace b) = elim (is_ascii_whitespace b) as Goal [
-      | true ↦ λ h. first_open bs ys h
-      | false ↦ λ h. first_none is_ascii_whitespace bs ys h
-    ] in
-    word_ended b bs ∙ cases (sym (word_ended b (bs ++ ys)) ∙ none)
-
--- where bytes do not end a text, the first of them do not
-pub open_before : (t : Text) (xs ys : List ℕ) → is_ended t (xs ++ ys) ≡ false → is_ended t xs ≡ false
-unfolding is_ended
-open_before (Line delimiter) xs ys none = first_none (delimits (Line delimiter)) xs ys none
-open_before Word xs ys none = first_open xs ys none
-
+-- where the first bytes do not end a text, fewer of them do not either
 pub open_first : (t : Text) (bs : List ℕ) (k most : ℕ) → k ≤ most → is_ended t (take most bs) ≡ false
     → is_ended t (take k bs) ≡ false
 open_first t bs k most few none =
@@ -92,7 +76,7 @@ open_first t bs k most few none =
     ∙ open_before t (take k (take most bs)) (drop k (take most bs))
     (ap (is_ended t) (take-append-drop k (take most bs)) ∙ none)
 
--- where a part does not end a text, the first bytes of another part from there on do not
+-- where a part does not end a text, the first bytes of another part from the same offset on do not either
 pub open_part : (t : Text) (d bs : List ℕ) (offset searched found k : ℕ) → bs ≡ part d offset found → k ≤ searched → k ≤ found
     → is_ended t (part d offset searched) ≡ false → is_ended t (take k bs) ≡ false
 unfolding part
@@ -100,7 +84,7 @@ open_part t d bs offset searched found k is few fits none =
     ap (is_ended t) (ap (take k) is ∙ take-take k found (drop offset d) fits) ∙ open_first t (drop offset d) k searched few none
 
 -- whether a word has begun is seen at the last byte, where that does not end it
-pub begun_last : (xs : List ℕ) (b : ℕ) → is_ended Word (xs ++ b ∷ []) ≡ false
+begun_last : (xs : List ℕ) (b : ℕ) → is_ended Word (xs ++ b ∷ []) ≡ false
     → not (is_ascii_whitespace b) ≡ has_begun (xs ++ b ∷ [])
 begun_last [] b none =
     let Goal : Bool → Type 0 = λ is. not is ≡ not is || false in

@@ -46,6 +46,11 @@ pub record HasParts (d : List ℕ) (n : ℕ) (spans : List Span) (content : List
 abbrev pub AllKnown : ℕ → List Span → List ℕ → List Span → Type 0
 AllKnown n spans bytes seen = (offset : ℕ) → is_covered seen offset ≡ true → is_some (byte_in_parts n spans bytes offset) ≡ true
 
+-- These last parts give each byte from an offset on that all parts give.
+abbrev pub LeavesOut : ℕ → List Span → List ℕ → ℕ → List Span → List ℕ → Type 0
+LeavesOut n spans bytes floor rest content =
+    (offset : ℕ) → floor ≤ offset → byte_in_parts n spans bytes offset ≡ byte_in_parts n rest content offset
+
 -- the missing bytes lie within the input, and the first of them is not known
 abbrev pub Lacks : ℕ → List Span → List ℕ → Missing → Type 0
 Lacks n spans bytes m = (0 < m.sure) × (m.sure ≤ m.most) × (m.start + m.most ≤ n) × (is_some (byte_in_parts n spans bytes m.start) ≡ false)
@@ -57,6 +62,7 @@ parts_state n spans bytes seen missed = record {
   held = record { honest = nat_lt n (2 ^ 63); input = filled_input n spans bytes; can_fail = true };
   front = 0;
   taken = 0;
+  place = 0;
   recorded = Some seen;
   missed = Some missed;
   failure = end_of_input;

@@ -62,13 +62,15 @@ pub record Held : Type 0 where
   pub can_fail : Bool
 
 -- The state of a source. `front` is how many of its first bytes it holds, `taken` how many bytes it has read, and
--- `recorded` the spans that it has recorded. `failure` is the error that a failed call returns. A source that reports
--- it also has what its last failed read missed, and the error of its last failure.
+-- `place` the offset at which it leaves its reader. `recorded` is the spans that it has recorded, and `failure` the
+-- error that a failed call returns. A source that reports it also has what its last failed read missed, and the error
+-- of its last failure.
 pub record State : Type 0 where
   pub frame : Frame
   pub held : Held
   pub front : ℕ
   pub taken : ℕ
+  pub place : ℕ
   pub recorded : Option (List Span)
   pub missed : Option (Option Missing)
   pub failure : ImageError
@@ -82,11 +84,23 @@ new_bytes front offset n = (offset + n) - max offset front
 abbrev pub front_after : ℕ → ℕ → ℕ → ℕ
 front_after front offset n = if nat_le offset front then max front (min most_held (offset + n)) else front
 
+-- Where a source leaves its reader after such a read: at its end, if it gave a byte past those that are held. Any other
+-- read moves nothing.
+abbrev pub place_after : ℕ → ℕ → ℕ → ℕ → ℕ
+place_after front place offset n = if nat_le (offset + n) (max offset front) then place else offset + n
+
+-- where a source that held the first `front` bytes, and stood at `place`, leaves its reader after the reads of these
+-- spans
+abbrev pub place_by : ℕ → ℕ → List Span → ℕ
+place_by front place [] = place
+place_by front place (s ∷ spans) = place_by (front_after front s.start s.len) (place_after front place s.start s.len) spans
+
 -- the state after the read of a span
 abbrev pub step : State → Span → State
 step a s = record a {
   front = if a.frame.counts then front_after a.front s.start s.len else a.front;
   taken = if a.frame.counts then a.taken + new_bytes a.front s.start s.len else a.taken;
+  place = if a.frame.counts then place_after a.front a.place s.start s.len else a.place;
   recorded = option_map (λ spans. spans ++ s ∷ []) a.recorded;
 }
 
@@ -152,6 +166,7 @@ slice_state d = record {
   held = record { honest = true; input = d; can_fail = false };
   front = 0;
   taken = 0;
+  place = 0;
   recorded = None;
   missed = None;
   failure = end_of_input;
@@ -165,6 +180,7 @@ recording_state d spans home = record {
   held = record { honest = true; input = d; can_fail = false };
   front = 0;
   taken = 0;
+  place = 0;
   recorded = Some spans;
   missed = None;
   failure = end_of_input;

@@ -1,6 +1,6 @@
 //! Texts within an input: bytes up to one that ends them.
 ghost use Rattle.std.specs.Prelude.{◌≡◌, ◌+◌, ◌++◌, ◌≤◌, not, true, false, None, length, IfSome};
-ghost use Rattle.std.specs.List.{list_any, position, position_or_len};
+ghost use Rattle.std.specs.List.{list_any, position};
 ghost use Rattle.std.specs.Char.{is_ascii_whitespace};
 ghost use Rattle.imagesize_source.specs.Text.{ends, front_through, has_begun, is_ended, text_front};
 
@@ -43,10 +43,9 @@ pub fn ended_length(text: Text, bytes: &[u8]) -> Option<usize>
     }
 }
 
-/// How many of the rest belong to a text that the first bytes do not end, with the byte that ends it. `None` if none of the rest
-/// ends it either.
+/// How many bytes of `rest` belong to a text that begins with `first`, with the byte that ends it. `None` if no byte of `rest` ends it.
 ///
-/// The first bytes are not searched again.
+/// The bytes of `first` do not end it, and are not searched.
 #[inline]
 pub fn ended_behind(text: Text, first: &[u8], rest: &[u8]) -> Option<usize>
     requires { is_ended text first.now ≡ false }

@@ -1,6 +1,7 @@
 //! A check of uploads: an image is admitted if it has few enough pixels.
 ghost use Rattle.std.specs.Prelude.{◌≡◌, ◌*◌, ◌+◌, ◌-◌, ◌^◌, ◌<◌, ◌≤◌, ◌||◌, IfOk, IsErr, None, Some, is_none, length, nat_eq, option_map, take, true};
-ghost use Rattle.imagesize_io.specs.Answers.{Leaves};
+ghost use Rattle.imagesize_io.specs.Answers.{Leaves, LeavesAt};
+ghost use Rattle.imagesize.specs.Meaning.{meaning};
 ghost use Rattle.imagesize_io.specs.Telling.{ReadTells, SeekTells, count_after, failure_after, failure_after_read, may_fail};
 ghost use Rattle.imagesize_uses.specs.Gate.{Admits, Decides, IfTooLarge, IsFaultOf, gate_verdict, limit_of, limited_count, limited_failure};
 
@@ -29,7 +30,7 @@ pub struct Admission {
 
 /// Admits the image in a reader's bytes if its size has at most `most_pixels` pixels.
 ///
-/// Afterwards the reader's offset is unspecified, and the reader may be used again.
+/// Afterwards the reader may be used again. It is left as `reader_probe` leaves it.
 pub fn admit<R: Told>(reader: &mut R, most_pixels: u64) -> Admission
     ensures admits { Admits (R.telling reader.old) most_pixels result }
 
@@ -39,6 +40,10 @@ pub fn admit<R: Told>(reader: &mut R, most_pixels: u64) -> Admission
     ensures counts { R.count reader.new ≡ option_map (λ c. c + result.taken) (R.count reader.old) }
     ensures fault { IsFaultOf (R.failure reader.new) result.verdict }
     ensures leaves { Leaves (R.telling reader.old) (R.telling reader.new) }
+
+    // An honest reader that cannot fail is left where the last read ended that gave a byte past the kept ones. If no read gave one,
+    // it is left at its end.
+    ensures offset { LeavesAt (R.telling reader.old) (R.telling reader.new) meaning }
 {
     let probed = reader_probe(reader);
     Admission {

@@ -197,6 +197,7 @@ fn go_to<R: Told>(reader: &mut R, progress: &mut Progress, offset: u64) -> Resul
     ensures since { drift (R.count reader.new) progress.new.taken ≡ drift (R.count reader.old) progress.old.taken }
     ensures behind { behind (R.telling reader.new) progress.new ≡ behind (R.telling reader.old) progress.old }
     ensures calm { OnOk result (progress.new.fault ≡ progress.old.fault) }
+    ensures position { progress.new.position ≡ progress.old.position }
     ensures taken { progress.new.taken ≡ progress.old.taken }
     ensures keeps { KeepsCounts progress.old progress.new }
     ensures stops { IfErr result (StopsBy progress.new (R.failure reader.new)) }
@@ -232,6 +233,9 @@ pub(super) fn read_from<R: Told>(
         return Ok(0);
     }
     let count = fill(reader, progress, offset, buffer)?;
-    progress.position = progress.offset;
+    // A read that gives no byte moves nothing.
+    if count > 0 {
+        progress.position = progress.offset;
+    }
     Ok(count)
 }

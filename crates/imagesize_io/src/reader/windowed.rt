@@ -30,7 +30,7 @@ fn read_windowed<R: Told>(
         return Ok(count);
     }
     let count = read_from(reader, &mut ledger.progress, offset, buffer)?;
-    ledger.present = ledger.progress.position;
+    ledger.present = ledger.progress.offset;
     keep_front(&mut ledger.window, offset, buffer, count);
     Ok(count)
 }

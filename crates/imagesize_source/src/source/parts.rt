@@ -1,10 +1,10 @@
 //! The known parts of an input as a source. A read of known bytes succeeds; any other read fails and records which byte it
 //! misses.
-ghost use Rattle.std.specs.Prelude.{◌≡◌, ℕ, ◌+◌, ◌-◌, ◌<◌, ◌≤◌, ◌++◌, ◌&&◌, [], ◌∷◌, if◌then◌else◌, min, take, drop, length, slice_index, not, nat_le, nat_lt, is_some, true, false, None, Some, IfErr, IfOk, IfSome, IsSomeAnd};
+ghost use Rattle.std.specs.Prelude.{◌≡◌, ℕ, List, ◌+◌, ◌-◌, ◌<◌, ◌≤◌, ◌++◌, ◌&&◌, [], ◌∷◌, if◌then◌else◌, min, take, drop, length, slice_index, not, nat_le, nat_lt, is_some, true, false, None, Some, IfErr, IfOk, IfSome, IsSomeAnd};
 ghost use Rattle.std.specs.Option.{ForSome};
 ghost use Rattle.imagesize_source.specs.Agreement.{has_offset};
 ghost use Rattle.imagesize_source.specs.Input.{part, span_at};
-ghost use Rattle.imagesize_source.specs.Known.{AllKnown, Lacks, filled_input, byte_in_parts, parts_state, length_within};
+ghost use Rattle.imagesize_source.specs.Known.{AllKnown, Lacks, LeavesOut, filled_input, byte_in_parts, parts_state, length_within};
 ghost use Rattle.imagesize_source.specs.Reading.{part_read, text_read, map_answer};
 ghost use Rattle.imagesize_source.specs.State.{Runs};
 ghost use Rattle.imagesize_source.specs.Text.{is_ended, text_front};
@@ -41,9 +41,20 @@ pub struct PartsSource<'a> {
     pub missed: Option<Missing>,
     /// The spans of the reads.
     pub log: SpanLog,
+    // The parts at which a search begins.
+    rest: Rest<'a>,
     ghost front_known: { (i : ℕ) → i < length front.now → byte_in_parts told spans.now bytes.now i ≡ Some (slice_index front.now i) },
     ghost seen: { AllKnown told spans.now bytes.now log.spans },
     ghost lacks: { ForSome missed (Lacks told spans.now bytes.now) },
+    ghost later: { LeavesOut told spans.now bytes.now rest.floor rest.spans.now rest.bytes.now },
+}
+
+// The last parts of a list, and their bytes. The parts before them have no byte from `floor` on.
+#[derive(Clone, Copy, Debug)]
+struct Rest<'a> {
+    spans: &'a [Span],
+    bytes: &'a [u8],
+    floor: u64,
 }
 
 impl<'a> PartsSource<'a> {
@@ -62,6 +73,11 @@ impl<'a> PartsSource<'a> {
             front: known_from(spans, bytes, told, 0),
             missed: None,
             log: SpanLog::new(),
+            rest: Rest {
+                spans,
+                bytes,
+                floor: 0,
+            },
         }
     }
 
@@ -134,22 +150,75 @@ impl<'a> PartsSource<'a> {
     // Copies the known bytes of a read into the buffer, up to the first missing byte. Returns how many it copied, and how many
     // bytes of the buffer lie within the input.
     #[inline(always)]
-    fn fill_known(&self, offset: u64, buffer: &mut [u8]) -> (usize, usize)
-        ensures wanted { result.1 ≡ min (length buffer.new) (self.now.told - offset) }
+    fn fill_known(&mut self, offset: u64, buffer: &mut [u8]) -> (usize, usize)
+        ensures spans { self.new.spans.now ≡ self.old.spans.now }
+        ensures bytes { self.new.bytes.now ≡ self.old.bytes.now }
+        ensures told { self.new.told ≡ self.old.told }
+        ensures seen { self.new.log.spans ≡ self.old.log.spans }
+        ensures missed { self.new.missed ≡ self.old.missed }
+        ensures wanted { result.1 ≡ min (length buffer.new) (self.old.told - offset) }
         ensures within { result.0 ≤ result.1 }
-        ensures copied { take result.0 buffer.new ≡ part (filled_input self.now.told self.now.spans.now self.now.bytes.now) offset result.0 }
-        ensures known { (i : ℕ) → i < result.0 → is_some (byte_in_parts self.now.told self.now.spans.now self.now.bytes.now (offset + i)) ≡ true }
-        ensures missing { result.0 < result.1 → is_some (byte_in_parts self.now.told self.now.spans.now self.now.bytes.now (offset + result.0)) ≡ false }
+        ensures copied { take result.0 buffer.new ≡ part (filled_input self.old.told self.old.spans.now self.old.bytes.now) offset result.0 }
+        ensures known { (i : ℕ) → i < result.0 → is_some (byte_in_parts self.old.told self.old.spans.now self.old.bytes.now (offset + i)) ≡ true }
+        ensures missing { result.0 < result.1 → is_some (byte_in_parts self.old.told self.old.spans.now self.old.bytes.now (offset + result.0)) ≡ false }
     {
+        self.pass_over(offset);
         let wanted = count_there(self.told, offset, buffer.len());
-        let found = gather(
-            self.spans,
-            self.bytes,
-            self.told,
-            offset,
-            &mut buffer[..wanted],
-        );
+        let found = self.gather(offset, &mut buffer[..wanted]);
         (found, wanted)
+    }
+
+    // Copies the known bytes of a read into the buffer, up to the first missing byte, and returns how many it copied.
+    fn gather(&self, offset: u64, buffer: &mut [u8]) -> usize
+        requires { length buffer.old ≤ self.now.told - offset }
+        ensures within { result ≤ length buffer.old }
+        ensures copied { take result buffer.new ≡ part (filled_input self.now.told self.now.spans.now self.now.bytes.now) offset result }
+        ensures known { (i : ℕ) → i < result → is_some (byte_in_parts self.now.told self.now.spans.now self.now.bytes.now (offset + i)) ≡ true }
+        ensures missing { result < length buffer.old → is_some (byte_in_parts self.now.told self.now.spans.now self.now.bytes.now (offset + result)) ≡ false }
+    {
+        let mut count = 0;
+        while count < buffer.len() {
+            let run = self.known_at(offset + count as u64);
+            if run.is_empty() {
+                return count;
+            }
+            count += put(run, buffer, count);
+        }
+        count
+    }
+
+    // The known bytes from an offset on, from the first part that contains it.
+    #[inline(always)]
+    fn known_at(&self, offset: u64) -> &'a [u8]
+        ensures known { (i : ℕ) → i < length result.now → byte_in_parts self.now.told self.now.spans.now self.now.bytes.now (offset + i) ≡ Some (slice_index result.now i) }
+        ensures none { length result.now ≡ 0 → is_some (byte_in_parts self.now.told self.now.spans.now self.now.bytes.now offset) ≡ false }
+    {
+        let rest = &self.rest;
+        if offset < rest.floor {
+            return known_from(self.spans, self.bytes, self.told, offset);
+        }
+        known_from(rest.spans, rest.bytes, self.told, offset)
+    }
+
+    // Passes over the parts that end before the offset, so that the next search begins behind them. An offset before them begins
+    // again at the first part.
+    //
+    // A search would go over all parts at each read. So a walk along n parts would take time that grows with the square of n.
+    fn pass_over(&mut self, offset: u64)
+        ensures spans { self.new.spans.now ≡ self.old.spans.now }
+        ensures bytes { self.new.bytes.now ≡ self.old.bytes.now }
+        ensures told { self.new.told ≡ self.old.told }
+        ensures seen { self.new.log.spans ≡ self.old.log.spans }
+        ensures missed { self.new.missed ≡ self.old.missed }
+    {
+        if offset < self.rest.floor {
+            self.rest = Rest {
+                spans: self.spans,
+                bytes: self.bytes,
+                floor: 0,
+            };
+        }
+        self.rest = passed_over(&self.rest, self.told, offset);
     }
 
     // A read that `front` does not contain as a whole.
@@ -176,17 +245,11 @@ impl<'a> PartsSource<'a> {
         Ok(found)
     }
 
-    // A text that `front` does not contain as a whole. The first `searched` bytes do not end it.
+    // A text that `front` does not contain as a whole. The bytes of `front` are not searched again.
     #[cold]
     #[inline(never)]
-    fn gather_text(
-        &mut self,
-        offset: u64,
-        text: Text,
-        searched: usize,
-        buffer: &mut [u8],
-    ) -> Result<usize, Halt>
-        requires { is_ended text (part (filled_input self.old.told self.old.spans.now self.old.bytes.now) offset searched) ≡ false }
+    fn gather_text(&mut self, offset: u64, text: Text, buffer: &mut [u8]) -> Result<usize, Halt>
+        requires { is_ended text (take (length buffer.old) (drop offset self.old.front.now)) ≡ false }
         ensures bound { IfOk result (λ n. n ≤ length buffer.new) }
         ensures there { IfOk result (λ n. n ≤ self.old.told - offset) }
         ensures runs { Runs (parts_state self.old.told self.old.spans.now self.old.bytes.now self.old.log.spans self.old.missed)
@@ -194,8 +257,9 @@ impl<'a> PartsSource<'a> {
             (map_answer (λ n. take n buffer.new) result)
             (text_read (filled_input self.old.told self.old.spans.now self.old.bytes.now) text offset (length buffer.new)) }
     {
+        let run = bytes_behind(self.front, offset).len();
         let (found, wanted) = self.fill_known(offset, buffer);
-        let searched = searched.min(found);
+        let searched = run.min(found);
         let Some(count) = uncut_length(text, &buffer[..found], searched, wanted) else {
             return Err(self.miss(offset, found, 1, wanted - found));
         };
@@ -231,10 +295,8 @@ impl Source for PartsSource<'_> {
 
     #[inline(always)]
     fn read_text(&mut self, offset: u64, text: Text, buffer: &mut [u8]) -> Result<usize, Halt> {
-        let run = bytes_behind(self.front, offset);
-        let Some(count) = copy_ended(run, text, buffer) else {
-            let searched = run.len().min(buffer.len());
-            return self.gather_text(offset, text, searched, buffer);
+        let Some(count) = copy_ended(bytes_behind(self.front, offset), text, buffer) else {
+            return self.gather_text(offset, text, buffer);
         };
         self.see(offset, count);
         Ok(count)
@@ -282,30 +344,15 @@ pub fn uncut_length(text: Text, bytes: &[u8], searched: usize, wanted: usize) ->
     ensures uncut { IfSome result (λ _. (nat_lt (length bytes.now) wanted && not (is_ended text bytes.now)) ≡ false) }
     ensures cut { result ≡ None → (nat_lt (length bytes.now) wanted && not (is_ended text bytes.now)) ≡ true }
 {
+    // A push of one byte often brings the first byte of a text. This saves the call for it.
+    if searched == bytes.len() && searched < wanted {
+        return None;
+    }
     match ended_behind(text, &bytes[..searched], &bytes[searched..]) {
         Some(more) => Some(searched + more),
         None if bytes.len() < wanted => None,
         None => Some(bytes.len()),
     }
-}
-
-// Copies the known bytes of a read into the buffer, up to the first missing byte, and returns how many it copied.
-fn gather(spans: &[Span], bytes: &[u8], told: u64, offset: u64, buffer: &mut [u8]) -> usize
-    requires { length buffer.old ≤ told - offset }
-    ensures within { result ≤ length buffer.old }
-    ensures copied { take result buffer.new ≡ part (filled_input told spans.now bytes.now) offset result }
-    ensures known { (i : ℕ) → i < result → is_some (byte_in_parts told spans.now bytes.now (offset + i)) ≡ true }
-    ensures missing { result < length buffer.old → is_some (byte_in_parts told spans.now bytes.now (offset + result)) ≡ false }
-{
-    let mut count = 0;
-    while count < buffer.len() {
-        let run = known_from(spans, bytes, told, offset + count as u64);
-        if run.is_empty() {
-            return count;
-        }
-        count += put(run, buffer, count);
-    }
-    count
 }
 
 /// Copies the first of these bytes into the buffer from an index on, as many as fit, and returns how many it copied.
@@ -337,6 +384,33 @@ fn known_from<'a>(spans: &[Span], bytes: &'a [u8], told: u64, offset: u64) -> &'
         rest = bytes_behind(rest, len);
     }
     &rest[..0]
+}
+
+// The parts from the first one on that does not end before the offset.
+fn passed_over<'a>(rest: &Rest<'a>, told: u64, offset: u64) -> Rest<'a>
+    ensures { (spans : List Span) (bytes : List ℕ) → LeavesOut told spans bytes rest.now.floor rest.now.spans.now rest.now.bytes.now
+        → LeavesOut told spans bytes result.floor result.spans.now result.bytes.now }
+{
+    let Rest {
+        mut spans,
+        mut bytes,
+        mut floor,
+    } = *rest;
+    while let Some((span, others)) = spans.split_first() {
+        let len = length_within(span, told);
+        let end = span.start + len;
+        if end > offset {
+            break;
+        }
+        spans = others;
+        bytes = bytes_behind(bytes, len);
+        floor = floor.max(end);
+    }
+    Rest {
+        spans,
+        bytes,
+        floor,
+    }
 }
 
 // How many bytes of a span lie within an input of this length.

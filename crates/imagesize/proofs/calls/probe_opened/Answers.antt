@@ -1,6 +1,9 @@
 use Rattle.std.proofs.Common.{refl, ap, arith, rules}
 use Rattle.imagesize.proofs.Endings.{budget_taken, fault_last, fault_settled, kept_plain, leaves_reader, no_memory, settled}
-use Rattle.imagesize.proofs.Meanings.{probes_opened}
+use Rattle.imagesize.proofs.Meanings.{bounded_meaning, probes_opened}
+use Rattle.imagesize.proofs.Within.{meaning_ends}
+use Rattle.imagesize.specs.Meaning.{meaning_reads}
+use Rattle.imagesize_io.proofs.Leaving.{leaves_at}
 use Rattle.imagesize.proofs.calls.probe_opened.Goals as goal
 
 pub returns-clause-probes : goal.returns-clause-probes
@@ -35,3 +38,11 @@ returns-clause-leaves g c = λ telling opens.
     c.probe-kind.new.source.ledger.progress.fault _ _
     c.new-source.ensures.state (search rules) c.probe-kind.ensures.runs opens)
     c.settle.ensures.seeks (search rules)
+
+pub returns-clause-offset : goal.returns-clause-offset
+returns-clause-offset g c = λ telling opens.
+    leaves_at telling _ _ _ _ _ c.args.opened
+    c.probe-kind.new.source.ledger.progress c.probe-kind.new.source.ledger.window.items c.left-left.result _ _ _
+    meaning_reads bounded_meaning meaning_ends c.new-source.ensures.state opens c.probe-kind.ensures.runs
+    (search rules) refl refl (λ none. ap (λ r. g.R.Told.telling r) (c.settle.ensures.stays none)) c.settle.ensures.seeks
+    c.left-left.ensures.position c.left-left.ensures.there

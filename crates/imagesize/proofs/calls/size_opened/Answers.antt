@@ -1,12 +1,14 @@
 use Rattle.std.proofs.Common.{Result, IfErr, ◌≡◌, false, refl, sym, ap, subst, rules}
 use Rattle.imagesize.proofs.Endings.{budget_counted, fault_last, fault_settled, kept_plain, leaves_reader, no_memory, settled}
-use Rattle.imagesize.proofs.Meanings.{size_answers}
-use Rattle.imagesize.specs.Meaning.{size_of}
+use Rattle.imagesize.proofs.Meanings.{bounded_size, size_answers}
+use Rattle.imagesize.specs.Meaning.{size_of, size_reads}
 use Rattle.imagesize_io.specs.Answers.{Answers}
 use Rattle.imagesize_source.specs.Errors.{is_memory}
 use Rattle.imagesize_source.specs.declared.error.ImageError.{ImageError}
 use Rattle.imagesize_types.specs.declared.size.ImageSize.{ImageSize}
 use Rattle.imagesize_source.specs.State.{since_of}
+use Rattle.imagesize.proofs.Within.{size_ends}
+use Rattle.imagesize_io.proofs.Leaving.{leaves_at}
 use Rattle.imagesize.proofs.calls.size_opened.Goals as goal
 
 pub returns-clause-answers : goal.returns-clause-answers
@@ -43,3 +45,11 @@ returns-clause-leaves g c = λ telling opens.
     c.size-found.new.source.ledger.progress.fault _ _
     c.new-source.ensures.state (search rules) c.size-found.ensures opens)
     c.settle.ensures.seeks (search rules)
+
+pub returns-clause-offset : goal.returns-clause-offset
+returns-clause-offset g c = λ telling opens.
+    leaves_at telling _ _ _ _ _ c.args.opened
+    c.size-found.new.source.ledger.progress c.size-found.new.source.ledger.window.items c.left-left.result _ _ _
+    (λ d offset. size_reads c.args.kind d) (bounded_size c.args.kind) (size_ends c.args.kind) c.new-source.ensures.state opens c.size-found.ensures
+    (search rules) refl refl (λ none. ap (λ r. g.R.Told.telling r) (c.settle.ensures.stays none)) c.settle.ensures.seeks
+    c.left-left.ensures.position c.left-left.ensures.there

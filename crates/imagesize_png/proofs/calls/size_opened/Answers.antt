@@ -1,8 +1,9 @@
 use Rattle.std.proofs.Common.{Result, IfErr, ◌≡◌, false, refl, sym, ap, subst, rules}
 use Rattle.imagesize.proofs.Endings.{budget_counted, fault_last, fault_settled, kept_plain, leaves_reader, no_memory, settled}
+use Rattle.imagesize_io.proofs.Leaving.{leaves_at}
 use Rattle.imagesize_io.specs.Answers.{Answers}
-use Rattle.imagesize_png.proofs.Laws.{png_answers, png_counts}
-use Rattle.imagesize_png.specs.Png.{png_of}
+use Rattle.imagesize_png.proofs.Laws.{bounded_png, png_answers, png_counts, png_ends}
+use Rattle.imagesize_png.specs.Png.{png_of, png_reads}
 use Rattle.imagesize_source.specs.Errors.{is_memory}
 use Rattle.imagesize_source.specs.declared.error.ImageError.{ImageError}
 use Rattle.imagesize_types.specs.declared.size.ImageSize.{ImageSize}
@@ -46,3 +47,11 @@ returns-clause-leaves g c = λ telling opens.
     c.size-found.new.source.ledger.progress.fault _ _
     c.new-source.ensures.state (search rules) c.size-found.ensures opens)
     c.settle.ensures.seeks (search rules)
+
+pub returns-clause-offset : goal.returns-clause-offset
+returns-clause-offset g c = λ telling opens.
+    leaves_at telling _ _ _ _ _ c.args.opened
+    c.size-found.new.source.ledger.progress c.size-found.new.source.ledger.window.items c.left-left.result _ _ _
+    png_reads bounded_png png_ends c.new-source.ensures.state opens c.size-found.ensures
+    (search rules) refl refl (λ none. ap (λ r. g.R.Told.telling r) (c.settle.ensures.stays none)) c.settle.ensures.seeks
+    c.left-left.ensures.position c.left-left.ensures.there

@@ -9,7 +9,7 @@ returns-then-pays-clause-runs c =
     let d = c.args.self.now.bytes.now in
     let n = c.copy_part-count.result in
     let buffer = c.copy_part-count.new.buffer in
-    rw c.pays.ensures.bytes (paid_runs d (take n buffer) (part_read d c.args.offset (length buffer)) _ _ _ _ c.args.offset n
+    rw c.pays.ensures.bytes (paid_runs d (take n buffer) (part_read d c.args.offset (length buffer)) _ _ _ _ _ _ c.args.offset n
     (omega arith) (omega arith)
     (ap Ok (sym (front_is d buffer _ c.args.offset n c.copy_part-count.ensures.count c.copy_part-count.ensures.copied
     c.copy_part-count.auto.buffer)))
@@ -21,7 +21,7 @@ returns-else-pays-clause-runs c =
     let d = c.args.self.now.bytes.now in
     let n = c.copy_part-count.result in
     let buffer = c.copy_part-count.new.buffer in
-    rw c.pays.ensures.bytes (spent_runs d (part_read d c.args.offset (length buffer)) _ _ _ _ c.args.offset n
+    rw c.pays.ensures.bytes (spent_runs d (part_read d c.args.offset (length buffer)) _ _ _ _ _ _ c.args.offset n
     (omega arith) (omega arith)
     (part_marks d c.args.offset (length buffer) n (omega (arith, c.copy_part-count.ensures.count, c.copy_part-count.auto.buffer)))
     (c.pays.ensures.spent c.if-pays.false))

@@ -8,7 +8,7 @@ returns-then-pays-clause-runs c =
     let d = c.args.self.now.bytes.now in
     let n = c.copy_text_at-count.result in
     let buffer = c.copy_text_at-count.new.buffer in
-    rw c.pays.ensures.bytes (paid_runs d (take n buffer) (text_read d c.args.text c.args.offset (length buffer)) _ _ _ _
+    rw c.pays.ensures.bytes (paid_runs d (take n buffer) (text_read d c.args.text c.args.offset (length buffer)) _ _ _ _ _ _
     c.args.offset n (omega arith) (omega arith) (ap Ok (sym c.copy_text_at-count.ensures.text))
     (text_marks d buffer c.args.text c.args.offset n c.copy_text_at-count.ensures.text c.copy_text_at-count.ensures.fits)
     (c.pays.ensures.paid c.if-pays.true))
@@ -18,7 +18,7 @@ returns-else-pays-clause-runs c =
     let d = c.args.self.now.bytes.now in
     let n = c.copy_text_at-count.result in
     let buffer = c.copy_text_at-count.new.buffer in
-    rw c.pays.ensures.bytes (spent_runs d (text_read d c.args.text c.args.offset (length buffer)) _ _ _ _ c.args.offset n
+    rw c.pays.ensures.bytes (spent_runs d (text_read d c.args.text c.args.offset (length buffer)) _ _ _ _ _ _ c.args.offset n
     (omega arith) (omega arith)
     (text_marks d buffer c.args.text c.args.offset n c.copy_text_at-count.ensures.text c.copy_text_at-count.ensures.fits)
     (c.pays.ensures.spent c.if-pays.false))

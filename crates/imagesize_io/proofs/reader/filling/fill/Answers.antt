@@ -17,6 +17,7 @@ returns g c =
       since = search rules;
       behind = search rules;
       calm = search rules;
+      place = search rules;
       keeps = search rules;
       stops = search rules;
     }
@@ -35,6 +36,7 @@ returns-in_err-rest g c =
       since = rest.since ∙ read.since;
       behind = rest.behind ∙ read.behind;
       calm = tt;
+      place = tt;
       keeps = keeps_both read.keeps rest.keeps;
       stops = rest.stops;
     })

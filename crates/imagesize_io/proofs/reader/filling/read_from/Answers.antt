@@ -10,7 +10,8 @@ returns-then-not-branch-clause-reads g c =
     record {
       bound = omega arith;
       stand = not_reached _ _ _ _ _ _ goes.stand c.if-not-branch.true;
-      stands = λ near. omega (arith, near, goes.far, c.if-not-branch.true);
+      moves = λ some. absurd (omega (arith, some));
+      stays = λ none. goes.position;
       taken = omega (arith, goes.taken);
       within = within_none _ _ _ _ _ goes.taken;
       pays = λ far some. omega arith;
@@ -21,8 +22,8 @@ returns-then-not-branch-clause-reads g c =
       stops = tt;
     }
 
-pub returns-clause-reads : goal.returns-clause-reads
-returns-clause-reads g c =
+pub returns-then-count-gt0-clause-reads : goal.returns-then-count-gt0-clause-reads
+returns-then-count-gt0-clause-reads g c =
     let goes = c.in_ok-go_to.ensures in
     let filled = c.in_ok-count.ensures in
     record {
@@ -30,7 +31,37 @@ returns-clause-reads g c =
       stand = from_there _ _
           (g.R.Told.telling c.fill.new.reader) c.fill.new.progress _ _ _ _ _ goes.stand c.if-not-branch.false
           filled.stand;
-      stands = λ near. omega (arith, filled.offset, goes.asked, c.if-not-branch.false);
+      moves = λ some. omega (arith, filled.offset, goes.asked, c.if-not-branch.false);
+      stays = λ none. absurd (omega (arith, none, c.if-count-gt0.true));
+      taken = omega (arith, goes.taken, filled.taken);
+      within = within_reached
+          (stand (g.R.Told.telling c.args.reader.now) c.args.progress.now) _ _ _ _ _ _ _ _ goes.stand
+          c.if-not-branch.false goes.taken filled.within;
+      pays = λ far some. omega (arith, goes.taken, filled.taken);
+      since = filled.since ∙ goes.since;
+      behind = filled.behind ∙ goes.behind;
+      calm = filled.calm ∙ goes.calm;
+      keeps = record {
+        told = filled.keeps.told ∙ goes.keeps.told;
+        budget = filled.keeps.budget ∙ goes.keeps.budget;
+        taken = omega (arith, goes.keeps.taken, filled.keeps.taken);
+        retries = omega (arith, goes.keeps.retries, filled.keeps.retries);
+        limit = λ few. filled.keeps.limit (goes.keeps.limit few);
+      };
+      stops = tt;
+    }
+
+pub returns-else-count-gt0-clause-reads : goal.returns-else-count-gt0-clause-reads
+returns-else-count-gt0-clause-reads g c =
+    let goes = c.in_ok-go_to.ensures in
+    let filled = c.in_ok-count.ensures in
+    record {
+      bound = filled.bound;
+      stand = from_there _ _
+          (g.R.Told.telling c.fill.new.reader) c.fill.new.progress _ _ _ _ _ goes.stand c.if-not-branch.false
+          filled.stand;
+      moves = λ some. absurd (omega (arith, some, c.if-count-gt0.false));
+      stays = λ none. filled.place ∙ goes.position;
       taken = omega (arith, goes.taken, filled.taken);
       within = within_reached
           (stand (g.R.Told.telling c.args.reader.now) c.args.progress.now) _ _ _ _ _ _ _ _ goes.stand
@@ -58,7 +89,8 @@ returns-in_err-count-clause-reads g c =
     rw is (record {
       bound = tt;
       stand = fails_there _ _ _ _ _ _ _ _ _ _ goes.stand c.if-not-branch.false filled.stand;
-      stands = tt;
+      moves = tt;
+      stays = tt;
       taken = tt;
       within = within_reached
           (stand (g.R.Told.telling c.args.reader.now) c.args.progress.now) _ _ _ _ _ _ _ _ goes.stand

@@ -22,7 +22,7 @@ returns-then-offset-ledger g c =
             runs = λ home.
                 let told = told_by (account g.R.Told.telling g.R.Told.count g.R.Told.failure c.args.reader.now) home old
                 in
-                behind_end _ _ _ _ _ _ told c.requires;
+                behind_end _ _ _ _ _ _ _ told c.requires;
           };
       present = λ told. absurd (omega (arith, c.requires, told));
       goes_on = λ on. search (rules, on);

@@ -17,7 +17,7 @@ returns-then-copied-buffer g c =
       keeps = search rules;
       runs = λ home.
           let told = told_by (account g.R.Told.telling g.R.Told.count g.R.Told.failure c.args.reader.now) home old in
-          in_window _ _ _ _ _ _ _ _ _ told refl copy.ensures.count copy.ensures.copied c.if-copied-buffer.true
+          in_window _ _ _ _ _ _ _ _ _ _ told refl copy.ensures.count copy.ensures.copied c.if-copied-buffer.true
           copy.auto.buffer;
     }
 

@@ -1,14 +1,27 @@
-use Rattle.std.proofs.Common.{◌-◌, ◌+◌, arith, refl, sym, ◌++◌}
+use Rattle.std.proofs.Common.{◌-◌, ◌+◌, arith, refl, sym, ◌++◌, ◌≡◌, ℕ, List, length, take, min, false, ap, ◌∙◌}
 use Rattle.imagesize_pieces.specs.Stream.{came}
-use Rattle.imagesize_pieces.proofs.Streaming.{run_is, both_bytes}
+use Rattle.imagesize_pieces.proofs.Streaming.{first_known, run_is, both_bytes, whole_part}
 use Rattle.imagesize_source.proofs.KnownReadings.{cut_is, parts_text, parts_text_missing, state_is}
-use Rattle.imagesize_source.proofs.Unended.{open_part}
+use Rattle.imagesize_source.proofs.Unended.{open_first, open_part}
+use Rattle.imagesize_source.specs.Text.{is_ended}
+use Rattle.std.proofs.lemmas.List.{length-take, take-take}
 use Rattle.imagesize_pieces.proofs.source.StreamSource.gather_text.Goals as goal
 
 pub uncut_length-requires-clause-unended : goal.uncut_length-requires-clause-unended
 uncut_length-requires-clause-unended c =
-    open_part c.args.text _ _ c.args.offset c.args.searched _ _ c.fill_known-found.ensures.copied
-    (omega (arith, c.min-searched.ensures)) (omega (arith, c.min-searched.ensures)) c.requires
+    let s = c.args.self.now in
+    let bs : List ℕ = c.known_from-run.result.now in
+    let most : ℕ = length c.args.buffer.now in
+    let n : ℕ = min (length bs) most in
+    let whole = whole_part s.told s.start s.kept.now s.chunk.now (take n bs) c.args.offset n (omega (arith, length-take n bs))
+    (λ i below. first_known s.told s.start s.kept.now s.chunk.now bs (take n bs) c.args.offset n i
+    c.known_from-run.ensures.known (omega arith) refl below) in
+    let open_run : is_ended c.args.text (take most bs) ≡ false =
+    ap (λ xs. is_ended c.args.text (take most xs)) c.known_from-run.ensures.run ∙ c.requires in
+    let f = c.fill_known-found in
+    open_part c.args.text _ _ c.args.offset n _ _ f.ensures.copied
+    (omega (arith, c.min-searched.ensures, f.ensures.within, f.ensures.wanted, f.auto.buffer)) (omega (arith, c.min-searched.ensures))
+    (ap (is_ended c.args.text) (sym whole.1 ∙ take-take n n bs (omega arith)) ∙ open_first c.args.text bs n most (omega arith) open_run)
 
 pub returns-in_default-clause-runs : goal.returns-in_default-clause-runs
 returns-in_default-clause-runs c =

@@ -3,34 +3,19 @@ use Rattle.std.proofs.lemmas.List.{length-take, take-take}
 use Rattle.imagesize_source.specs.Text.{is_ended, text_front}
 use Rattle.imagesize_pieces.specs.Stream.{came}
 use Rattle.imagesize_pieces.proofs.Streaming.{first_known, run_is, both_bytes, whole_part}
-use Rattle.imagesize_source.proofs.Unended.{open_first}
 use Rattle.imagesize_source.proofs.KnownReadings.{parts_ended, state_is}
 use Rattle.imagesize_pieces.proofs.source.StreamSourceSource.read_text.Goals as goal
-
-pub gather_text-requires : goal.gather_text-requires
-gather_text-requires c =
-    let s = c.args.self.now in
-    let bs : List ℕ = c.known_from-known.result.now in
-    let n : ℕ = c.min-searched.result in
-    let fits : n ≤ length bs = omega (arith, c.min-searched.ensures) in
-    let whole = whole_part s.told s.start s.kept.now s.chunk.now (take n bs) c.args.offset n
-    (omega (arith, length-take n bs, fits))
-    (λ i below. first_known s.told s.start s.kept.now s.chunk.now bs (take n bs) c.args.offset n i
-    c.known_from-known.ensures.known fits refl below) in
-    ap (is_ended c.args.text) (sym whole.1 ∙ take-take n n bs (omega arith))
-    ∙ open_first c.args.text bs n (length c.copy_ended.new.buffer) (omega (arith, c.min-searched.ensures))
-    (c.copy_ended.ensures.open c.in_default.is)
 
 pub returns-clause-runs : goal.returns-clause-runs
 returns-clause-runs c =
     let s = c.args.self.now in
     let has = c.in-Some.ensures in
-    let bs : List ℕ = c.known_from-known.result.now in
+    let bs : List ℕ = c.known_from.result.now in
     let n : ℕ = c.in-Some.count in
     let whole = whole_part s.told s.start s.kept.now s.chunk.now (take n bs) c.args.offset n
     (omega (arith, length-take n bs, has.there))
     (λ i below. first_known s.told s.start s.kept.now s.chunk.now bs (take n bs) c.args.offset n i
-    c.known_from-known.ensures.known has.there refl below) in
+    c.known_from.ensures.known has.there refl below) in
     parts_ended s.told (came s.start s.kept.now s.chunk.now) (s.kept.now ++ s.chunk.now) s.log.spans s.missed _ c.args.text
     c.copy_ended.new.buffer c.args.offset n has.bound (omega (arith, whole.0))
     (has.copied ∙ sym (take-take n n bs (omega arith)) ∙ whole.1)

@@ -1,12 +1,29 @@
-use Rattle.std.proofs.Common.{◌-◌, ◌+◌, arith, refl, sym}
+use Rattle.std.proofs.Common.{◌-◌, ◌+◌, arith, refl, sym, ◌++◌, ap, ◌∙◌, ◌≡◌, ◌≤◌, ℕ, List, length, take, min, false}
+use Rattle.imagesize_source.specs.Input.{part, span_at}
 use Rattle.imagesize_source.proofs.KnownReadings.{cut_is, parts_text, parts_text_missing, state_is}
-use Rattle.imagesize_source.proofs.Unended.{open_part}
+use Rattle.imagesize_source.proofs.Unended.{open_first, open_part}
+use Rattle.imagesize_source.proofs.Gathering.{again, first_part, front_there}
+use Rattle.imagesize_source.specs.Text.{is_ended}
+use Rattle.std.proofs.lemmas.List.{length-take}
 use Rattle.imagesize_source.proofs.source.parts.PartsSource.gather_text.Goals as goal
 
 pub uncut_length-requires-clause-unended : goal.uncut_length-requires-clause-unended
 uncut_length-requires-clause-unended c =
-    open_part c.args.text _ _ c.args.offset c.args.searched _ _ c.fill_known-found.ensures.copied
-    (omega (arith, c.min-searched.ensures)) (omega (arith, c.min-searched.ensures)) c.requires
+    let s = c.args.self.now in
+    let bs : List ℕ = c.bytes_behind-run.result.now in
+    let most : ℕ = length c.args.buffer.now in
+    let n : ℕ = min (length bs) most in
+    let fits : n ≤ length bs = omega arith in
+    let there = front_there s.told s.spans.now s.bytes.now s.front.now s.front_known (take n bs) c.args.offset
+    (first_part s.front.now bs c.args.offset n fits c.bytes_behind-run.ensures) in
+    let long : length (take n bs) ≡ n = omega (arith, length-take n bs, fits) in
+    let open_run : is_ended c.args.text (take most bs) ≡ false =
+    ap (λ xs. is_ended c.args.text (take most xs)) c.bytes_behind-run.ensures ∙ c.requires in
+    let f = c.fill_known-found in
+    open_part c.args.text _ _ c.args.offset n _ _ f.ensures.copied
+    (omega (arith, c.min-searched.ensures, f.ensures.within, f.ensures.wanted, f.auto.buffer)) (omega (arith, c.min-searched.ensures))
+    (ap (is_ended c.args.text) (sym (ap (part _ c.args.offset) long) ∙ sym there.1 ∙ again n bs fits)
+    ∙ open_first c.args.text bs n most (omega arith) open_run)
 
 pub returns-in_default-clause-runs : goal.returns-in_default-clause-runs
 returns-in_default-clause-runs c =
@@ -18,7 +35,8 @@ returns-in_default-clause-runs c =
     (record { start = c.args.offset + f.result.0; sure = 1; most = f.result.1 - f.result.0 })
     f.ensures.wanted f.ensures.within f.ensures.copied (cut_is f.new.buffer f.result.0 f.result.1 c.args.offset s.told _ _
     f.ensures.wanted f.ensures.within (sym (c.in_default.ensures.cut refl))) refl refl refl
-    (state_is _ _ _ _ _ _ _ _ _ _ c.miss.ensures.told c.miss.ensures.spans c.miss.ensures.bytes c.miss.ensures.seen
+    (state_is _ _ _ _ _ _ _ _ _ _ (c.miss.ensures.told ∙ f.ensures.told) (c.miss.ensures.spans ∙ f.ensures.spans)
+    (c.miss.ensures.bytes ∙ f.ensures.bytes) (c.miss.ensures.seen ∙ ap (λ xs. xs ++ span_at c.args.offset f.result.0) f.ensures.seen)
     c.miss.ensures.missed))
 
 pub returns-clause-runs : goal.returns-clause-runs
@@ -30,5 +48,6 @@ returns-clause-runs c =
     (cut_is f.new.buffer f.result.0 f.result.1 c.args.offset s.told _ _ f.ensures.wanted f.ensures.within
     (sym c.in-Some.ensures.uncut))
     c.in-Some.ensures.length
-    (state_is _ _ _ _ _ _ _ _ _ _ c.see.ensures.told c.see.ensures.spans c.see.ensures.bytes c.see.ensures.seen
-    c.see.ensures.missed)
+    (state_is _ _ _ _ _ _ _ _ _ _ (c.see.ensures.told ∙ f.ensures.told) (c.see.ensures.spans ∙ f.ensures.spans)
+    (c.see.ensures.bytes ∙ f.ensures.bytes) (c.see.ensures.seen ∙ ap (λ xs. xs ++ span_at c.args.offset c.in-Some.count) f.ensures.seen)
+    (c.see.ensures.missed ∙ f.ensures.missed))
