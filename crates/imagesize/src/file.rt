@@ -1,13 +1,16 @@
 //! The size of the image in a file.
-ghost use Rattle.std.specs.Prelude.{◌≡◌, ◌≤◌, IfErr, IfOk, IfSome, Ok, Err};
+ghost use Rattle.std.specs.Prelude.{◌≡◌, ◌≤◌, false, IfErr, IfOk, IfSome, Err};
+ghost use Rattle.imagesize.specs.Meaning.{meaning};
+ghost use Rattle.imagesize.specs.Short.{Ends};
+ghost use Rattle.imagesize_io.specs.Answers.{Answers};
 ghost use Rattle.imagesize_source.specs.Limits.{allowance};
-ghost use Rattle.imagesize_source.specs.Errors.{budget_spent};
+ghost use Rattle.imagesize_source.specs.Errors.{budget_spent, is_memory};
 ghost use Rattle.imagesize_source.specs.declared.error.ImageError.TheVariants as error;
 ghost use Rattle.imagesize_source.specs.declared.error.Reason.TheVariants as reason;
 
 use crate::{ImageError, ImageResult, Reason, reader_size};
-use imagesize_io::SizedReader;
 use imagesize_io::sized::length_of;
+use imagesize_io::{SizedReader, Told};
 use imagesize_types::size::ImageSize;
 use std::alloc::Global;
 use std::fs;
@@ -31,17 +34,21 @@ pub fn size<F: Files, P: AsPath + Drop>(rt: &F, alloc: Global, path: P) -> Image
 {
     let file = fs::open(rt, path)?;
     let length = length_of(&file);
-    let reader = with_buffer(BufReader::new(alloc, file))?;
-    reader_size(SizedReader::new(reader, length))
+    let made = BufReader::new(alloc, file).map(|reader| SizedReader::new(reader, length));
+    size_over(made)
 }
 
-// The buffered reader, or `Memory` if its buffer could not be allocated.
-fn with_buffer<R: Drop, E: Drop>(made: Result<R, E>) -> ImageResult<R>
-    ensures kept { IfOk made (λ reader. result ≡ Ok reader) }
+// The size of the image in a reader's bytes, or `Memory` if the reader's buffer could not be allocated. It is generic, so that its
+// clauses speak of readers with a model. A file has none.
+fn size_over<R: Told, E: Drop>(made: Result<R, E>) -> ImageResult<ImageSize>
+    ensures answers { IfOk made (λ reader. Answers (R.telling reader) meaning result) }
+    ensures short { IfOk made (λ reader. Ends (R.telling reader) result) }
+    ensures memory { IfOk made (λ _. IfErr result (λ e. is_memory e ≡ false)) }
     ensures refused { IfErr made (λ _. result ≡ Err (error.IoError reason.Memory)) }
+    ensures spent { IfErr result (λ e. IfSome (budget_spent e) (λ budget. allowance ≤ budget)) }
 {
     match made {
-        Ok(reader) => Ok(reader),
+        Ok(reader) => reader_size(reader),
         Err(_) => Err(ImageError::IoError(Reason::Memory)),
     }
 }

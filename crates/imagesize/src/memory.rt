@@ -54,7 +54,7 @@ pub(crate) struct Counted {
     pub(crate) found: Result<ImageSize, Halt>,
     // How many bytes a source over the reader would have read.
     pub(crate) taken: u64,
-    // The reader's offset after the last read.
+    // The offset at which the reader is to be left.
     pub(crate) position: u64,
 }
 
@@ -108,8 +108,8 @@ pub(crate) fn refused_size(halt: Halt, budget: u64) -> ImageResult<ImageSize>
     Err(halt.error(Reason::EndOfInput, budget))
 }
 
-// The size of the image in the bytes of a reader in memory, read as a type, and the reader's offset after the last read. The caller
-// makes the error of a `Halt`: a result with room for an error would be copied once more.
+// The size of the image in the bytes of a reader in memory, read as a type, and the offset at which the reader is to be left. The
+// caller makes the error of a `Halt`: a result with room for an error would be copied once more.
 pub(crate) fn memory_size_as(kind: ImageType, bytes: &[u8]) -> (Result<ImageSize, Halt>, u64)
     ensures answers { (telling mid : Option Telling) (opened : Opened) → Opens telling mid (Ok opened) → IsMemory mid bytes.now
         → Answers telling (λ d offset. size_of kind d) (counted_answer (length bytes.now) result.0) }

@@ -12,8 +12,8 @@ use imagesize_source::source::Source;
 use imagesize_source::{Halt, ImageError, Reason, Text};
 use std::io::SeekFrom;
 
-/// The bytes of a reader in memory, read where they lie. It counts them as a source over the reader does, and keeps the offset
-/// that the reader would have.
+/// The bytes of a reader in memory, read where they lie. It counts them as a source over the reader does, and keeps the offset at
+/// which the reader is to be left.
 #[derive(Drop)]
 pub struct CountingSource<'a> {
     bytes: &'a [u8],
@@ -23,7 +23,7 @@ pub struct CountingSource<'a> {
     free: u64,
     // How many bytes the budget still has.
     left: u64,
-    // The offset that the reader would have after the last read.
+    // The offset at which the reader is to be left: where the last read ended that gave a byte past the first bytes.
     position: u64,
     ghost within: { left ≤ length bytes.now + allowance },
     ghost there: { position ≤ length bytes.now },
@@ -49,7 +49,7 @@ impl<'a> CountingSource<'a> {
         }
     }
 
-    /// The offset that the reader would have after the last read.
+    /// The offset at which the reader is to be left: where the last read ended that gave a byte past the first bytes.
     #[inline(always)]
     pub fn position(&self) -> u64
         ensures within { result ≤ length self.now.bytes.now }
@@ -58,17 +58,14 @@ impl<'a> CountingSource<'a> {
         self.position
     }
 
-    // Counts the bytes of a read that asked for `most` bytes and got `count`. Returns whether the budget has them.
+    // Counts the bytes of a read. Returns whether the budget has them.
     #[inline(always)]
-    fn pays(&mut self, offset: u64, count: usize, most: usize) -> bool
+    fn pays(&mut self, offset: u64, count: usize) -> bool
         requires there { 0 < count → offset + count ≤ length self.old.bytes.now }
         ensures bytes { self.new.bytes.now ≡ self.old.bytes.now }
         ensures paid { result ≡ true → IsPaid self.old.front self.old.left self.old.position self.new.front self.new.left self.new.position offset count }
         ensures spent { result ≡ false → IsSpent self.old.front self.old.left self.new.left offset count }
     {
-        if count < most {
-            return self.pays_front(offset, count);
-        }
         if offset <= self.front || self.left < count as u64 || count == 0 {
             // A read within the front costs nothing, and moves nothing. Most reads of a size at fixed offsets are such.
             if offset + count as u64 <= self.free {
@@ -133,7 +130,7 @@ impl Source for CountingSource<'_> {
         // The proof needs that the length is below 2^63.
         let _length = self.bytes.len();
         let count = copy_part(self.bytes, offset, buffer);
-        if self.pays(offset, count, buffer.len()) {
+        if self.pays(offset, count) {
             Ok(count)
         } else {
             Err(Halt::Spent)
@@ -145,7 +142,7 @@ impl Source for CountingSource<'_> {
         // The proof needs that the length is below 2^63.
         let _length = self.bytes.len();
         let count = copy_text_at(self.bytes, offset, text, buffer);
-        if self.pays(offset, count, buffer.len()) {
+        if self.pays(offset, count) {
             Ok(count)
         } else {
             Err(Halt::Spent)

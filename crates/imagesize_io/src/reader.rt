@@ -71,7 +71,7 @@ impl<'a, R: Told> ReaderSource<'a, R> {
         ensures told { IfSome result (λ position. position ≤ self.now.ledger.progress.told) }
         ensures calm { IfSome result (λ _. self.now.ledger.progress.fault ≡ None) }
 
-        // Without a fault, a reader that is not to be moved is there, unless that lies past the reported length.
+        // Without a fault, a reader that is not to be moved is at this position, unless the position lies past the reported length.
         ensures there { result ≡ None → self.now.ledger.progress.fault ≡ None
             → self.now.ledger.progress.position ≤ self.now.ledger.progress.told
             → self.now.ledger.progress.position ≡ self.now.ledger.progress.offset }

@@ -46,7 +46,7 @@ pub record HasParts (d : List ℕ) (n : ℕ) (spans : List Span) (content : List
 abbrev pub AllKnown : ℕ → List Span → List ℕ → List Span → Type 0
 AllKnown n spans bytes seen = (offset : ℕ) → is_covered seen offset ≡ true → is_some (byte_in_parts n spans bytes offset) ≡ true
 
--- These last parts give each byte from an offset on that all parts give.
+-- From the offset `floor` on, these last parts give the same bytes as all parts.
 abbrev pub LeavesOut : ℕ → List Span → List ℕ → ℕ → List Span → List ℕ → Type 0
 LeavesOut n spans bytes floor rest content =
     (offset : ℕ) → floor ≤ offset → byte_in_parts n spans bytes offset ≡ byte_in_parts n rest content offset

@@ -41,12 +41,12 @@ pub struct PartsSource<'a> {
     pub missed: Option<Missing>,
     /// The spans of the reads.
     pub log: SpanLog,
-    // The parts at which a search begins.
-    rest: Rest<'a>,
+    // The parts at which a search begins, once some were passed over. An input of one part passes over none, and `None` is cheap.
+    rest: Option<Rest<'a>>,
     ghost front_known: { (i : ℕ) → i < length front.now → byte_in_parts told spans.now bytes.now i ≡ Some (slice_index front.now i) },
     ghost seen: { AllKnown told spans.now bytes.now log.spans },
     ghost lacks: { ForSome missed (Lacks told spans.now bytes.now) },
-    ghost later: { LeavesOut told spans.now bytes.now rest.floor rest.spans.now rest.bytes.now },
+    ghost later: { ForSome rest (λ r. LeavesOut told spans.now bytes.now r.floor r.spans.now r.bytes.now) },
 }
 
 // The last parts of a list, and their bytes. The parts before them have no byte from `floor` on.
@@ -73,11 +73,7 @@ impl<'a> PartsSource<'a> {
             front: known_from(spans, bytes, told, 0),
             missed: None,
             log: SpanLog::new(),
-            rest: Rest {
-                spans,
-                bytes,
-                floor: 0,
-            },
+            rest: None,
         }
     }
 
@@ -162,8 +158,11 @@ impl<'a> PartsSource<'a> {
         ensures known { (i : ℕ) → i < result.0 → is_some (byte_in_parts self.old.told self.old.spans.now self.old.bytes.now (offset + i)) ≡ true }
         ensures missing { result.0 < result.1 → is_some (byte_in_parts self.old.told self.old.spans.now self.old.bytes.now (offset + result.0)) ≡ false }
     {
-        self.pass_over(offset);
         let wanted = count_there(self.told, offset, buffer.len());
+        // A read past the end needs no part.
+        if wanted > 0 {
+            self.pass_over(offset);
+        }
         let found = self.gather(offset, &mut buffer[..wanted]);
         (found, wanted)
     }
@@ -193,15 +192,27 @@ impl<'a> PartsSource<'a> {
         ensures known { (i : ℕ) → i < length result.now → byte_in_parts self.now.told self.now.spans.now self.now.bytes.now (offset + i) ≡ Some (slice_index result.now i) }
         ensures none { length result.now ≡ 0 → is_some (byte_in_parts self.now.told self.now.spans.now self.now.bytes.now offset) ≡ false }
     {
-        let rest = &self.rest;
-        if offset < rest.floor {
-            return known_from(self.spans, self.bytes, self.told, offset);
-        }
+        let rest = self.rest_at(offset);
         known_from(rest.spans, rest.bytes, self.told, offset)
     }
 
-    // Passes over the parts that end before the offset, so that the next search begins behind them. An offset before them begins
-    // again at the first part.
+    // The parts at which a search for an offset begins: those that are left, or all parts if the offset lies before `floor`.
+    #[inline(always)]
+    fn rest_at(&self, offset: u64) -> Rest<'a>
+        ensures later { LeavesOut self.now.told self.now.spans.now self.now.bytes.now result.floor result.spans.now result.bytes.now }
+        ensures floor { result.floor ≤ offset }
+    {
+        match self.rest {
+            Some(rest) if rest.floor <= offset => rest,
+            _ => Rest {
+                spans: self.spans,
+                bytes: self.bytes,
+                floor: 0,
+            },
+        }
+    }
+
+    // Passes over the parts that end before the offset, so that the next search begins after them.
     //
     // A search would go over all parts at each read. So a walk along n parts would take time that grows with the square of n.
     fn pass_over(&mut self, offset: u64)
@@ -211,14 +222,7 @@ impl<'a> PartsSource<'a> {
         ensures seen { self.new.log.spans ≡ self.old.log.spans }
         ensures missed { self.new.missed ≡ self.old.missed }
     {
-        if offset < self.rest.floor {
-            self.rest = Rest {
-                spans: self.spans,
-                bytes: self.bytes,
-                floor: 0,
-            };
-        }
-        self.rest = passed_over(&self.rest, self.told, offset);
+        self.rest = Some(passed_over(&self.rest_at(offset), self.told, offset));
     }
 
     // A read that `front` does not contain as a whole.
@@ -344,7 +348,7 @@ pub fn uncut_length(text: Text, bytes: &[u8], searched: usize, wanted: usize) ->
     ensures uncut { IfSome result (λ _. (nat_lt (length bytes.now) wanted && not (is_ended text bytes.now)) ≡ false) }
     ensures cut { result ≡ None → (nat_lt (length bytes.now) wanted && not (is_ended text bytes.now)) ≡ true }
 {
-    // A push of one byte often brings the first byte of a text. This saves the call for it.
+    // If all bytes are searched and more are wanted, this saves the call.
     if searched == bytes.len() && searched < wanted {
         return None;
     }

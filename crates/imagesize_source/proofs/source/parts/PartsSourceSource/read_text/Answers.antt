@@ -1,5 +1,5 @@
-use Rattle.std.proofs.Common.{◌≡◌, ℕ, ◌≤◌, List, length, take, drop, arith, sym, ap, ◌∙◌}
-use Rattle.std.proofs.lemmas.List.{length-take, take-take}
+use Rattle.std.proofs.Common.{◌≡◌, ℕ, List, length, take, arith, sym, ap, ◌∙◌}
+use Rattle.std.proofs.lemmas.List.{length-take}
 use Rattle.imagesize_source.specs.Input.{part}
 use Rattle.imagesize_source.specs.Text.{is_ended, text_front}
 use Rattle.imagesize_source.proofs.Gathering.{again, first_part, front_there}
