@@ -1,6 +1,6 @@
 -- What more bytes leave of what the bytes so far tell.
 use Rattle.std.proofs.Common.{◌≡◌, ℕ, ◌-◌, ◌≤◌, Bool, List, [], ◌∷◌, ◌++◌, length, take, drop, Option, Some, None, Result, Ok, Err, refl, sym, ap, ◌∙◌, subst, arith}
-use Rattle.std.proofs.lemmas.List.{length-take}
+use Rattle.std.proofs.lemmas.List.{length-append, length-take}
 use Rattle.std.specs.Result.{result_ok}
 use Rattle.imagesize.specs.Meaning.{meaning_reads}
 use Rattle.imagesize.specs.Parted.{has_texts, texts_as}
@@ -20,7 +20,7 @@ use Rattle.imagesize_stream.specs.declared.stage.Stage.{Stage}
 use Rattle.imagesize_stream.specs.declared.stage.Stage.TheVariants.{Done, First, Footer, Records}
 use Rattle.imagesize_source.specs.Reading.{Reads}
 use Rattle.imagesize_source.specs.declared.halt.Halt.{Halt}
-use Rattle.imagesize_stream.specs.Heard.{SizeIs, TypeIs}
+use Rattle.imagesize_stream.specs.Heard.{SizeIs, TypeIs, TypeMissing}
 use Rattle.imagesize_stream.specs.Probe.{TypeSays, texts_by}
 use Rattle.imagesize_types.specs.declared.size.ImageSize.{ImageSize}
 
@@ -99,3 +99,11 @@ texts_back kind texts next start offset told passed kept whole front same came =
 pub texts_stated : (r : Result ImageType Halt) → texts_as (stated r) ≡ texts_by (result_ok r)
 texts_stated (Ok type) = refl
 texts_stated (Err e) = refl
+
+-- where no more bytes come, a type that was missing still is
+pub missing_on : (image : Option ImageType) (front none : List ℕ) (told : ℕ) → length none ≡ 0
+    → TypeMissing image front told → TypeMissing image (front ++ none) told
+missing_on None front none told empty rests = λ d begins as_long below.
+    rests d (begins_left front none told d begins) as_long
+    (λ p here. let early = below p here in omega (arith, early, length-append front none, empty))
+missing_on (Some type) front none told empty rests = tt

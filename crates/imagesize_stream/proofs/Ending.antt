@@ -8,8 +8,8 @@ use Rattle.imagesize_pieces.specs.Stream.{AllBelow, Begins}
 use Rattle.imagesize_source.specs.Outcome.{stated}
 use Rattle.imagesize_source.specs.declared.error.ImageError.{ImageError}
 use Rattle.imagesize_source.specs.declared.halt.Halt.{Halt}
-use Rattle.imagesize_stream.specs.Heard.{RestsOnMore}
-use Rattle.imagesize_stream.specs.Probe.{CameBy, HoldsBy, IfAwaiting, TypeSays}
+use Rattle.imagesize_stream.specs.Heard.{RestsOnMore, TypeMissing, TypeRests}
+use Rattle.imagesize_stream.specs.Probe.{CameBy, HoldsBy, IfAwaiting, TypeSays, TypedBy}
 use Rattle.imagesize_stream.specs.Pushed.{stage_answer}
 use Rattle.imagesize_stream.specs.declared.stage.Stage.{Stage}
 use Rattle.imagesize_stream.specs.declared.stage.Stage.TheVariants.{Done, First, Footer, Records}
@@ -146,3 +146,31 @@ both_pieces told was then first second is also =
     let all : was - length {A = ℕ} [] ≡ told = omega (arith, is) in
     let rest : then - length (take told first) ≡ told - length first = omega (arith, also, length-take told first) in
     rw all (ap (λ k. take told first ++ take k second) rest ∙ sym (take_both told first second))
+
+-- of a type that is missing, each input depends on more
+missing_rests : (kind : Option ImageType) (front : List ℕ) (told : ℕ) → kind ≡ None → TypeMissing kind front told
+    → TypeRests front told
+missing_rests None front told none rests = rests
+missing_rests (Some type) front told none rests = absurd cc
+
+-- an input whose type is not known by these bytes, though it depends on them alone, has none
+pub type_complete : (kind : Option ImageType) (stage : Stage) (start offset passed told was : ℕ) (buffer front d : List ℕ)
+    → kind ≡ None → told ≡ was → CameBy stage kind start offset passed told buffer front → TypedBy stage kind front was
+    → Begins front was d → length d ≡ was → AllBelow (length front) (kind_reads d 0).marks
+    → result_ok (stated (kind_reads d 0).answer) ≡ None
+type_complete kind First start offset passed told was buffer front d none same came typed begins as_long below =
+    absurd (missing_rests kind front was none typed d begins as_long below)
+type_complete kind (Records next) start offset passed told was buffer front d none same came typed begins as_long below =
+    sym (ok_stated (kind_reads d 0).answer) ∙ came.0 d (subst (λ k. Begins front k d) (sym same) begins) ∙ none
+type_complete kind (Footer size) start offset passed told was buffer front d none same came typed begins as_long below =
+    absurd (typed d begins as_long below)
+type_complete kind (Done size) start offset passed told was buffer front d none same came typed begins as_long below =
+    sym (ok_stated (kind_reads d 0).answer) ∙ came.0 d (subst (λ k. Begins front k d) (sym same) begins) ∙ none
+
+-- where there is no answer, nothing is said of one
+pub never_done : (P : Type 0) (kind : Option ImageType) (stage : Stage)
+    → ((size : Result ImageSize Halt) → stage ≡ Done size → ⊥) → IfSome (stage_answer kind stage) (λ _. P)
+never_done P kind First never = tt
+never_done P kind (Records next) never = tt
+never_done P kind (Footer size) never = tt
+never_done P kind (Done size) never = absurd (never size refl)

@@ -27,7 +27,7 @@ use Rattle.imagesize_source.proofs.Among.{any_left, any_right}
 use Rattle.imagesize_source.proofs.Layouts.{over-bind}
 use Rattle.imagesize_stream.proofs.Firsts.{type_by_first}
 use Rattle.imagesize_stream.proofs.Saying.{Saying, saying, saying_bind}
-use Rattle.imagesize_stream.specs.Heard.{IsByFooter, OutOfHeader, RestsOnMore, SizeIs, TypeIs}
+use Rattle.imagesize_stream.specs.Heard.{IsByFooter, OutOfHeader, RestsOnMore, SizeIs, TypeIs, TypeRests}
 use Rattle.imagesize_stream.specs.Streamed.{first_by, first_layout, type_behind}
 use Rattle.imagesize_stream.specs.declared.front.First.{First}
 use Rattle.imagesize_stream.specs.declared.front.First.TheVariants as first
@@ -243,6 +243,12 @@ module _ (front : List ℕ) (told : ℕ) (head : List ℕ)
       (onward_any (kind_reads d 0).marks (kind_reads d 0).answer (λ found. size_reads found d))
       (kind_needed d begins long)
 
+  pub type_on_more : 18 ≤ told → length front < 18 → TypeRests front told
+  type_on_more long few = λ d begins as_long below.
+      let rests = kind_needed d begins (omega (arith, long, as_long)) in
+      let last = below rests.0.0 rests.0.3 in
+      omega (arith, last, rests.0.1, as_long, long, few)
+
   pub rests_on_more : 18 ≤ told → length front < 18 → RestsOnMore front told
   rests_on_more long few = λ d begins as_long below.
       let rests = rests_on_last d begins (omega (arith, long, as_long)) in
@@ -324,6 +330,7 @@ module _ (front : List ℕ) (told : ℕ) (head : List ℕ)
       size_is = size_weighed d begins (begun_long d long begins)
           ∙ one_way (is_tga_footer (footer_of d)) by_header size is;
       rests = rests_on_last d begins (begun_long d long begins);
+      typed = kind_needed d begins (begun_long d long begins);
     }
 
 -- the last bytes, with more of them

@@ -19,11 +19,13 @@ use Rattle.imagesize_source.specs.declared.halt.Halt.TheVariants.{NotSupported}
 use Rattle.imagesize_source.specs.declared.span.Span.{Span}
 use Rattle.imagesize_stream.specs.Given.{DependsFrom, HasPart, IsGiven, KnownBy, MayBeAt}
 use Rattle.imagesize_stream.specs.Heard.{IsByFooter, OutOfHeader, RestsOnMore}
-use Rattle.imagesize_stream.specs.Probe.{AheadBy, CameBy, CameTo, HoldsAt, HoldsBy, IfAwaiting, MarkedBy, NextBy, RestsOnNext, texts_by}
+use Rattle.imagesize_stream.specs.Probe.{AheadBy, CameBy, CameTo, HoldsAt, HoldsBy, IfAwaiting, IsCut, MarkedBy, NextBy, RestsOnNext, latest_by, texts_by}
 use Rattle.imagesize_stream.specs.Pushed.{stage_answer}
-use Rattle.imagesize_stream.specs.Steps.{is_text, reach_of}
+use Rattle.imagesize_stream.specs.Steps.{is_text, reach_at, reach_of}
 use Rattle.imagesize_stream.proofs.Coming.{awaiting_map, texts_stated}
+use Rattle.imagesize_stream.proofs.Far.{reach_few, reach_most, reach_some}
 use Rattle.imagesize_types.specs.declared.size.ImageSize.{ImageSize}
+use Rattle.imagesize_stream.specs.declared.awaited.Awaited.{Awaited}
 use Rattle.imagesize_stream.specs.declared.stage.Stage.{Stage}
 use Rattle.imagesize_stream.specs.declared.stage.Stage.TheVariants.{Done, First, Footer, Records}
 
@@ -229,16 +231,25 @@ depends_behind (Footer size) start offset passed next end d is holds depends mar
     λ below. let early = below marked.0.0 marked.0.3 in omega (arith, early, marked.0.1, is)
 depends_behind (Done size) start offset passed next end d is holds depends marked = tt
 
-pub marked_behind : (texts : Bool) (stage : Stage) (start offset passed next end : ℕ) (marks : List Span)
-    → next ≡ max passed start → HoldsBy stage start offset passed → MarkedBy texts stage start passed end marks
-    → MarkedBy texts stage start next end marks
-marked_behind texts First start offset passed next end marks is holds marked =
-    subst (λ k. OutOfHeader k → Needs texts k end marks) (omega (arith, is, holds.0)) marked
-marked_behind texts (Records awaited) start offset passed next end marks is holds marked =
-    needs_wider texts (max passed start) end (max next start) end marks (omega (arith, is)) (omega arith) marked
-marked_behind texts (Footer size) start offset passed next end marks is holds marked =
-    needs_wider texts (max passed start) end (max next start) end marks (omega (arith, is)) (omega arith) marked
-marked_behind texts (Done size) start offset passed next end marks is holds marked = tt
+-- where no record is next
+pub never_cut : (stage : Stage) (start end : ℕ) → ((next : Awaited) → stage ≡ Records next → ⊥) → IsCut stage start end end
+never_cut First start end never = refl
+never_cut (Records awaited) start end never = absurd (never awaited refl)
+never_cut (Footer size) start end never = refl
+never_cut (Done size) start end never = refl
+
+pub marked_behind : (texts : Bool) (stage : Stage) (start offset passed next end cut : ℕ) (marks : List Span)
+    → next ≡ max passed start → IsCut stage start end cut → HoldsBy stage start offset passed
+    → MarkedBy texts stage start passed end marks → MarkedBy texts stage start next cut marks
+marked_behind texts First start offset passed next end cut marks is ends holds marked =
+    subst (λ e. OutOfHeader next → Needs texts next e marks) (sym ends)
+    (subst (λ k. OutOfHeader k → Needs texts k end marks) (omega (arith, is, holds.0)) marked)
+marked_behind texts (Records awaited) start offset passed next end cut marks is ends holds marked =
+    needs_wider texts (max passed start) (min end (start + reach_at awaited)) (max next start)
+    (min cut (start + reach_at awaited)) marks (omega (arith, is)) (omega (arith, ends)) marked
+marked_behind texts (Footer size) start offset passed next end cut marks is ends holds marked =
+    needs_wider texts (max passed start) end (max next start) cut marks (omega (arith, is)) (omega (arith, ends)) marked
+marked_behind texts (Done size) start offset passed next end cut marks is ends holds marked = tt
 
 -- before any byte came
 pub none_given : (stage : Stage) (kind : Option ImageType) (stand : Stand) (buffer d : List ℕ)
@@ -296,26 +307,51 @@ given_on stage kind stand buffer d cut passed was as_long is same holds many cam
     (awaiting_map stage (λ at. front ∙ ap (λ k. take k d) (sym at)) many) came more marks
 
 -- what is missing is ahead of what was passed by
-pub next_behind : (stage : Stage) (start passed next end told : ℕ) → next ≡ max passed start
-    → AheadBy stage start passed end told → NextBy stage next end told
-next_behind First start passed next end told is ahead =
-    let few = ahead.1.1.1.0 in
-    (omega (arith, is, ahead.0, ahead.1.0), (ahead.1.1.0, (omega (arith, is, few), ahead.1.1.1.1)))
-next_behind (Records awaited) start passed next end told is ahead =
-    let few = ahead.1.1.1 in (omega (arith, is, ahead.0, ahead.1.0), (ahead.1.1.0, omega (arith, is, few)))
-next_behind (Footer size) start passed next end told is ahead =
-    let few = ahead.1.1.1 in (omega (arith, is, ahead.0, ahead.1.0), (ahead.1.1.0, omega (arith, is, few)))
-next_behind (Done size) start passed next end told is ahead = tt
+pub next_behind : (stage : Stage) (start passed next end cut told : ℕ) → next ≡ max passed start
+    → IsCut stage start end cut → AheadBy stage start passed end told → NextBy stage start next cut told
+next_behind First start passed next end cut told is ends ahead = subst (λ e. NextBy First start next e told) (sym ends) (
+  omega (arith, is, ahead.0, ahead.1.0),
+  (ahead.1.1.0, (ahead.1.1.1.0, (ahead.1.1.1.1.0, λ few. ahead.1.1.1.1.1 (omega (arith, is, few))))),
+)
+next_behind (Records awaited) start passed next end cut told is ends ahead =
+    let read = ahead.1.1.1.1 in (
+      omega (arith, is, ends, ahead.0, ahead.1.0, read, reach_some awaited),
+      (omega (arith, ends, ahead.1.1.0), (omega (arith, is), omega (arith, ends))),
+    )
+next_behind (Footer size) start passed next end cut told is ends ahead =
+    let few = ahead.1.1.1 in
+    (omega (arith, is, ends, ahead.0, ahead.1.0), (omega (arith, ends, ahead.1.1.0), omega (arith, is, ends, few)))
+next_behind (Done size) start passed next end cut told is ends ahead = tt
 
-pub next_none : (kind : Option ImageType) (stage : Stage) (passed end told : ℕ) → stage_answer kind stage ≡ None
-    → NextBy stage passed end told → (passed < end) × (end ≤ told) × (end ≤ passed + 1024)
-next_none kind First passed end told none next = (next.0, next.1.0, let few = next.1.1.0 in omega (arith, few))
-next_none kind (Records awaited) passed end told none next = (next.0, next.1.0, widened (is_text awaited) next.1.1) where
-  widened : (text : Bool) → end ≤ passed + reach_of text → end ≤ passed + 1024
-  widened true few = few
-  widened false few = omega (arith, few)
-next_none kind (Footer size) passed end told none next = (next.0, next.1.0, let few = next.1.1 in omega (arith, few))
-next_none kind (Done size) passed end told none next = absurd cc
+pub next_none : (kind : Option ImageType) (stage : Stage) (start offset passed end told : ℕ)
+    → stage_answer kind stage ≡ None → HoldsBy stage start offset passed → NextBy stage start passed end told
+    → (passed < end) × (end ≤ told) × (end ≤ passed + 1024)
+next_none kind First start offset passed end told none holds next =
+    let few = next.1.1.0 in (next.0, next.1.0, omega (arith, few, holds.0))
+next_none kind (Records awaited) start offset passed end told none holds next =
+    let few = next.1.1.1 in (next.0, next.1.0, omega (arith, few, next.1.1.0, reach_most awaited))
+next_none kind (Footer size) start offset passed end told none holds next =
+    let few = next.1.1 in (next.0, next.1.0, omega (arith, few))
+next_none kind (Done size) start offset passed end told none holds next = absurd cc
+
+-- where it ends at the latest
+pub early_none : (kind : Option ImageType) (stage : Stage) (start offset passed end told : ℕ)
+    → stage_answer kind stage ≡ None → HoldsBy stage start offset passed → NextBy stage start passed end told
+    → passed < 12 → end ≤ 18
+early_none kind First start offset passed end told none holds next few = next.1.1.1.1 few
+early_none kind (Records awaited) start offset passed end told none holds next few =
+    let some = holds.1.1 in absurd (omega (arith, some, few))
+early_none kind (Footer size) start offset passed end told none holds next few = absurd (omega (arith, holds, few))
+early_none kind (Done size) start offset passed end told none holds next few = absurd cc
+
+pub latest_none : (kind : Option ImageType) (stage : Stage) (start offset passed end told : ℕ)
+    → stage_answer kind stage ≡ None → HoldsBy stage start offset passed → NextBy stage start passed end told
+    → end ≤ latest_by stage start told
+latest_none kind First start offset passed end told none holds next =
+    let few = next.1.1.0 in omega (arith, few, holds.0)
+latest_none kind (Records awaited) start offset passed end told none holds next = next.1.1.1
+latest_none kind (Footer size) start offset passed end told none holds next = next.1.0
+latest_none kind (Done size) start offset passed end told none holds next = absurd cc
 
 -- the result depends on a byte of the requested span
 pub marked_none : (kind : Option ImageType) (texts : Bool) (stage : Stage) (start passed end : ℕ) (marks : List Span)
@@ -323,7 +359,7 @@ pub marked_none : (kind : Option ImageType) (texts : Bool) (stage : Stage) (star
     → Needs texts passed end marks
 marked_none kind texts First start passed end marks none marked out = marked out
 marked_none kind texts (Records awaited) start passed end marks none marked out =
-    needs_wider texts (max passed start) end passed end marks (omega arith) (omega arith) marked
+    needs_wider texts (max passed start) (min end (start + reach_at awaited)) passed end marks (omega arith) (omega arith) marked
 marked_none kind texts (Footer size) start passed end marks none marked out =
     needs_wider texts (max passed start) end passed end marks (omega arith) (omega arith) marked
 marked_none kind texts (Done size) start passed end marks none marked out = absurd cc
@@ -338,9 +374,9 @@ none_passed kind (Footer size) start offset passed none holds is = absurd (omega
 none_passed kind (Done size) start offset passed none holds is = absurd cc
 
 pub first_next : (kind : Option ImageType) (stage : Stage) (start offset passed end told : ℕ)
-    → stage_answer kind stage ≡ None → HoldsBy stage start offset passed → NextBy stage passed end told → passed ≡ 0
+    → stage_answer kind stage ≡ None → HoldsBy stage start offset passed → NextBy stage start passed end told → passed ≡ 0
     → min 18 told ≤ end
-first_next kind First start offset passed end told none holds next is = next.1.1.1
+first_next kind First start offset passed end told none holds next is = next.1.1.1.0
 first_next kind (Records awaited) start offset passed end told none holds next is =
     let some = holds.1.1 in absurd (omega (arith, some, is))
 first_next kind (Footer size) start offset passed end told none holds next is = absurd (omega (arith, holds, is))
@@ -348,14 +384,17 @@ first_next kind (Done size) start offset passed end told none holds next is = ab
 
 -- In a format without texts, few bytes are requested.
 pub few_none : (kind : Option ImageType) (stage : Stage) (start offset passed end told : ℕ) (buffer d : List ℕ)
-    → stage_answer kind stage ≡ None → length d ≡ told → NextBy stage passed end told
+    → stage_answer kind stage ≡ None → length d ≡ told → HoldsBy stage start offset passed
+    → NextBy stage start passed end told
     → KnownBy stage kind start offset passed told buffer d → texts_of d ≡ false → end ≤ passed + 132
-few_none kind First start offset passed end told buffer d none as_long next known without = next.1.1.0
-few_none kind (Records awaited) start offset passed end told buffer d none as_long next known without =
+few_none kind First start offset passed end told buffer d none as_long holds next known without =
+    let few = next.1.1.0 in omega (arith, few, holds.0)
+few_none kind (Records awaited) start offset passed end told buffer d none as_long holds next known without =
     let type = known.0 d (begins_first d told passed as_long) in
     let no_text : is_text awaited ≡ false =
     known.1.known.2 ∙ ap texts_by (sym type) ∙ sym (texts_stated (kind_reads d 0).answer) ∙ without in
-    subst (λ text. end ≤ passed + reach_of text) no_text next.1.1
-few_none kind (Footer size) start offset passed end told buffer d none as_long next known without =
+    let few : reach_at awaited ≤ 132 = subst (λ text. reach_at awaited ≤ reach_of text) no_text (reach_few awaited) in
+    let last = next.1.1.1 in omega (arith, few, last, next.1.1.0)
+few_none kind (Footer size) start offset passed end told buffer d none as_long holds next known without =
     let few = next.1.1 in omega (arith, few)
-few_none kind (Done size) start offset passed end told buffer d none as_long next known without = absurd cc
+few_none kind (Done size) start offset passed end told buffer d none as_long holds next known without = absurd cc

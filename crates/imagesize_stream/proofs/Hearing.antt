@@ -22,7 +22,7 @@ use Rattle.imagesize_source.proofs.Marks.{behind-behind}
 use Rattle.imagesize_stream.proofs.Firsts.{type_by_first}
 use Rattle.imagesize_stream.proofs.Opened.{opened_as, opened_rest}
 use Rattle.imagesize_stream.proofs.Saying.{OpensSteady, opening_steady, saying}
-use Rattle.imagesize_stream.specs.Heard.{RestsBetween, RestsOnMore, SizeIs, TypeIs}
+use Rattle.imagesize_stream.specs.Heard.{RestsBetween, RestsOnMore, SizeIs, TypeIs, TypeRests}
 use Rattle.imagesize_stream.specs.Steps.{IsSteady, is_text}
 use Rattle.imagesize_stream.specs.Streamed.{first_layout, opening, type_behind}
 use Rattle.imagesize_stream.specs.declared.awaited.Awaited.{Awaited}
@@ -107,14 +107,29 @@ module _ (front : List ℕ) (told : ℕ) where
         saying (OpensSteady (has_texts type)) front (opening type) (opened.Records next offset) (opening_steady type)
         (ap (λ (r : Reads Opening). r.answer) (is.is front (begins_all front told fits)))
 
-  -- what holds for a mark of the first bytes holds for one of all
+  -- what holds for a mark of the first bytes holds for one of the type, and for one of all
+  kind_any : (d : List ℕ) (P : Span → Bool) → list_any P (layout_reads d first_layout).marks ≡ true
+      → list_any P (kind_reads d 0).marks ≡ true
+  kind_any d P here =
+      subst (λ (r : Reads ImageType). list_any P r.marks ≡ true) (sym (type_by_first d))
+      (onward_any (layout_reads d first_layout).marks (layout_reads d first_layout).answer (type_behind d) P here)
+
   type_any : (d : List ℕ) (P : Span → Bool) → list_any P (layout_reads d first_layout).marks ≡ true
       → list_any P (meaning_reads d 0).marks ≡ true
   unfolding meaning_reads
   type_any d P here =
-      onward_any (kind_reads d 0).marks (kind_reads d 0).answer (λ found. size_reads found d) P
-      (subst (λ (r : Reads ImageType). list_any P r.marks ≡ true) (sym (type_by_first d))
-      (onward_any (layout_reads d first_layout).marks (layout_reads d first_layout).answer (type_behind d) P here))
+      onward_any (kind_reads d 0).marks (kind_reads d 0).answer (λ found. size_reads found d) P (kind_any d P here)
+
+  kind_covered : (d : List ℕ) (offset : ℕ) → is_covered (layout_reads d first_layout).marks offset ≡ true
+      → is_covered (kind_reads d 0).marks offset ≡ true
+  kind_covered d offset here = covered-any (kind_reads d 0).marks offset
+      ∙ kind_any d (λ s. has_offset s offset) (sym (covered-any (layout_reads d first_layout).marks offset) ∙ here)
+
+  pub type_missing : ((d : List ℕ) → Begins front told d → length d ≡ told
+      → AllBelow (length front) (layout_reads d first_layout).marks → ⊥)
+      → TypeRests front told
+  type_missing none =
+      λ d begins as_long below. none d begins as_long (λ offset here. below offset (kind_covered d offset here))
 
   type_covered : (d : List ℕ) (offset : ℕ) → is_covered (layout_reads d first_layout).marks offset ≡ true
       → is_covered (meaning_reads d 0).marks offset ≡ true

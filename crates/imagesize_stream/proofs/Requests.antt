@@ -1,5 +1,5 @@
 -- What a probe that is given parts requests next.
-use Rattle.std.proofs.Common.{◌≡◌, ℕ, ◌+◌, ◌-◌, ◌<◌, ◌≤◌, min, Option, None, Some, Result, IfSome, refl, sym, ap, ◌∙◌, arith}
+use Rattle.std.proofs.Common.{◌≡◌, ℕ, ◌+◌, ◌-◌, ◌<◌, ◌≤◌, min, Option, None, Some, Result, IfSome, refl, sym, ap, ◌∙◌, subst, arith}
 use Rattle.imagesize.specs.declared.types.ImageType.{ImageType}
 use Rattle.imagesize_pieces.specs.declared.stand.Stand.{Stand}
 use Rattle.imagesize_source.specs.declared.error.ImageError.{ImageError}
@@ -37,6 +37,12 @@ pub first_span : (found : Option Both) (stand : Stand) (told : ℕ)
 first_span None stand told first = let at = first refl in (at.0, omega (arith, at.0, at.1))
 first_span (Some found) stand told first = tt
 
+-- it has few bytes
+pub few_first : (found : Option Both) (stand : Stand) → (found ≡ None → stand.end ≤ 18)
+    → IfWanted (found_or_next found stand) (λ w. w.len ≤ 18)
+few_first None stand few = let here = few refl in omega (arith, here)
+few_first (Some found) stand few = tt
+
 -- where the whole span came a span after it is requested
 pub gets_beyond : (found later : Option Both) (stand next : Stand) (offset n : ℕ)
     → (found ≡ None → later ≡ None → stand.passed + (stand.end - stand.passed) ≤ offset + n
@@ -55,3 +61,10 @@ pub gets_further : (found later : Option Both) (stand next : Stand) (offset n : 
 gets_further None None stand next offset n more = λ _ some. more refl refl some
 gets_further None (Some found) stand next offset n more = λ _ _. tt
 gets_further (Some found) later stand next offset n more = tt
+
+-- two calls after an answer
+pub idle_both : {P Q R : Type 0} (found mid : Option Both) (stand : Stand) → (P → Q → R)
+    → IfSome found (λ answer. mid ≡ Some answer) → IfSome found (λ _. P) → IfSome mid (λ _. Q)
+    → IfFound (found_or_next found stand) (λ _. R)
+idle_both None mid stand both keeps p q = tt
+idle_both {P} {Q} {R} (Some found) mid stand both keeps p q = both p (subst (λ m. IfSome m (λ _. Q)) keeps q)

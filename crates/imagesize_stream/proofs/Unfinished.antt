@@ -25,9 +25,10 @@ use Rattle.imagesize_source.specs.declared.text.Text.{Text}
 use Rattle.imagesize_stream.proofs.Coming.{type_on}
 use Rattle.imagesize_stream.proofs.Given.{dropped}
 use Rattle.imagesize_stream.proofs.Skipping.{walk_needs}
-use Rattle.imagesize_stream.specs.Probe.{CameTo, HoldsAt, SearchedBy, texts_by}
+use Rattle.imagesize_stream.specs.Probe.{CameTo, HoldsAt, IsAhead, SearchedBy, texts_by}
 use Rattle.imagesize_stream.specs.Skips.{ReadsText}
-use Rattle.imagesize_stream.specs.Steps.{Awaits, IsSteady, awaited_said, first_text, is_text, reach_of, step}
+use Rattle.imagesize_stream.proofs.Far.{reach_few, reach_most}
+use Rattle.imagesize_stream.specs.Steps.{Awaits, IsSteady, awaited_said, first_text, reach_at, step}
 use Rattle.imagesize_stream.specs.declared.awaited.Awaited.{Awaited}
 use Rattle.imagesize_stream.specs.declared.stage.Stage.{Stage}
 use Rattle.imagesize_stream.specs.declared.stage.Stage.TheVariants.{Done, First, Footer, Records}
@@ -146,9 +147,9 @@ module _ (next : Awaited) (text : Text) (most : ℕ) (old new : Stand) (kind : O
   text_many = omega (arith, keeps.passed, came.1.as_many, length-append front chunk)
 
   -- each input that begins so depends on the byte after them
-  pub pending_needs : (d : List ℕ) → Begins (front ++ chunk) old.told d → length d ≡ old.told
-      → Needs (texts_of d) (max new.passed new.start) new.end (meaning_reads d 0).marks
-  pending_needs d begins as_long =
+  pub pending_needs : most ≤ reach_at next → (d : List ℕ) → Begins (front ++ chunk) old.told d → length d ≡ old.told
+      → Needs (texts_of d) (max new.passed new.start) (min new.end (new.start + reach_at next)) (meaning_reads d 0).marks
+  pending_needs few d begins as_long =
       let streams = came.1 in
       let found : ℕ = new.passed - old.offset in
       let same : take (new.passed - new.start) after ≡ part d old.offset found =
@@ -164,20 +165,32 @@ module _ (next : Awaited) (text : Text) (most : ℕ) (old new : Stand) (kind : O
       (omega (arith, keeps.few, keeps.start, keeps.here)) (omega (arith, keeps.more, as_long, keeps.start, keeps.here))) in
       needs_behind (texts_of d) _ _ streams.before _ (meaning_reads d 0).marks
       (ap (λ (w : Reads _). w.marks) resumes)
-      (needs_wider (texts_of d) (old.offset + found) (min (old.offset + most) (length d)) (max new.passed new.start) new.end _
-      (omega (arith, keeps.start, keeps.here)) (omega (arith, keeps.end, keeps.here, as_long)) needs)
+      (needs_wider (texts_of d) (old.offset + found) (min (old.offset + most) (length d)) (max new.passed new.start)
+      (min new.end (new.start + reach_at next)) _ (omega (arith, keeps.start, keeps.here))
+      (omega (arith, keeps.end, keeps.start, keeps.here, as_long, few)) needs)
 
 -- what always holds at the record, still holds
 pub text_holds : (next : Awaited) (text : Text) (most : ℕ) (old new : Stand) (buffer after chunk : List ℕ)
-    → KeepsPending text most old new buffer after chunk → most ≤ reach_of (is_text next) → HoldsAt (Records next) old
+    → KeepsPending text most old new buffer after chunk → most ≤ reach_at next → HoldsAt (Records next) old
     → HoldsAt (Records next) new
 text_holds next text most old new buffer after chunk keeps few holds = (
   subst (IsSteady next) (sym keeps.offset) holds.0,
-  (omega (arith, keeps.few, few, reach_few (is_text next)), omega (arith, holds.1.1, keeps.passed)),
-) where
-  reach_few : (texts : Bool) → reach_of texts ≤ 1024
-  reach_few true = omega arith
-  reach_few false = omega arith
+  (omega (arith, keeps.few, few, reach_most next), omega (arith, holds.1.1, keeps.passed)),
+)
+
+-- more bytes of it are missing
+pub text_ahead : (next : Awaited) (text : Text) (most : ℕ) (old new : Stand) (buffer after chunk : List ℕ)
+    → KeepsPending text most old new buffer after chunk → most ≤ reach_at next → IsAhead (Records next) new
+text_ahead next text most old new buffer after chunk keeps few = (
+  omega (arith, keeps.end, keeps.few, keeps.more, keeps.start),
+  (
+    omega (arith, keeps.end, keeps.few, keeps.more, keeps.start),
+    (
+      omega (arith, keeps.end, keeps.told),
+      (omega (arith, keeps.end, keeps.start, few, reach_few next), omega (arith, keeps.few, few)),
+    ),
+  ),
+)
 
 -- how many bytes are known not to end the text, whether or not the chunk was kept
 pub searched_after : (kept : Bool) (stage : Stage) (next : Awaited) (text : Text) (most : ℕ) (old new : Stand)

@@ -1,5 +1,5 @@
 -- What the first bytes say about every image that begins with them.
-use Rattle.std.specs.Prelude.{◌≡◌, ◌⊎◌, ℕ, ◌-◌, ◌<◌, ◌≤◌, min, false, List, length, if◌then◌else◌, Option, Result, Ok, Err, IfSome}
+use Rattle.std.specs.Prelude.{◌≡◌, ◌⊎◌, ℕ, ◌-◌, ◌<◌, ◌≤◌, min, false, List, length, if◌then◌else◌, Option, None, Some, Result, Ok, Err, IfSome}
 use Rattle.std.specs.Result.{result_ok}
 use Rattle.imagesize.specs.Meaning.{kind_reads, meaning_reads}
 use Rattle.imagesize.specs.Parted.{texts_of}
@@ -31,6 +31,15 @@ SizeIs front told size = (d : List ℕ) → Begins front told d → (meaning_rea
 abbrev pub RestsOnMore : List ℕ → ℕ → Type 0
 RestsOnMore front told = (d : List ℕ) → Begins front told d → length d ≡ told → AllBelow (length front) (meaning_reads d 0).marks → ⊥
 
+-- no input of the reported length that begins so has its type by these bytes alone
+abbrev pub TypeRests : List ℕ → ℕ → Type 0
+TypeRests front told = (d : List ℕ) → Begins front told d → length d ≡ told → AllBelow (length front) (kind_reads d 0).marks → ⊥
+
+-- the same, if no type is known
+abbrev pub TypeMissing : Option ImageType → List ℕ → ℕ → Type 0
+TypeMissing None front told = TypeRests front told
+TypeMissing (Some type) front told = Unit {0}
+
 -- each of them depends on a byte from `low` on, below `high`; if it has no texts, a read ends there
 abbrev pub RestsBetween : ℕ → ℕ → List ℕ → ℕ → Type 0
 RestsBetween low high front told = (d : List ℕ) → Begins front told d → length d ≡ told
@@ -40,11 +49,12 @@ RestsBetween low high front told = (d : List ℕ) → Begins front told d → le
 abbrev pub OutOfHeader : ℕ → Type 0
 OutOfHeader offset = (offset < 12) ⊎ (18 ≤ offset)
 
--- the input is a TGA of this size if its footer says so, and the result depends on its last byte, where a read ends
+-- the input is a TGA of this size if its footer says so, and type and result depend on its last byte, where a read ends
 pub record IsByFooter (size : ImageSize) (d : List ℕ) : Type 0 where
   pub type : (kind_reads d 0).answer ≡ (if is_tga_footer (part d (length d - 18) 18) then Ok Tga else Err NotSupported)
   pub size_is : (meaning_reads d 0).answer ≡ (if is_tga_footer (part d (length d - 18) 18) then Ok size else Err NotSupported)
   pub rests : Needs false (length d - 1) (length d) (meaning_reads d 0).marks
+  pub typed : Needs false (length d - 1) (length d) (kind_reads d 0).marks
 
 -- What the first bytes say is true of every input that begins so. If bytes are missing, it depends on one of those that the
 -- read requests. Of the header of what may be a TGA, it may depend on none.
@@ -59,6 +69,13 @@ Hears front told (Records image next offset) =
     × (is_text next ≡ has_texts image)
 Hears front told (Footer size) = (18 ≤ length front) × ((d : List ℕ) → Begins front told d → IsByFooter size d)
 
+-- If bytes are missing and no type is known, the type depends on one of them.
+abbrev pub HearsType : List ℕ → ℕ → Heard → Type 0
+HearsType front told (Missing image end) = TypeMissing image front told
+HearsType front told (Answer image size) = Unit {0}
+HearsType front told (Records image next offset) = Unit {0}
+HearsType front told (Footer size) = Unit {0}
+
 -- P, if bytes are missing
 abbrev pub IfMissing : Heard → Type 0 → Type 0
 IfMissing (Missing image end) P = P
@@ -72,6 +89,13 @@ IfAnswer (Missing image end) Holds = Unit {0}
 IfAnswer (Answer image size) Holds = Holds size
 IfAnswer (Records image next offset) Holds = Unit {0}
 IfAnswer (Footer size) Holds = Unit {0}
+
+-- it requests no byte from this offset on
+abbrev pub EndsIn : ℕ → Heard → Type 0
+EndsIn most (Missing image end) = end ≤ most
+EndsIn most (Answer image size) = Unit {0}
+EndsIn most (Records image next offset) = Unit {0}
+EndsIn most (Footer size) = Unit {0}
 
 -- the read that missed a byte requests more than these bytes, and none past the end
 abbrev pub EndsBehind : List ℕ → ℕ → Heard → Type 0

@@ -9,6 +9,7 @@ use Rattle.imagesize_source.specs.Agreement.{is_covered}
 use Rattle.imagesize_source.specs.declared.error.ImageError.{ImageError}
 use Rattle.imagesize_source.specs.declared.span.Span.{Span}
 use Rattle.imagesize_stream.specs.Given.{MayBeAt}
+use Rattle.imagesize_stream.specs.Probe.{latest_by}
 use Rattle.imagesize_stream.specs.Pushed.{answer_of, told_of}
 use Rattle.imagesize_stream.specs.declared.parts.PartsProbe.{PartsProbe}
 use Rattle.imagesize_types.specs.declared.size.ImageSize.{ImageSize}
@@ -28,6 +29,10 @@ found_or_next None stand = Wanted (record { start = stand.passed; len = stand.en
 -- type and size, or the span that is requested next
 abbrev pub next_of : PartsProbe → PartsAnswer (Option ImageType × Result ImageSize ImageError)
 next_of parts = found_or_next (answer_of parts.probe) parts.probe.stand
+
+-- the offset at which the requested span ends at the latest
+abbrev pub latest_of : PartsProbe → ℕ
+latest_of parts = latest_by parts.probe.stage parts.probe.stand.start parts.probe.stand.told
 
 -- the result of this input depends on a byte of the span
 abbrev pub HasMarked : Span → List ℕ → Type 0

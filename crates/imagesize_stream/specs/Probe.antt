@@ -1,6 +1,6 @@
 -- A probe whose bytes arrive in chunks: which bytes arrived, and what they say.
 use Rattle.std.specs.Prelude.{◌≡◌, ℕ, ◌+◌, ◌-◌, ◌<◌, ◌≤◌, max, min, Bool, false, List, length, drop, take, Option, None, Some, IfSome, Result}
-use Rattle.std.specs.Coded.{Unit-prop, coded_bool, le_prop, ×_prop}
+use Rattle.std.specs.Coded.{Unit-prop, coded_bool, le_prop, →_prop, ×_prop}
 use denote.Struct.Props.{≡_prop}
 use Rattle.imagesize.specs.Meaning.{meaning_reads}
 use Rattle.imagesize.specs.Parted.{has_texts, texts_of}
@@ -11,8 +11,8 @@ use Rattle.imagesize_source.specs.Reading.{is_stopped}
 use Rattle.imagesize_source.specs.Text.{is_ended}
 use Rattle.imagesize_source.specs.declared.halt.Halt.{Halt}
 use Rattle.imagesize_source.specs.declared.span.Span.{Span}
-use Rattle.imagesize_stream.specs.Heard.{IsByFooter, OutOfHeader, SizeIs, TypeIs}
-use Rattle.imagesize_stream.specs.Steps.{Awaits, IsSteady, awaited_said, first_text, is_text, reach_of, steady_prop}
+use Rattle.imagesize_stream.specs.Heard.{IsByFooter, OutOfHeader, SizeIs, TypeIs, TypeMissing, TypeRests}
+use Rattle.imagesize_stream.specs.Steps.{Awaits, IsSteady, awaited_said, first_text, is_text, reach_at, reach_of, steady_prop}
 use Rattle.imagesize_stream.specs.declared.awaited.Awaited.{Awaited}
 use Rattle.imagesize_stream.specs.declared.stage.Stage.{Stage}
 use Rattle.imagesize_stream.specs.declared.stage.Stage.TheVariants.{Done, First, Footer, Records}
@@ -26,6 +26,13 @@ TypeSays front told kind = IfSome kind (λ type. TypeIs front told (Some type))
 abbrev pub texts_by : Option ImageType → Bool
 texts_by None = false
 texts_by (Some type) = has_texts type
+
+-- While no type is known, the type of each input of the reported length that begins so depends on a later byte.
+abbrev pub TypedBy : Stage → Option ImageType → List ℕ → ℕ → Type 0
+TypedBy First kind front told = TypeMissing kind front told
+TypedBy (Records next) kind front told = Unit {0}
+TypedBy (Footer size) kind front told = TypeRests front told
+TypedBy (Done size) kind front told = Unit {0}
 
 -- These bytes arrived. By the stage, the buffer holds all of them, those from the position of the walk on, or the last
 -- 18; or the result is known.
@@ -80,38 +87,56 @@ IfAwaiting (Footer size) P = P
 IfAwaiting (Done size) P = Unit {0}
 
 -- While there is no answer, bytes are missing up to this end, after those that came and after the start. A footer has 18
--- bytes, a text 1,024 at most, another record 132. Of the first bytes 18 or more are requested at once, and 132 at most.
+-- bytes, a text 1,024 at most, another record 132. Not all bytes came that the record reads. Of the first bytes 18 or more are
+-- requested at once, and 132 at most. As long as fewer than 12 came, only these 18 are requested.
 abbrev pub AheadBy : Stage → ℕ → ℕ → ℕ → ℕ → Type 0
 AheadBy First start passed end told =
-    (passed < end) × ((start < end) × ((end ≤ told) × ((end ≤ start + 132) × (min 18 told ≤ end))))
-AheadBy (Records next) start passed end told = (passed < end) × ((start < end) × ((end ≤ told) × (end ≤ start + reach_of (is_text next))))
+    (passed < end) × ((start < end) × ((end ≤ told) × ((end ≤ start + 132) × ((min 18 told ≤ end) × (passed < 12 → end ≤ 18)))))
+AheadBy (Records next) start passed end told =
+    (passed < end) × ((start < end) × ((end ≤ told) × ((end ≤ start + reach_of (is_text next)) × (passed < start + reach_at next))))
 AheadBy (Footer size) start passed end told = (passed < end) × ((start + 18 ≤ end) × ((end ≤ told) × (end ≤ start + 18)))
 AheadBy (Done size) start passed end told = Unit {0}
 
 abbrev pub IsAhead : Stage → Stand → Type 0
 IsAhead stage stand = AheadBy stage stand.start stand.passed stand.end stand.told
 
--- While there is no answer, the requested span is from the byte after those that came up to this end.
-abbrev pub NextBy : Stage → ℕ → ℕ → ℕ → Type 0
-NextBy First passed end told = (passed < end) × ((end ≤ told) × ((end ≤ passed + 132) × (min 18 told ≤ end)))
-NextBy (Records next) passed end told = (passed < end) × ((end ≤ told) × (end ≤ passed + reach_of (is_text next)))
-NextBy (Footer size) passed end told = (passed < end) × ((end ≤ told) × (end ≤ passed + 18))
-NextBy (Done size) passed end told = Unit {0}
+-- Of a record, no byte is requested after those that it reads. Any other stage requests all up to the end.
+abbrev pub IsCut : Stage → ℕ → ℕ → ℕ → Type 0
+IsCut First start end cut = cut ≡ end
+IsCut (Records next) start end cut = cut ≡ min end (start + reach_at next)
+IsCut (Footer size) start end cut = cut ≡ end
+IsCut (Done size) start end cut = cut ≡ end
 
-pub next_prop : (stage : Stage) (passed end told : ℕ) → IsProp (NextBy stage passed end told)
-next_prop First passed end told = ×_prop le_prop (×_prop le_prop (×_prop le_prop le_prop))
-next_prop (Records next) passed end told = ×_prop le_prop (×_prop le_prop le_prop)
-next_prop (Footer size) passed end told = ×_prop le_prop (×_prop le_prop le_prop)
-next_prop (Done size) passed end told = Unit-prop
+-- While there is no answer, the requested span is from the byte after those that came up to this end. A record is requested no
+-- further than it is read.
+abbrev pub NextBy : Stage → ℕ → ℕ → ℕ → ℕ → Type 0
+NextBy First start passed end told =
+    (passed < end) × ((end ≤ told) × ((end ≤ start + 132) × ((min 18 told ≤ end) × (passed < 12 → end ≤ 18))))
+NextBy (Records next) start passed end told = (passed < end) × ((end ≤ told) × ((start ≤ passed) × (end ≤ start + reach_at next)))
+NextBy (Footer size) start passed end told = (passed < end) × ((end ≤ told) × (end ≤ passed + 18))
+NextBy (Done size) start passed end told = Unit {0}
+
+pub next_prop : (stage : Stage) (start passed end told : ℕ) → IsProp (NextBy stage start passed end told)
+next_prop First start passed end told = ×_prop le_prop (×_prop le_prop (×_prop le_prop (×_prop le_prop (→_prop le_prop))))
+next_prop (Records next) start passed end told = ×_prop le_prop (×_prop le_prop (×_prop le_prop le_prop))
+next_prop (Footer size) start passed end told = ×_prop le_prop (×_prop le_prop le_prop)
+next_prop (Done size) start passed end told = Unit-prop
 
 abbrev pub IsNext : Stage → Stand → Type 0
-IsNext stage stand = NextBy stage stand.passed stand.end stand.told
+IsNext stage stand = NextBy stage stand.start stand.passed stand.end stand.told
 
--- The result depends on a byte before this end, after those that came, and in the next record or footer. If no text is
--- read, a read that it depends on ends there. Of the bytes 12 to 17 this is not known, if they may be the header of a TGA.
+-- Where a requested span ends at the latest: with the first 132 bytes, with what the next record reads, or with the input.
+abbrev pub latest_by : Stage → ℕ → ℕ → ℕ
+latest_by First start told = 132
+latest_by (Records next) start told = start + reach_at next
+latest_by (Footer size) start told = told
+latest_by (Done size) start told = told
+
+-- The result depends on a byte before this end, after those that came, and in the next record or footer, where that is read. If no
+-- text is read, a read that it depends on ends there. Of the bytes 12 to 17 this is not known, if they may be the header of a TGA.
 abbrev pub MarkedBy : Bool → Stage → ℕ → ℕ → ℕ → List Span → Type 0
 MarkedBy texts First start passed end marks = OutOfHeader passed → Needs texts passed end marks
-MarkedBy texts (Records next) start passed end marks = Needs texts (max passed start) end marks
+MarkedBy texts (Records next) start passed end marks = Needs texts (max passed start) (min end (start + reach_at next)) marks
 MarkedBy texts (Footer size) start passed end marks = Needs texts (max passed start) end marks
 MarkedBy texts (Done size) start passed end marks = Unit {0}
 

@@ -1,5 +1,5 @@
 -- Which bytes of an image arrived, and the result, as a probe keeps them.
-use Rattle.std.specs.Prelude.{ℕ, List, Option, None, Some, Result}
+use Rattle.std.specs.Prelude.{◌≡◌, ℕ, List, Option, None, Some, Result}
 use Rattle.imagesize.specs.declared.types.ImageType.{ImageType}
 use Rattle.imagesize_source.specs.Outcome.{stated}
 use Rattle.imagesize_source.specs.declared.error.ImageError.{ImageError}
@@ -26,3 +26,11 @@ stage_answer kind (Done size) = Some (kind, stated size)
 -- the type and the size, once they are known
 abbrev pub answer_of : StreamProbe → Option (Option ImageType × Result ImageSize ImageError)
 answer_of probe = stage_answer probe.kind probe.stage
+
+-- the type, once it is known
+abbrev pub type_of : StreamProbe → Option ImageType
+type_of probe = probe.kind
+
+-- a probe after a call that kept and counted no bytes
+abbrev pub KeepsNothing : StreamProbe → StreamProbe → Type 0
+KeepsNothing old new = (new.stand ≡ old.stand) × (new.buffer ≡ old.buffer)

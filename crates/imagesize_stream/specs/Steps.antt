@@ -1,5 +1,5 @@
 -- The record that a stream waits for, as one sequence for all formats whose size is in records.
-use Rattle.std.specs.Prelude.{◌≡◌, ℕ, ◌+◌, ◌-◌, ◌++◌, length, take, replicate, ◌<◌, ◌≤◌, ◌==◌, Bool, true, false, List, Option, None, Some, Result, Err, codes, ok_or, unwrap_or, if◌then◌else◌}
+use Rattle.std.specs.Prelude.{◌≡◌, ℕ, ◌+◌, ◌-◌, ◌*◌, ◌++◌, length, take, replicate, ◌<◌, ◌≤◌, ◌==◌, Bool, true, false, List, Option, None, Some, Result, Err, codes, ok_or, unwrap_or, if◌then◌else◌}
 use Rattle.std.specs.Coded.{Unit-prop, le_prop, ×_prop}
 use Rattle.std.specs.List.{last_or}
 use Rattle.std.specs.Str.{trim}
@@ -32,7 +32,7 @@ use Rattle.imagesize_texts.specs.Texts.{line_at, passed_line, word}
 use Rattle.imagesize_types.specs.Largest.{later_largest}
 use Rattle.imagesize_types.specs.declared.size.ImageSize.{ImageSize}
 use Rattle.imagesize_walked.specs.Ico.{icon_in}
-use Rattle.imagesize_walked.specs.Tiff.{count_bytes, entry_behind, side_with}
+use Rattle.imagesize_walked.specs.Tiff.{count_bytes, entry_behind, entry_bytes, side_with}
 use Rattle.imagesize_walked.specs.declared.formats.tiff.Entry as tiff
 use Rattle.imagesize_walked.specs.Ilbm.{ilbm_chunk}
 use Rattle.imagesize_walked.specs.Jpeg.{jpeg_segment}
@@ -135,6 +135,26 @@ first_text _ = text.Word
 -- how many bytes from its offset on a record is read at most, by whether it is a text
 abbrev pub reach_of : Bool → ℕ
 reach_of texts = if texts then 1024 else 132
+
+-- How many bytes from its offset on a record is read at most. Of a JPEG, these are the marker and a frame's first fields. Of an EXR,
+-- two names, a length and a box. Of a HEIF, a box's head, with a version or the content of a property. Of a JPEG XL, the head of a
+-- box, its index and 16 bytes.
+abbrev pub reach_at : Awaited → ℕ
+reach_at (Segment depth) = 9
+reach_at Chunk = 12
+reach_at (Attribute long) = 2 * names_of long + 20
+reach_at Line = 256
+reach_at Word = 1024
+reach_at Comment = 1024
+reach_at (Height width) = 1024
+reach_at (Icon count seen largest) = 2
+reach_at (Directory header) = count_bytes header.version
+reach_at (Entry l) = entry_bytes l.header.version
+reach_at Meta = 12
+reach_at Iprp = 8
+reach_at Ipco = 8
+reach_at (Property g) = 20
+reach_at (Box kept) = 36
 
 -- a record holds the record after it
 abbrev pub last_awaited : List Awaited → Awaited

@@ -6,9 +6,9 @@ ghost use Rattle.imagesize_source.specs.Reading.{is_stopped, map_answer, number_
 ghost use Rattle.imagesize_source.specs.State.{Follows, Runs};
 ghost use Rattle.imagesize_source.specs.Walk.{said_at};
 ghost use Rattle.imagesize_stream.specs.Skips.{ReadsFirst, ReadsText};
-ghost use Rattle.imagesize_stream.specs.Steps.{IsSmall, IsSteady, StaysSteady, after, decides, ends_with, first_text, is_text, kept_of, leading_to, names_of, reach_of, step, word_leads};
+ghost use Rattle.imagesize_stream.specs.Steps.{IsSmall, IsSteady, StaysSteady, after, decides, ends_with, first_text, is_text, kept_of, leading_to, names_of, reach_at, step, word_leads};
 ghost use Rattle.imagesize_texts.specs.Texts.{read_word_of};
-ghost use Rattle.imagesize_walked.specs.Tiff.{head_bytes, value_bytes};
+ghost use Rattle.imagesize_walked.specs.Tiff.{entry_bytes, head_bytes, value_bytes};
 ghost use Rattle.imagesize_stream.specs.declared.awaited.Awaited.TheVariants as awaited;
 
 use imagesize_boxes::formats::heif::{self, Gathered, read_box};
@@ -126,12 +126,34 @@ impl Awaited {
         }
     }
 
+    // How many bytes from its offset on the record is read at most.
+    #[inline]
+    pub(crate) fn most_read(&self) -> u64
+        ensures is { result ≡ reach_at self.now }
+        ensures few { result ≤ 1024 }
+    {
+        match self {
+            Awaited::Segment { .. } => 9,
+            Awaited::Chunk => 12,
+            Awaited::Attribute { long } => 2 * names_of(*long) as u64 + 20,
+            Awaited::Line => LINE_ROOM as u64,
+            Awaited::Word | Awaited::Comment | Awaited::Height { .. } => WORD_ROOM as u64,
+            Awaited::Icon { .. } => 2,
+            Awaited::Directory { header } => tiff::count_bytes(header.version),
+            Awaited::Entry(listed) => entry_bytes(listed.header.version),
+            Awaited::Meta => 12,
+            Awaited::Iprp | Awaited::Ipco => 8,
+            Awaited::Property(_) => 20,
+            Awaited::Box(_) => 36,
+        }
+    }
+
     // The text that the record begins with, if it is a text, and how many bytes it has at most.
     #[inline(always)]
     pub(crate) fn first_text(&self) -> Option<(Text, usize)>
         ensures text { IfSome result (λ found. found.0 ≡ first_text self.now) }
         ensures first { IfSome result (λ found. (offset : ℕ) → ReadsText offset found.0 found.1 (step self.now offset)) }
-        ensures few { IfSome result (λ found. found.1 ≤ reach_of (is_text self.now)) }
+        ensures few { IfSome result (λ found. found.1 ≤ reach_at self.now) }
     {
         match self {
             Awaited::Attribute { long } => Some((Text::Line { delimiter: 0 }, names_of(*long))),
@@ -264,6 +286,17 @@ fn read_attribute<S: Source>(
     ensures runs { Follows (S.state source.old) (S.state source.new) (map_answer (said_at offset) (leading_to (awaited.Attribute long) result)) (step (awaited.Attribute long) offset) }
 {
     exr::read_attribute(source, offset, names_of(long), buffer)
+}
+
+// How many bytes an entry of a TIFF has.
+fn entry_bytes(version: Version) -> u64
+    ensures is { result ≡ entry_bytes version }
+    ensures few { result ≤ 20 }
+{
+    match version {
+        Version::Tiff => 12,
+        Version::BigTiff => 20,
+    }
 }
 
 fn names_of(long: bool) -> usize

@@ -7,7 +7,7 @@ ghost use Rattle.imagesize_source.specs.Layout.{layout_reads};
 ghost use Rattle.imagesize_source.specs.Reading.{is_stopped};
 ghost use Rattle.imagesize_stream.specs.declared.front.First.TheVariants as first;
 ghost use Rattle.imagesize_stream.specs.Streamed.{first_layout};
-ghost use Rattle.imagesize_stream.specs.Heard.{EndsBehind, Hears, IfAnswer, IfMissing};
+ghost use Rattle.imagesize_stream.specs.Heard.{EndsBehind, EndsIn, Hears, HearsType, IfAnswer, IfMissing};
 
 use crate::awaited::Awaited;
 use crate::front::{First, FirstBytes, FirstSize, Opening, TgaHeader, TgaSize};
@@ -54,6 +54,8 @@ pub(crate) fn hear(bytes: &[u8], told: u64) -> Heard
     ensures hears { Hears bytes.now told result }
     ensures few { IfMissing result (length bytes.now < 132) }
     ensures ends { EndsBehind bytes.now told result }
+    ensures typed { HearsType bytes.now told result }
+    ensures head { length bytes.now < 12 → EndsIn 12 result }
     ensures whole { told ≤ length bytes.now → IfMissing result ⊥ }
     ensures unstopped { IfAnswer result (λ size. is_stopped size ≡ false) }
 {
@@ -91,6 +93,7 @@ fn hear_size(image: ImageType, bytes: &[u8], told: u64) -> Heard
     ensures hears { Hears bytes.now told result }
     ensures few { IfMissing result (length bytes.now < 132) }
     ensures ends { EndsBehind bytes.now told result }
+    ensures typed { HearsType bytes.now told result }
     ensures whole { told ≤ length bytes.now → IfMissing result ⊥ }
     ensures unstopped { IfAnswer result (λ size. is_stopped size ≡ false) }
 {
@@ -131,6 +134,7 @@ fn hear_tga(head: &[u8; 12], bytes: &[u8], told: u64) -> Heard
     ensures hears { Hears bytes.now told result }
     ensures few { IfMissing result (length bytes.now < 132) }
     ensures ends { EndsBehind bytes.now told result }
+    ensures typed { HearsType bytes.now told result }
     ensures whole { told ≤ length bytes.now → IfMissing result ⊥ }
     ensures unstopped { IfAnswer result (λ size. is_stopped size ≡ false) }
 {

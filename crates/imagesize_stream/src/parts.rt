@@ -36,7 +36,7 @@ use imagesize_types::size::ImageSize;
 #[derive(Drop)]
 pub struct PartsProbe {
     probe: StreamProbe,
-    ghost next: { IsNext probe.stage probe.stand } by { next_prop probe.stage probe.stand.passed probe.stand.end probe.stand.told },
+    ghost next: { IsNext probe.stage probe.stand } by { next_prop probe.stage probe.stand.start probe.stand.passed probe.stand.end probe.stand.told },
 }
 
 impl PartsProbe {
@@ -48,7 +48,8 @@ impl PartsProbe {
     ghost use Rattle.imagesize_source.specs.Agreement.{EndsBetween};
     ghost use Rattle.imagesize_source.specs.Errors.{is_stopped};
     ghost use Rattle.imagesize_stream.specs.Given.{HasPart};
-    ghost use Rattle.imagesize_stream.specs.Parts.{HasMarked, MayBe, next_of, total_of};
+    ghost use Rattle.imagesize_stream.specs.Pushed.{KeepsNothing};
+    ghost use Rattle.imagesize_stream.specs.Parts.{HasMarked, MayBe, latest_of, next_of, total_of};
 
     /// A probe of an input of `total` bytes. Of a length of 2^63 bytes or more, nothing is promised.
     pub fn new(total: u64) -> PartsProbe
@@ -57,6 +58,9 @@ impl PartsProbe {
 
         // The first span has 18 bytes at least, or the whole input.
         ensures first { IfWanted (next_of result) (λ w. (w.start ≡ 0) × (min 18 (total_of result) ≤ w.len)) }
+
+        // The first span has 18 bytes at most.
+        ensures few { IfWanted (next_of result) (λ w. w.len ≤ 18) }
     {
         let mut probe = StreamProbe::new(Some(total));
         probe.take_in(&[]);
@@ -91,6 +95,13 @@ impl PartsProbe {
         // The span has 1,024 bytes at most. Unless the type is a text format, it has 132 at most.
         ensures short { IfWanted result (λ w. w.len ≤ 1024) }
         ensures shorter { (d : List ℕ) → MayBe self.now d → texts_of d ≡ false → IfWanted result (λ w. w.len ≤ 132) }
+
+        // As long as fewer than 12 bytes are there, the span ends with the first 18 bytes at the latest.
+        ensures early { IfWanted result (λ w. w.start < 12 → w.start + w.len ≤ 18) }
+
+        // In a record, the span ends at the latest with the last byte that such a record may read. Before the first record, it ends
+        // within the first 132 bytes.
+        ensures latest { IfWanted result (λ w. w.start + w.len ≤ latest_of self.now) }
     {
         match self.probe.answer() {
             Some(found) => PartsAnswer::Found(found),
@@ -111,6 +122,9 @@ impl PartsProbe {
 
         // An answer is kept.
         ensures keeps { IfFound (next_of self.old) (λ found. next_of self.new ≡ answer.Found found) }
+
+        // After an answer, no more bytes are kept or counted.
+        ensures idle { IfFound (next_of self.old) (λ _. KeepsNothing self.old.probe self.new.probe) }
 
         // The input may be each that has the parts so far and these bytes.
         ensures goes_on { (d : List ℕ) → MayBe self.old d → HasPart d offset bytes.now → MayBe self.new d }

@@ -7,7 +7,7 @@ ghost use Rattle.imagesize_source.specs.Errors.{is_stopped};
 ghost use Rattle.imagesize_source.specs.Outcome.{stated};
 ghost use Rattle.imagesize_stream.specs.Given.{HasPart, IsGiven, MayBeAt};
 ghost use Rattle.imagesize_stream.specs.Heard.{RestsOnMore};
-ghost use Rattle.imagesize_stream.specs.Probe.{HoldsAt, IfAwaiting, IsAhead, IsNext, SearchedBy, holds_prop, searched_prop};
+ghost use Rattle.imagesize_stream.specs.Probe.{HoldsAt, IfAwaiting, IsAhead, IsCut, IsNext, SearchedBy, TypedBy, holds_prop, searched_prop};
 
 use crate::stage::{ROOM, Stage, begin, pass_over, wait, walk};
 use imagesize::{ImageResult, ImageType};
@@ -56,7 +56,7 @@ pub struct StreamProbe {
 }
 
 impl StreamProbe {
-    ghost use Rattle.imagesize_stream.specs.Pushed.{Came, answer_of, told_of};
+    ghost use Rattle.imagesize_stream.specs.Pushed.{Came, KeepsNothing, answer_of, told_of, type_of};
 
     /// Begins an input of `total` bytes, or of unknown length. Bytes past that length do not count.
     pub fn new(total: Option<u64>) -> StreamProbe
@@ -87,6 +87,9 @@ impl StreamProbe {
         ensures is { result ≡ answer_of self.new }
         ensures keeps { IfSome (answer_of self.old) (λ answer. answer_of self.new ≡ Some answer) }
 
+        // After a result, no more bytes are kept or counted.
+        ensures idle { IfSome (answer_of self.old) (λ _. KeepsNothing self.old self.new) }
+
         // For each list of bytes that may have arrived before:
         ensures goes_on { (front : List ℕ) → Came self.old front → Came self.new (front ++ take (told_of self.old - length front) chunk.now) }
 
@@ -102,6 +105,12 @@ impl StreamProbe {
             → AllBelow (length front + length (take (told_of self.old - length front) chunk.now)) (meaning d 0).marks → ⊥ }
         ensures whole { result ≡ None → (front : List ℕ) → Came self.old front → told_of self.old ≤ length front + length chunk.now → ⊥ }
 
+        // The type is known once an input of the reported length that begins with these bytes has it by them alone.
+        ensures typed { type_of self.new ≡ None → (front : List ℕ) → Came self.old front → (d : List ℕ)
+            → Begins (front ++ take (told_of self.old - length front) chunk.now) (told_of self.old) d → length d ≡ told_of self.old
+            → AllBelow (length front + length (take (told_of self.old - length front) chunk.now)) (kind_of d 0).marks
+            → result_ok (kind_of d 0).answer ≡ None }
+
         // No result is a fault, a spent budget or a lack of memory.
         ensures unstopped { IfSome result (λ answer. is_stopped answer.1 ≡ false) }
     {
@@ -114,6 +123,8 @@ impl StreamProbe {
 
     /// The type, once it is known.
     pub fn kind(&self) -> Option<ImageType>
+        // The type that `typed` of `push` speaks of.
+        ensures is { result ≡ type_of self.now }
         ensures answered { IfSome (answer_of self.now) (λ answer. result ≡ answer.0) }
         ensures says { (front : List ℕ) → Came self.now front → IfSome result (λ kind. (d : List ℕ) → Begins front (told_of self.now) d
             → result_ok (kind_of d 0).answer ≡ Some kind) }
@@ -146,10 +157,13 @@ impl StreamProbe {
         ensures passed { IfAwaiting self.new.stage (self.new.stand.passed
             ≡ self.old.stand.passed + length (take (self.old.stand.told - self.old.stand.passed) chunk.now)) }
         ensures keeps { IfSome (answer_of self.old) (λ answer. answer_of self.new ≡ Some answer) }
+        ensures idle { IfSome (answer_of self.old) (λ _. KeepsNothing self.old self.new) }
         ensures goes_on { (front : List ℕ) → Came self.old front → Came self.new (front ++ take (told_of self.old - length front) chunk.now) }
         ensures complete { IfAwaiting self.new.stage ((front : List ℕ) → Came self.old front
             → RestsOnMore (front ++ take (told_of self.old - length front) chunk.now) (told_of self.old)) }
         ensures whole { IfAwaiting self.new.stage ((front : List ℕ) → Came self.old front → told_of self.old ≤ length front + length chunk.now → ⊥) }
+        ensures typed { (front : List ℕ) → Came self.old front
+            → TypedBy self.new.stage self.new.kind (front ++ take (told_of self.old - length front) chunk.now) (told_of self.old) }
 
         // Of each input with these parts:
         ensures parts { (d : List ℕ) → IsGiven self.old.stage self.old.kind self.old.stand self.old.buffer d
@@ -170,10 +184,13 @@ impl StreamProbe {
         ensures passed { IfAwaiting self.new.stage (self.new.stand.passed
             ≡ self.old.stand.passed + length (take (self.old.stand.told - self.old.stand.passed) chunk.now)) }
         ensures keeps { IfSome (answer_of self.old) (λ answer. answer_of self.new ≡ Some answer) }
+        ensures idle { IfSome (answer_of self.old) (λ _. KeepsNothing self.old self.new) }
         ensures goes_on { (front : List ℕ) → Came self.old front → Came self.new (front ++ take (told_of self.old - length front) chunk.now) }
         ensures complete { IfAwaiting self.new.stage ((front : List ℕ) → Came self.old front
             → RestsOnMore (front ++ take (told_of self.old - length front) chunk.now) (told_of self.old)) }
         ensures whole { IfAwaiting self.new.stage ((front : List ℕ) → Came self.old front → told_of self.old ≤ length front + length chunk.now → ⊥) }
+        ensures typed { (front : List ℕ) → Came self.old front
+            → TypedBy self.new.stage self.new.kind (front ++ take (told_of self.old - length front) chunk.now) (told_of self.old) }
 
         // Of each input with these parts:
         ensures parts { (d : List ℕ) → IsGiven self.old.stage self.old.kind self.old.stand self.old.buffer d
@@ -208,10 +225,13 @@ impl StreamProbe {
         ensures passed { IfAwaiting self.new.stage (self.new.stand.passed
             ≡ self.old.stand.passed + length (take (self.old.stand.told - self.old.stand.passed) chunk.now)) }
         ensures keeps { IfSome (answer_of self.old) (λ answer. answer_of self.new ≡ Some answer) }
+        ensures idle { IfSome (answer_of self.old) (λ _. KeepsNothing self.old self.new) }
         ensures goes_on { (front : List ℕ) → Came self.old front → Came self.new (front ++ take (told_of self.old - length front) chunk.now) }
         ensures complete { IfAwaiting self.new.stage ((front : List ℕ) → Came self.old front
             → RestsOnMore (front ++ take (told_of self.old - length front) chunk.now) (told_of self.old)) }
         ensures whole { IfAwaiting self.new.stage ((front : List ℕ) → Came self.old front → told_of self.old ≤ length front + length chunk.now → ⊥) }
+        ensures typed { (front : List ℕ) → Came self.old front
+            → TypedBy self.new.stage self.new.kind (front ++ take (told_of self.old - length front) chunk.now) (told_of self.old) }
 
         // Of each input with these parts:
         ensures parts { (d : List ℕ) → IsGiven self.old.stage self.old.kind self.old.stand self.old.buffer d
@@ -260,6 +280,8 @@ impl StreamProbe {
         ensures complete { result ≡ true → (front : List ℕ) → Came self.old front
             → RestsOnMore (front ++ take (told_of self.old - length front) chunk.now) (told_of self.old) }
         ensures whole { result ≡ true → (front : List ℕ) → Came self.old front → told_of self.old ≤ length front + length chunk.now → ⊥ }
+        ensures typed { result ≡ true → (front : List ℕ) → Came self.old front
+            → TypedBy self.new.stage self.new.kind (front ++ take (told_of self.old - length front) chunk.now) (told_of self.old) }
     {
         let more = front_of(chunk, self.stand.told - self.stand.passed);
         match &self.stage {
@@ -282,6 +304,8 @@ impl StreamProbe {
         ensures complete { result ≡ true → (front : List ℕ) → Came self.old front
             → RestsOnMore (front ++ take (told_of self.old - length front) chunk.now) (told_of self.old) }
         ensures whole { result ≡ true → (front : List ℕ) → Came self.old front → told_of self.old ≤ length front + length chunk.now → ⊥ }
+        ensures typed { result ≡ true → (front : List ℕ) → Came self.old front
+            → TypedBy self.new.stage self.new.kind (front ++ take (told_of self.old - length front) chunk.now) (told_of self.old) }
 
         // Of each input with these parts:
         ensures parts { result ≡ true → (d : List ℕ) → IsGiven self.old.stage self.old.kind self.old.stand self.old.buffer d
@@ -304,11 +328,12 @@ impl StreamProbe {
         )
     }
 
-    // Skips the bytes that are not needed, up to the first one that is.
+    // Skips the bytes that are not needed, up to the first one that is, and requests those that the next read may need.
     pub(crate) fn skip(&mut self)
         requires { IsAhead self.old.stage self.old.stand }
         ensures told { told_of self.new ≡ told_of self.old }
         ensures keeps { answer_of self.new ≡ answer_of self.old }
+        ensures idle { IfSome (answer_of self.old) (λ _. KeepsNothing self.old self.new) }
         ensures next { IsNext self.new.stage self.new.stand }
         ensures later { self.old.stand.passed ≤ self.new.stand.passed }
         ensures passed { IfAwaiting self.new.stage (self.new.stand.passed ≡ max self.old.stand.passed self.old.stand.start) }
@@ -318,7 +343,19 @@ impl StreamProbe {
         if let Stage::Done { .. } = self.stage {
             return;
         }
+        self.stand.end = self.requested_end();
         self.stand.passed = self.stand.passed.max(self.stand.start);
+    }
+
+    // The offset after the last byte that is requested. No read of a record goes further. `read_on` does not promise that.
+    fn requested_end(&self) -> u64
+        requires { IsAhead self.now.stage self.now.stand }
+        ensures { IsCut self.now.stage self.now.stand.start self.now.stand.end result }
+    {
+        match &self.stage {
+            Stage::Records { next } => self.stand.end.min(self.stand.start + next.most_read()),
+            _ => self.stand.end,
+        }
     }
 
     // The type and the size, once they are known.

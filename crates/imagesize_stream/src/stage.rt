@@ -4,7 +4,7 @@ ghost use Rattle.imagesize.specs.declared.types.ImageType.{ImageType};
 ghost use Rattle.imagesize_source.specs.Input.{part};
 ghost use Rattle.imagesize_stream.specs.Given.{IsGiven, MayBeAt};
 ghost use Rattle.imagesize_stream.specs.Heard.{RestsOnMore};
-ghost use Rattle.imagesize_stream.specs.Probe.{CameTo, HoldsAt, IfAwaiting, IsAhead, RestsOnNext, stage_after};
+ghost use Rattle.imagesize_stream.specs.Probe.{CameTo, HoldsAt, IfAwaiting, IsAhead, RestsOnNext, TypedBy, stage_after};
 ghost use Rattle.imagesize_stream.specs.Skips.{PassesOver};
 ghost use Rattle.imagesize_stream.specs.Steps.{IsSteady, is_text};
 ghost use Rattle.imagesize_stream.specs.declared.stage.Stage.TheVariants as stage;
@@ -127,6 +127,7 @@ fn walk_from(next: Awaited, stand: &mut Stand, buffer: &mut [u8; ROOM], chunk: &
         → RestsOnMore (front ++ chunk.now) stand.old.told) }
     ensures marked { (kind : Option ImageType) (front : List ℕ) → CameTo (stage.Records next) kind stand.old buffer.old front
         → RestsOnNext result stand.new (front ++ chunk.now) stand.old.told }
+    ensures typed { (kind : Option ImageType) (front : List ℕ) (told : ℕ) → TypedBy result kind front told }
     ensures whole { IfAwaiting result (stand.old.told ≤ stand.old.passed + length chunk.now → ⊥) }
 {
     let mut next = next;
@@ -196,6 +197,8 @@ pub(crate) fn wait(
         → RestsOnMore (front ++ chunk.now) stand.old.told) }
     ensures marked { (front : List ℕ) → CameTo (stage.Footer size) kind.old stand.old buffer.old front
         → RestsOnNext result stand.new (front ++ chunk.now) stand.old.told }
+    ensures typed { (front : List ℕ) → CameTo (stage.Footer size) kind.old stand.old buffer.old front
+        → TypedBy result kind.new (front ++ chunk.now) stand.old.told }
     ensures whole { IfAwaiting result (stand.old.told ≤ stand.old.passed + length chunk.now → ⊥) }
 
     // Of each input with these parts:
@@ -245,6 +248,8 @@ pub(crate) fn begin(
         → RestsOnMore (front ++ chunk.now) stand.old.told) }
     ensures marked { (front : List ℕ) → CameTo stage.First kind.old stand.old buffer.old front
         → RestsOnNext into.new stand.new (front ++ chunk.now) stand.old.told }
+    ensures typed { (front : List ℕ) → CameTo stage.First kind.old stand.old buffer.old front
+        → TypedBy into.new kind.new (front ++ chunk.now) stand.old.told }
     ensures whole { IfAwaiting into.new (stand.old.told ≤ stand.old.passed + length chunk.now → ⊥) }
 {
     let left = FIRST - stand.passed;
@@ -274,6 +279,7 @@ fn begun(
     ensures goes_on { CameTo into.new kind.new stand.new buffer.new (take stand.old.passed buffer.old ++ chunk.now) }
     ensures complete { IfAwaiting into.new (RestsOnMore (take stand.old.passed buffer.old ++ chunk.now) stand.old.told) }
     ensures marked { RestsOnNext into.new stand.new (take stand.old.passed buffer.old ++ chunk.now) stand.old.told }
+    ensures typed { TypedBy into.new kind.new (take stand.old.passed buffer.old ++ chunk.now) stand.old.told }
     ensures whole { IfAwaiting into.new (stand.old.told ≤ stand.old.passed + length chunk.now → ⊥) }
 {
     let passed = stand.passed as usize;

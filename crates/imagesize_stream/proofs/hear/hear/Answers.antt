@@ -2,7 +2,7 @@ use Rattle.std.proofs.Common.{◌<◌, length, Ok, sym, ◌∙◌, subst, false,
 use Rattle.imagesize_pieces.specs.Stream.{Says}
 use Rattle.imagesize_source.specs.Layout.{layout_reads}
 use Rattle.imagesize_stream.proofs.Heads.{head_missing, head_needed}
-use Rattle.imagesize_stream.proofs.Hearing.{first_asked, first_missing, meaning_refused, size_of_said, type_is, type_refused, type_said}
+use Rattle.imagesize_stream.proofs.Hearing.{first_asked, first_missing, first_typed, meaning_refused, size_of_said, type_is, type_missing, type_refused, type_said}
 use Rattle.imagesize_stream.proofs.Plain.{first_plain}
 use Rattle.imagesize_stream.proofs.Reaches.{first_reaches}
 use Rattle.imagesize_stream.specs.Streamed.{first_layout}
@@ -47,3 +47,26 @@ returns-then-told-clause-hears c =
       λ _. first_asked c.args.bytes.now c.args.told _ _
           (λ d begins as_long. head_needed d (length c.args.bytes.now) few (omega (arith, as_long))),
     )
+
+pub returns-in-MaybeTga-clause-head : goal.returns-in-MaybeTga-clause-head
+returns-in-MaybeTga-clause-head c = λ few.
+    let says = c.read_front-found.ensures.says (sym c.is_faulted.ensures ∙ c.if-is_faulted.false) in
+    let enough = first_typed c.args.bytes.now c.args.told c.requires.fits c.in-Ok.first (rw c.in-Ok.is at says) in
+    absurd (omega (arith, few, enough))
+
+pub returns-in-Type-clause-head : goal.returns-in-Type-clause-head
+returns-in-Type-clause-head c = λ few.
+    let says = c.read_front-found.ensures.says (sym c.is_faulted.ensures ∙ c.if-is_faulted.false) in
+    let enough = first_typed c.args.bytes.now c.args.told c.requires.fits c.in-Ok.first (rw c.in-Ok.is at says) in
+    absurd (omega (arith, few, enough))
+
+pub returns-then-is_faulted-clause-typed : goal.returns-then-is_faulted-clause-typed
+returns-then-is_faulted-clause-typed c =
+    type_missing c.args.bytes.now c.args.told
+    (c.read_front-found.ensures.complete (sym c.is_faulted.ensures ∙ c.if-is_faulted.true))
+
+pub returns-then-told-clause-typed : goal.returns-then-told-clause-typed
+returns-then-told-clause-typed c =
+    let few : length c.args.bytes.now < 12 = omega arith in
+    type_missing c.args.bytes.now c.args.told
+    (λ d begins as_long below. head_missing d (length c.args.bytes.now) few (omega (arith, as_long)) below)

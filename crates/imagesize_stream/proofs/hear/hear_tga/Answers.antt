@@ -1,6 +1,6 @@
 use Rattle.std.proofs.Common.{length, sym, ◌∙◌}
 use Rattle.imagesize_fixed.specs.Tga.{tga, tga_by_header}
-use Rattle.imagesize_stream.proofs.Footers.{footer_decides, header_reach, header_size, header_sure, header_type, in_header, never_missed, rests_on_more, said_ok, short_size, short_type, size_reach, size_sure}
+use Rattle.imagesize_stream.proofs.Footers.{footer_decides, header_reach, header_size, header_sure, header_type, in_header, never_missed, rests_on_more, said_ok, short_size, short_type, size_reach, size_sure, type_on_more}
 use Rattle.imagesize_stream.proofs.Hearing.{first_typed}
 use Rattle.imagesize_stream.specs.declared.front.First.TheVariants as first
 use Rattle.imagesize_stream.proofs.hear.hear_tga.Goals as goal
@@ -101,3 +101,21 @@ returns-clause-hears c =
           (said_ok c.args.bytes.now c.args.told tga c.read_front-size.result.0 c.in-Ok-size.size
           c.in-Ok-size.is c.read_front-size.ensures.says) c.if-bytes-lt18.false is,
     )
+
+pub returns-then-bytes-lt18-clause-typed : goal.returns-then-bytes-lt18-clause-typed
+returns-then-bytes-lt18-clause-typed c =
+    type_on_more c.args.bytes.now c.args.told c.args.head.now c.requires.first c.requires.fits c.if-told-lt18.false
+    c.if-bytes-lt18.true
+
+pub returns-in_default-clause-typed : goal.returns-in_default-clause-typed
+returns-in_default-clause-typed c = absurd (
+    never_missed c.args.bytes.now c.args.told
+    (tga_by_header c.args.head.now) c.read_front-sound.result.0 c.in_default.field-0 c.in_default.is
+    c.read_front-sound.ensures.says c.read_front-sound.ensures.few
+    c.requires.fits c.if-bytes-lt18.false (header_reach c.args.head.now) (header_sure c.args.head.now))
+
+pub returns-in_default-size-clause-typed : goal.returns-in_default-size-clause-typed
+returns-in_default-size-clause-typed c = absurd (
+    never_missed c.args.bytes.now c.args.told tga c.read_front-size.result.0 c.in_default-size.field-0
+    c.in_default-size.is c.read_front-size.ensures.says c.read_front-size.ensures.few
+    c.requires.fits c.if-bytes-lt18.false size_reach size_sure)

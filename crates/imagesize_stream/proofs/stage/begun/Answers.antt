@@ -5,7 +5,7 @@ use Rattle.imagesize.specs.Parted.{texts_of}
 use Rattle.imagesize_pieces.proofs.Beginning.{begins_left}
 use Rattle.imagesize_pieces.proofs.Needing.{needs_wider}
 use Rattle.imagesize_stream.proofs.Footers.{last_kept}
-use Rattle.imagesize_stream.proofs.Coming.{awaiting_map, opened_came}
+use Rattle.imagesize_stream.proofs.Coming.{awaiting_map, missing_on, opened_came}
 use Rattle.imagesize_stream.proofs.Hearing.{type_is}
 use Rattle.imagesize_stream.specs.Heard.{OutOfHeader}
 use Rattle.imagesize_stream.proofs.stage.begun.Goals as goal
@@ -76,3 +76,40 @@ returns-in-Footer-clause-marked c =
     (omega (arith, c.requires.few)) hears.0 refl
     c.keep_behind.ensures in
     c.wait.ensures.marked (take c.args.stand.now.passed c.args.buffer.now) (last.0, last.1, tt, hears.1)
+
+pub returns-in-Missing-clause-ahead : goal.returns-in-Missing-clause-ahead
+returns-in-Missing-clause-ahead c =
+    let many = length-take c.args.stand.now.passed c.args.buffer.now in
+    let ends = c.in-Missing.ensures.ends in
+    let few = c.in-Missing.ensures.few in (
+      omega (arith, many, ends.0, ends.1, few, c.requires.few),
+      (
+        omega (arith, ends.0, ends.1, c.requires.first),
+        (
+          omega arith,
+          (
+            omega arith,
+            (
+              omega arith,
+              λ early.
+                  let head = c.in-Missing.ensures.head (omega (arith, many, early)) in omega (arith, head),
+            ),
+          ),
+        ),
+      ),
+    )
+
+pub returns-in-Missing-clause-typed : goal.returns-in-Missing-clause-typed
+returns-in-Missing-clause-typed c =
+    let many = length-take c.args.stand.now.passed c.args.buffer.now in
+    let few = c.in-Missing.ensures.few in
+    missing_on c.in-Missing.image (take c.args.stand.now.passed c.args.buffer.now) c.args.chunk.now c.args.stand.now.told
+    (c.requires.all (omega (arith, many, few, c.requires.few))) c.in-Missing.ensures.typed
+
+pub returns-in-Footer-clause-typed : goal.returns-in-Footer-clause-typed
+returns-in-Footer-clause-typed c =
+    let hears = c.in-Footer.ensures.hears in
+    let last = last_kept c.args.buffer.now c.keep_behind.new.buffer c.args.stand.now.passed (c.args.stand.now.passed - 18)
+    (omega (arith, c.requires.few)) hears.0 refl
+    c.keep_behind.ensures in
+    c.wait.ensures.typed (take c.args.stand.now.passed c.args.buffer.now) (last.0, last.1, tt, hears.1)

@@ -101,3 +101,10 @@ returns-clause-parts c = λ d given part.
       depends = tt;
       marked = tt;
     }
+
+pub returns-then-stand-clause-typed : goal.returns-then-stand-clause-typed
+returns-then-stand-clause-typed c = λ front came d begins as_long below.
+    let typed = (came.3 d (begins_left front c.args.chunk.now c.args.stand.now.told d begins)).typed in
+    let last = below typed.0.0 typed.0.3 in
+    let as_many = came.0 in
+    omega (arith, last, typed.0.1, as_long, as_many, c.if-stand.true, length-append front c.args.chunk.now)

@@ -5,11 +5,11 @@ use Rattle.imagesize_pieces.proofs.Beginning.{begins_left}
 use Rattle.imagesize_pieces.proofs.Needing.{needs_as}
 use Rattle.imagesize_pieces.proofs.Reaching.{reach_more}
 use Rattle.imagesize_stream.proofs.Coming.{size_by, texts_back, texts_over, texts_stated, type_on}
-use Rattle.imagesize_stream.proofs.Far.{awaits_far, reach_some, step_far}
+use Rattle.imagesize_stream.proofs.Far.{awaits_far, reach_few, step_far}
 use Rattle.imagesize_stream.proofs.Plain.{awaits_read}
 use Rattle.imagesize_stream.specs.Probe.{texts_by}
 use Rattle.imagesize_stream.proofs.Steps.{awaited_advances}
-use Rattle.imagesize_stream.specs.Steps.{is_text, last_awaited, reach_of, step}
+use Rattle.imagesize_stream.specs.Steps.{last_awaited, reach_of, step}
 use Rattle.imagesize_stream.proofs.stage.walk.Goals as goal
 
 pub read_on-requires-clause-follows : goal.read_on-requires-clause-follows
@@ -48,17 +48,18 @@ returns-in-None-clause-complete c = λ kind front came d begins as_long below.
 
 pub returns-in-None-clause-ahead : goal.returns-in-None-clause-ahead
 returns-in-None-clause-ahead c =
-    let ends = c.in-None.ensures.ends refl in let keeps = c.in-None.ensures.keeps refl in
+    let ends = c.in-None.ensures.ends refl in
     let starts = c.in-None.ensures.starts refl in
     let few = c.in-None.ensures.few refl _ (λ held awaits. awaits_far held c.read_on.new.stand.offset awaits) in
+    let keeps = c.in-None.ensures.keeps refl in
     let same = ap reach_of keeps.1.2 in
-    let some = reach_some (is_text c.read_on.new.records) in (
-      omega (arith, ends.0, few, starts, c.min-stand.ensures),
+    let most = reach_few c.read_on.new.records in (
+      omega (arith, ends.0, few, starts, most, same, c.min-stand.ensures),
       (
-        omega (arith, ends.1, some, same, c.min-stand.ensures),
+        omega (arith, ends.1, c.min-stand.ensures),
         (
           omega (arith, ends.2, c.min-stand.ensures),
-          omega (arith, same, c.min-stand.ensures),
+          (omega (arith, same, c.min-stand.ensures), omega (arith, few, starts)),
         ),
       ),
     )
@@ -69,8 +70,9 @@ returns-in-None-clause-marked c = λ kind front came d begins as_long.
     let starts = c.in-None.ensures.starts refl in
     let type = came.0 d (begins_left front c.args.chunk.now c.args.stand.now.told d begins) in
     let texts = sym over.0 ∙ ap texts_by (sym type) ∙ sym (texts_stated (kind_reads d 0).answer) in
+    let keeps = c.in-None.ensures.keeps refl in
     needs_as _ _ _ _ (meaning_reads d 0).marks texts (omega arith)
-    (omega (arith, starts, c.min-stand.ensures))
+    (omega (arith, starts, reach_few c.read_on.new.records, ap reach_of keeps.1.2, c.min-stand.ensures))
     (c.in-None.ensures.marked refl _ _ (λ held awaits.
     (awaits_read held c.read_on.new.stand.offset awaits, awaits_far held c.read_on.new.stand.offset awaits))
     0 (λ d. meaning_reads d 0) front over.1 d begins as_long)

@@ -1,9 +1,11 @@
-use Rattle.std.proofs.Common.{◌≡◌, ℕ, ◌-◌, [], sym, ◌∙◌, arith}
+use Rattle.std.proofs.Common.{◌≡◌, ℕ, ◌+◌, ◌-◌, ◌≤◌, max, [], length, take, None, Some, IfSome, sym, ◌∙◌, arith}
 use Rattle.std.proofs.lemmas.List.{length-take}
 use Rattle.imagesize_stream.proofs.Ending.{as_many, awaiting_none}
-use Rattle.imagesize_stream.proofs.Given.{first_next, none_given, none_has, none_passed}
-use Rattle.imagesize_stream.proofs.Requests.{first_span, none_before}
-use Rattle.imagesize_stream.specs.Pushed.{answer_of}
+use Rattle.imagesize_stream.proofs.Given.{early_none, first_next, none_given, none_has, none_passed}
+use Rattle.imagesize_stream.proofs.Requests.{few_first, first_span, none_before}
+use Rattle.imagesize_stream.specs.Probe.{HoldsAt, IfAwaiting}
+use Rattle.imagesize_stream.specs.Pushed.{Came, answer_of}
+use Rattle.imagesize_stream.specs.declared.probe.StreamProbe.{StreamProbe}
 use Rattle.imagesize_stream.proofs.parts.PartsProbe.new.Goals as goal
 
 pub returns-clause-begins : goal.returns-clause-begins
@@ -14,21 +16,38 @@ returns-clause-begins c = λ d as_long.
     (omega arith) p.holds c.new-probe.ensures.begins)
     (none_has d p.stand.passed))
 
+-- no byte came yet
+at_first : (p s u : StreamProbe) → 132 ≤ length p.buffer → IfSome (answer_of p) (λ answer. answer_of s ≡ Some answer) → answer_of u ≡ answer_of s
+    → HoldsAt p.stage p.stand → HoldsAt s.stage s.stand → Came p []
+    → IfAwaiting s.stage (s.stand.passed ≡ p.stand.passed + length (take {A = ℕ} (p.stand.told - p.stand.passed) []))
+    → IfAwaiting u.stage (u.stand.passed ≡ max s.stand.passed s.stand.start) → answer_of u ≡ None → u.stand.passed ≡ 0
+at_first p s u enough kept keeps p_holds s_holds came many moves none =
+    let after = sym keeps ∙ none in
+    let before = none_before (answer_of p) (answer_of s) kept after in
+    let begins : p.stand.passed ≡ 0 = as_many p.kind p.stage p.stand.start p.stand.offset p.stand.passed p.stand.told
+    p.buffer [] before enough p_holds came in
+    let all = awaiting_none s.kind s.stage after many in
+    let none_came : s.stand.passed ≡ 0 =
+    omega (arith, all, begins, length-take {A = ℕ} (p.stand.told - p.stand.passed) []) in
+    let start = none_passed s.kind s.stage s.stand.start s.stand.offset s.stand.passed after s_holds none_came in
+    let moved = awaiting_none u.kind u.stage none moves in omega (arith, moved, none_came, start)
+
 pub returns-clause-first : goal.returns-clause-first
 returns-clause-first c =
     let p = c.new-probe.result in let s = c.take_in.new.self in let u = c.skip.new.self in
     first_span (answer_of u) u.stand u.stand.told (λ none.
-    let after = sym c.skip.ensures.keeps ∙ none in
-    let before = none_before (answer_of p) (answer_of s) c.take_in.ensures.keeps after in
-    let begins : p.stand.passed ≡ 0 = as_many p.kind p.stage p.stand.start p.stand.offset p.stand.passed p.stand.told
-    p.buffer [] before (omega arith) p.holds c.new-probe.ensures.begins in
-    let many = awaiting_none s.kind s.stage after c.take_in.ensures.passed in
-    let none_came : s.stand.passed ≡ 0 =
-    omega (arith, many, begins, length-take {A = ℕ} (p.stand.told - p.stand.passed) []) in
-    let start = none_passed s.kind s.stage s.stand.start s.stand.offset s.stand.passed after s.holds none_came in
-    let moved = awaiting_none u.kind u.stage none c.skip.ensures.passed in
-    let at : u.stand.passed ≡ 0 = omega (arith, moved, none_came, start) in (
+    let at = at_first p s u (omega arith) c.take_in.ensures.keeps c.skip.ensures.keeps p.holds s.holds
+    c.new-probe.ensures.begins c.take_in.ensures.passed c.skip.ensures.passed none in (
       at,
       first_next u.kind u.stage u.stand.start u.stand.offset u.stand.passed u.stand.end u.stand.told none u.holds
           c.skip.ensures.next at,
     ))
+
+pub returns-clause-few : goal.returns-clause-few
+returns-clause-few c =
+    let p = c.new-probe.result in let s = c.take_in.new.self in let u = c.skip.new.self in
+    few_first (answer_of u) u.stand (λ none.
+    let at = at_first p s u (omega arith) c.take_in.ensures.keeps c.skip.ensures.keeps p.holds s.holds
+    c.new-probe.ensures.begins c.take_in.ensures.passed c.skip.ensures.passed none in
+    early_none u.kind u.stage u.stand.start u.stand.offset u.stand.passed u.stand.end u.stand.told none u.holds
+    c.skip.ensures.next (omega (arith, at)))

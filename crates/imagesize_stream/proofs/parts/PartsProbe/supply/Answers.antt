@@ -2,7 +2,7 @@ use Rattle.std.proofs.Common.{◌-◌, length, sym, ap, ◌∙◌, subst, arith}
 use Rattle.std.proofs.lemmas.List.{length-drop, length-take}
 use Rattle.imagesize_stream.proofs.Ending.{awaiting_none}
 use Rattle.imagesize_stream.proofs.Given.{given_later, next_none}
-use Rattle.imagesize_stream.proofs.Requests.{gets_beyond, gets_further, keeps_found, no_gap}
+use Rattle.imagesize_stream.proofs.Requests.{gets_beyond, gets_further, idle_both, keeps_found, no_gap}
 use Rattle.imagesize_stream.specs.Given.{HasPart}
 use Rattle.imagesize_stream.specs.Pushed.{answer_of}
 use Rattle.imagesize_stream.proofs.parts.PartsProbe.supply.Goals as goal
@@ -29,7 +29,8 @@ pub returns-clause-further : goal.returns-clause-further
 returns-clause-further c =
     let s = c.args.self.now.probe in let t = c.take_in.new.self in let u = c.skip.new.self in
     gets_further (answer_of s) (answer_of u) s.stand u.stand c.args.offset (length c.args.bytes.now) (λ none later some.
-    let ahead = next_none s.kind s.stage s.stand.passed s.stand.end s.stand.told none c.args.self.now.next in
+    let ahead = next_none s.kind s.stage s.stand.start s.stand.offset s.stand.passed s.stand.end s.stand.told none s.holds
+    c.args.self.now.next in
     let many = awaiting_none t.kind t.stage (sym c.skip.ensures.keeps ∙ later) c.take_in.ensures.passed in
     let behind = c.skip.ensures.later in
     omega (
@@ -49,7 +50,8 @@ pub returns-clause-beyond : goal.returns-clause-beyond
 returns-clause-beyond c =
     let s = c.args.self.now.probe in let t = c.take_in.new.self in let u = c.skip.new.self in
     gets_beyond (answer_of s) (answer_of u) s.stand u.stand c.args.offset (length c.args.bytes.now) (λ none later all.
-    let ahead = next_none s.kind s.stage s.stand.passed s.stand.end s.stand.told none c.args.self.now.next in
+    let ahead = next_none s.kind s.stage s.stand.start s.stand.offset s.stand.passed s.stand.end s.stand.told none s.holds
+    c.args.self.now.next in
     let many = awaiting_none t.kind t.stage (sym c.skip.ensures.keeps ∙ later) c.take_in.ensures.passed in
     let behind = c.skip.ensures.later in
     omega (
@@ -64,3 +66,9 @@ returns-clause-beyond c =
       ap length c.bytes_behind.ensures,
       length-drop (s.stand.passed - c.args.offset) c.args.bytes.now,
     ))
+
+pub returns-clause-idle : goal.returns-clause-idle
+returns-clause-idle c =
+    let s = c.args.self.now.probe in let t = c.take_in.new.self in
+    idle_both (answer_of s) (answer_of t) s.stand (λ first then. (then.0 ∙ first.0, then.1 ∙ first.1)) c.take_in.ensures.keeps
+    c.take_in.ensures.idle c.skip.ensures.idle

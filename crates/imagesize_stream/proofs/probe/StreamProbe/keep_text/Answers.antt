@@ -1,9 +1,9 @@
 use Rattle.std.proofs.Common.{◌-◌, ◌++◌, length, take, sym, ap, subst, ◌∙◌, arith}
 use Rattle.imagesize_stream.proofs.Ending.{rests_cut}
 use Rattle.imagesize_stream.proofs.Given.{cut_part, given_on}
-use Rattle.imagesize_stream.proofs.Unfinished.{pending_needs, searched_after, text_came, text_holds, text_many}
+use Rattle.imagesize_stream.proofs.Unfinished.{pending_needs, searched_after, text_ahead, text_came, text_holds, text_many}
 use Rattle.imagesize_stream.specs.Given.{MayBeAt}
-use Rattle.imagesize_stream.specs.Probe.{CameTo}
+use Rattle.imagesize_stream.specs.Probe.{CameTo, IsAhead}
 use Rattle.imagesize_stream.specs.declared.stage.Stage.TheVariants.{Records}
 use Rattle.imagesize_stream.proofs.probe.StreamProbe.keep_text.Goals as goal
 
@@ -13,6 +13,13 @@ invariant_of-self-clause-pending c =
     searched_after kept.result s.stage c.in-Records.next c.in-Some.text c.in-Some.most s.stand kept.new.stand s.searched
     kept.new.searched s.buffer kept.new.buffer c.front_of-more.result.now c.in-Records.is c.in-Some.ensures.text
     kept.ensures.stays kept.ensures.keeps kept.ensures.searches s.pending
+
+pub returns-clause-ahead : goal.returns-clause-ahead
+returns-clause-ahead c = λ is.
+    let s = c.args.self.now in let new = c.keep_pending.new in
+    subst (λ stage. IsAhead stage new.stand) (sym c.in-Records.is)
+    (text_ahead c.in-Records.next c.in-Some.text c.in-Some.most s.stand new.stand s.buffer new.buffer c.front_of-more.result.now
+    (c.keep_pending.ensures.keeps is) c.in-Some.ensures.few)
 
 pub returns-clause-goes_on : goal.returns-clause-goes_on
 returns-clause-goes_on c = λ is front came.
@@ -35,7 +42,7 @@ returns-clause-complete c = λ is front came.
     rests_cut front c.args.chunk.now more s.stand.passed s.stand.told here.1.as_many c.front_of-more.ensures
     (λ d begins as_long below.
     let needs = pending_needs c.in-Records.next c.in-Some.text c.in-Some.most s.stand new.stand s.kind s.buffer new.buffer
-    front more keeps c.in-Some.ensures.first here d begins as_long in
+    front more keeps c.in-Some.ensures.first here c.in-Some.ensures.few d begins as_long in
     absurd (omega (arith, below needs.0.0 needs.0.3, needs.0.1, many)))
 
 pub returns-clause-parts : goal.returns-clause-parts
@@ -50,7 +57,7 @@ returns-clause-parts c = λ is d given has.
     let many = text_many c.in-Records.next c.in-Some.text c.in-Some.most s.stand new.stand s.kind s.buffer new.buffer front
     more keeps c.in-Some.ensures.first here.known in
     let all = pending_needs c.in-Records.next c.in-Some.text c.in-Some.most s.stand new.stand s.kind s.buffer new.buffer
-    front more keeps c.in-Some.ensures.first here.known in
+    front more keeps c.in-Some.ensures.first here.known c.in-Some.ensures.few in
     subst (λ stage. MayBeAt stage s.kind new.stand new.buffer d) (sym c.in-Records.is)
     (given_on (Records c.in-Records.next) s.kind new.stand new.buffer d more s.stand.passed s.stand.told given.as_long cut
     keeps.told
