@@ -1,4 +1,5 @@
 -- Lemmas of this crate.
+pub mod Feeds
 pub mod Lines
 pub mod Spans
 pub mod Writing

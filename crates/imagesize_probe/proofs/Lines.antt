@@ -1,8 +1,7 @@
 -- What `report` writes, by what was found.
-use Rattle.std.proofs.Common.{◌≡◌, ℕ, Bool, true, false, List, Option, None, Some, Result, Ok, Err, IsOk, IsErr, IsSome, IsSomeAnd, IfSome, is_ok, codes, option_map, refl, OnOk, IfOk}
+use Rattle.std.proofs.Common.{◌≡◌, ℕ, Bool, true, false, List, Option, None, Some, Result, Ok, Err, IsOk, IsErr, IsSome, IsSomeAnd, IfSome, is_ok, option_map, refl, OnOk, IfOk}
 use mathlib.Core.Logic.{⊎_elim}
 use Rattle.std.specs.declared.io.Error.{Error}
-use Rattle.std.specs.Fmt.{◌++?◌}
 use Rattle.std.specs.Result.{result_ok}
 use Rattle.std.specs.Io.KnownBytes.{Appends}
 use Rattle.imagesize.specs.Meaning.{kind_of, kind_reads, meaning, meaning_reads, size_reads}
@@ -51,13 +50,6 @@ has_text (IoError InvalidHdrIdentifier) _ = refl
 has_text (IoError InvalidHdrDimensionsLine) _ = refl
 has_text (IoError HdrDimensionsNotFound) _ = refl
 has_text (IoError PnmDimensionsNotFound) _ = refl
-
--- a text that is stated was written as the reason behind a name
-pub some_line : (name : List ℕ) (text : Option (List ℕ)) (old new : Option (List ℕ)) → IsSome text →
-    IfSome (Some name ++? (Some (codes ": error: ") ++? (text ++? Some (codes "\n")))) (Appends old new) →
-    (t : List ℕ) × Appends old new (refused_line name t)
-some_line name None old new has _ = (cc)
-some_line name (Some text) old new _ wrote = (text, wrote)
 
 -- what goes on from a refusal is no success
 began : {X Y : Type 0} (marks : List Span) (r : Result X Halt) (f : X → Reads Y)

@@ -10,13 +10,15 @@ use Rattle.std.specs.Result.{result_ok}
 use Rattle.imagesize.specs.Meaning.{kind_of, meaning}
 use Rattle.imagesize.specs.declared.types.ImageType.{ImageType}
 use Rattle.imagesize_types.specs.declared.size.ImageSize.{ImageSize}
+use Rattle.imagesize_io.specs.Telling.{Telling}
 use Rattle.imagesize_source.specs.Reason.{error_text}
 use Rattle.imagesize_source.specs.declared.error.ImageError.{ImageError}
 use Rattle.imagesize_source.specs.declared.error.ImageError.TheVariants.{IoError}
 use Rattle.imagesize_source.specs.declared.error.Reason.TheVariants.{Memory}
 use Rattle.imagesize_source.specs.declared.span.Span.{Span}
-use Rattle.imagesize_probe.specs.Line.{answer_line, sized_line, refused_line, span_lines, AppendsLine, AppendsLines, LacksMemory, ReportsSpans}
-use Rattle.imagesize_probe.specs.Run.{Files, WritesEach, RunsWith, WritesLine, WritesLines, WritesOne, WritesSpans, Loads, LoadsNone, IsTooLong, ReportsWhole, SpansBehind, whole_length, line_behind, join_lines, lines_of, is_any_refused, names_in, wants_spans}
+use Rattle.imagesize_probe.proofs.Feeds.{plain_error}
+use Rattle.imagesize_probe.specs.Line.{answer_line, sized_line, refused_line, span_lines, AppendsLine, AppendsLines, IsOneLine, LacksMemory, ReportsSpans}
+use Rattle.imagesize_probe.specs.Run.{Files, OpensAs, OpensTo, WritesEach, RunsWith, WritesLine, WritesLines, WritesOne, WritesSpans, Loads, LoadsNone, IsTooLong, ReportsWhole, SpansBehind, whole_length, line_behind, join_lines, lines_of, is_any_refused, names_in, wants_spans}
 use Rattle.imagesize_probe.specs.Status.{exit_status}
 
 -- a line was written and sent on, and then others
@@ -135,21 +137,21 @@ behind_read : (found : Result (List ℕ) ImageError) (bytes name : List ℕ) (a 
 behind_read (Ok d) bytes name a b sized is wrote = inl (whole_read d bytes name a b sized is wrote)
 behind_read (Err e) bytes name a b sized is wrote = absurd is
 
--- one line has no spans below it
-one_line : (name : List ℕ) (a b : Option (List ℕ)) (sized : Bool) → AppendsLine name a b sized
+-- a line alone has no spans below it
+line_alone : (name : List ℕ) (a b : Option (List ℕ)) (sized : Bool) → AppendsLine name a b sized
     → AppendsLines name a b sized
-one_line name a b sized wrote = (b, [], wrote, wrote_none b)
+line_alone name a b sized wrote = (b, [], wrote, wrote_none b)
 
 -- such lines are a line of the name and lines of spans
 long_lines : (name : List ℕ) (a b : Option (List ℕ)) (sized : Bool) → IsTooLong name a b sized
     → AppendsLines name a b sized
 long_lines name a b true wrote = absurd (cc)
-long_lines name a b false wrote = (b, [], (codes "file is longer than 16777216 bytes", wrote.text), wrote_none b)
+long_lines name a b false wrote = (b, [], (codes "file is longer than 16777216 bytes", refl, wrote.text), wrote_none b)
 
 lacking_lines : (name : List ℕ) (a b : Option (List ℕ)) (sized : Bool) → LacksMemory name a b sized
     → AppendsLines name a b sized
 lacking_lines name a b true wrote = absurd (cc)
-lacking_lines name a b false wrote = (b, [], (codes "Out of memory", wrote.text), wrote_none b)
+lacking_lines name a b false wrote = (b, [], (codes "Out of memory", refl, wrote.text), wrote_none b)
 
 -- what was appended whole was appended in two parts
 appended_apart : (a c : Option (List ℕ)) (first second : List ℕ) → Appends a c (first ++ second) →
@@ -170,15 +172,15 @@ answered_lines name (Some image) (Ok size) spans a b true wrote _ =
 answered_lines name (Some image) (Ok size) spans a b false wrote is = absurd (cc)
 answered_lines name None (Ok size) spans a b sized wrote is = absurd wrote
 answered_lines name found (Err e) spans a b true wrote is = absurd (cc)
-answered_lines name found (Err e) spans a b false wrote is = refused (error_text e) wrote
+answered_lines name found (Err e) spans a b false wrote is = refused (error_text e) (plain_error e) wrote
   where
-    refused : (text : Option (List ℕ)) →
+    refused : (text : Option (List ℕ)) → IfSome text IsOneLine →
         IsSomeAnd (option_map (λ text. text ++ span_lines spans) (option_map (refused_line name) text)) (Appends a b) →
         AppendsLines name a b false
-    refused None wrote = absurd wrote
-    refused (Some text) wrote =
+    refused None _ wrote = absurd wrote
+    refused (Some text) plain wrote =
         let (mid, first, second) = appended_apart a b (refused_line name text) (span_lines spans) wrote in
-        (mid, spans, (text, first), second)
+        (mid, spans, (text, plain, first), second)
 
 traced_lines : (d name : List ℕ) (a b : Option (List ℕ)) (sized : Bool) → ReportsSpans d name a b sized
     → AppendsLines name a b sized
@@ -232,9 +234,9 @@ pub spans_refused : (known : Option Files) (name : List ℕ) (e : ImageError) (a
     LoadsNone known name e → OnOk r (IfSome (error_text e) (λ text. Appends a b (refused_line name text))) →
     IfOk r (AppendsLine name a b) → IfOk r (λ sized. sized ≡ false) → IfOk r (WritesSpans known name a b)
 spans_refused known name e a b (Err _) _ _ _ _ = tt
-spans_refused None name e a b (Ok sized) _ _ line _ = record { lines = one_line name a b sized line; told = tt }
+spans_refused None name e a b (Ok sized) _ _ line _ = record { lines = line_alone name a b sized line; told = tt }
 spans_refused (Some files) name e a b (Ok sized) none wrote line is = record {
-  lines = one_line name a b sized line;
+  lines = line_alone name a b sized line;
   told = refused_spans (files name) name e a b sized none wrote line is;
 }
 
@@ -254,3 +256,20 @@ plain_run files arguments old new (Err e) _ = tt
 plain_run files arguments old new (Ok status) ran = λ plain.
     let lines = plain_lines files (wants_spans arguments) (names_in arguments) old new ran.refused plain ran.lines in
     (lines.0, ran.ends ∙ ap (exit_status (length (names_in arguments))) lines.1)
+
+-- why a name was not opened is what is known of its file
+unopened : {R : Type 0} (telling : R → Option Telling) (found : Result (List ℕ) ImageError) (e : ImageError)
+    → OpensAs telling found (Err e) → found ≡ Err e
+unopened telling (Ok bytes) e opens = absurd opens
+unopened telling (Err why) e opens = cc
+
+-- the line of why a name was not opened
+pub line_refused : {R : Type 0} (telling : R → Option Telling) (known : Option Files) (name : List ℕ) (e : ImageError)
+    (a b : Option (List ℕ)) (r : Result Bool Error) →
+    OpensTo telling known name (Err e) → OnOk r (IfSome (option_map (refused_line name) (error_text e)) (Appends a b)) →
+    IfOk r (AppendsLine name a b) → IfOk r (λ sized. sized ≡ false) → IfOk r (WritesLine known name a b)
+line_refused telling known name e a b (Err _) _ _ _ _ = tt
+line_refused telling None name e a b (Ok sized) _ _ line _ = record { line = line; told = tt }
+line_refused telling (Some files) name e a b (Ok sized) opens wrote line none =
+    let is : files name ≡ Err e = unopened telling (files name) e opens in
+    record { line = line; told = rw is (wrote, none) }

@@ -1,5 +1,6 @@
 -- The line that is printed for an image.
-use Rattle.std.specs.Prelude.{◌≡◌, ℕ, ◌<◌, Bool, true, false, List, [], ◌∷◌, ◌++◌, length, ◌⊎◌, Option, None, Some, Result, Ok, Err, IsOk, IsErr, IsSomeAnd, codes, decimal, is_ok, option_map}
+use Rattle.std.specs.Prelude.{◌≡◌, ℕ, ◌<◌, Bool, true, false, ◌==◌, if◌then◌else◌, List, [], ◌∷◌, ◌++◌, length, map, ◌⊎◌, Option, None, Some, Result, Ok, Err, IsOk, IsErr, IsSomeAnd, codes, decimal, is_ok, option_map}
+use Rattle.std.specs.List.{list_any}
 use Rattle.std.specs.Result.{result_ok}
 use Rattle.std.specs.Io.KnownBytes.{Appends}
 use Rattle.imagesize.specs.Meaning.{kind_of, meaning}
@@ -20,6 +21,18 @@ size_text size = decimal size.width ++ (codes "x" ++ decimal size.height)
 abbrev pub sized_line : List ℕ → ImageType → ImageSize → List ℕ
 sized_line name image size = name ++ (codes ": " ++ (type_text image ++ (codes " " ++ (size_text size ++ codes "\n"))))
 
+-- whether a byte is a line feed
+abbrev pub is_line_feed : ℕ → Bool
+is_line_feed byte = byte == 10
+
+-- a text with a space for each line feed
+abbrev pub one_line : List ℕ → List ℕ
+one_line text = map (λ byte. if is_line_feed byte then 32 else byte) text
+
+-- a text without a line feed
+abbrev pub IsOneLine : List ℕ → Type 0
+IsOneLine text = list_any is_line_feed text ≡ false
+
 -- the line for an image with an error
 abbrev pub refused_line : List ℕ → List ℕ → List ℕ
 refused_line name text = name ++ (codes ": error: " ++ (text ++ codes "\n"))
@@ -31,10 +44,10 @@ answer_line name found (Ok size) = option_map (λ image. sized_line name image s
 answer_line name found (Err e) = option_map (refused_line name) (error_text e)
 
 -- The writer got one line for a name; `old` and `new` are its bytes before and after. The line shows a size if the
--- name has one, else a reason.
+-- name has one, else a reason without a line feed.
 abbrev pub AppendsLine : List ℕ → Option (List ℕ) → Option (List ℕ) → Bool → Type 0
 AppendsLine name old new true = (image : ImageType) × (size : ImageSize) × Appends old new (sized_line name image size)
-AppendsLine name old new false = (text : List ℕ) × Appends old new (refused_line name text)
+AppendsLine name old new false = (text : List ℕ) × IsOneLine text × Appends old new (refused_line name text)
 
 -- the line for a span: its offset and its length
 abbrev pub span_line : Span → List ℕ

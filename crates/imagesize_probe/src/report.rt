@@ -1,18 +1,16 @@
 //! The line for one image.
-ghost use Rattle.std.specs.Prelude.{◌≡◌, ℕ, List, ◌++◌, IfOk, IfSome, IsSome, MatchOption, OnOk, true, false, is_ok};
+ghost use Rattle.std.specs.Prelude.{◌≡◌, ◌++◌, IfOk, IfSome, IsSome, OnOk, true, false, is_ok};
+ghost use Rattle.std.specs.Fmt.InlineText.{inline_text};
 ghost use Rattle.std.specs.Io.KnownBytes.{Appends};
-ghost use Rattle.imagesize_probe.specs.Line.{answer_line, sized_line, refused_line, span_line, span_lines, AppendsLine, Reports, ReportsSpans};
+ghost use Rattle.imagesize_probe.specs.Line.{answer_line, one_line, sized_line, refused_line, span_line, span_lines, AppendsLine, Reports, ReportsSpans};
 ghost use Rattle.imagesize_probe.specs.Status.{exit_status};
-ghost use Rattle.imagesize_source.specs.Reason.{error_text};
-ghost use Rattle.imagesize_source.specs.declared.error.ImageError.TheVariants.{IoError};
-ghost use Rattle.imagesize_source.specs.declared.error.Reason.TheVariants.{Fault};
 
 use imagesize::{
     ImageError, ImageResult, ImageSize, ImageType, Reason, Span, Told, Trace, TypeName, blob_trace,
     reader_probe,
 };
 use std::alloc::Allocator;
-use std::fmt::InlineText;
+use std::fmt::{self, Display, Formatter, InlineText};
 use std::io::{self, Write};
 
 /// Writes the line for a reader's bytes, `NAME: KIND WxH` or `NAME: error: TEXT`, and returns whether they have a size.
@@ -118,38 +116,57 @@ fn write_size<W: Write>(
     Ok(true)
 }
 
-/// Writes the line for an error, and returns false.
-pub fn write_refusal<W: Write>(name: &str, error: &ImageError, writer: &mut W) -> io::Result<bool>
-    ensures text { OnOk result (IfSome (error_text error.now)
-        (λ text. Appends (W.contents writer.old) (W.contents writer.new) (refused_line name.now text))) }
+/// Writes the line for an error of any type, with a space for each line feed in its text, and returns false.
+///
+/// Errors: those of the writer, which may already have a part of the line, and a text of more than 512 bytes. An `io::Error`
+/// has at most 256 bytes, and the system's error number after them.
+pub fn write_refusal<E: Display + Drop, W: Write>(
+    name: &str,
+    error: E,
+    writer: &mut W,
+) -> io::Result<bool>
+    ensures text { OnOk result (IfSome (E.output error)
+        (λ text. Appends (W.contents writer.old) (W.contents writer.new) (refused_line name.now (one_line text)))) }
     ensures line { IfOk result (AppendsLine name.now (W.contents writer.old) (W.contents writer.new)) }
     ensures sized { IfOk result (λ sized. sized ≡ false) }
 {
-    match fault_of(error) {
-        Some(fault) => write_fault(name, fault, writer)?,
-        None => writeln!(writer, "{name}: error: {error}")?,
-    }
+    let kept = text_of(error)?;
+    let text = OneLine(kept.as_str());
+    writeln!(writer, "{name}: error: {text}")?;
     Ok(false)
 }
 
-// The `io::Error` of a `Fault`. The text of every other error is specified.
-fn fault_of(error: &ImageError) -> Option<&io::Error>
-    ensures { MatchOption result (IsSome (error_text error.now)) (λ fault. error.now ≡ IoError (Fault fault.now)) }
+// The text of an error. The library does not specify the text of an `io::Error`, so the text is stored before it is written. An
+// `ImageError` has fewer than 512 bytes of text.
+//
+// Errors: the text has more than 512 bytes.
+fn text_of<E: Display + Drop>(error: E) -> Result<InlineText<512>, fmt::Error>
+    ensures { IfOk result (λ kept. IfSome (E.output error) (λ text. inline_text kept ≡ text)) }
 {
-    match error {
-        ImageError::IoError(Reason::Fault(fault)) => Some(fault),
-        _ => None,
-    }
+    let mut kept = InlineText::new();
+    fmt::Write::write(&mut kept, error)?;
+    Ok(kept)
 }
 
-// Writes the line for a fault. The library does not specify the text of an `io::Error`, so the text is stored first, and the
-// contract names what was stored. A message has at most 256 bytes, and the system's error number comes after it.
-fn write_fault<W: Write>(name: &str, fault: &io::Error, writer: &mut W) -> io::Result<()>
-    ensures { OnOk result ((text : List ℕ) × Appends (W.contents writer.old) (W.contents writer.new) (refused_line name.now text)) }
-{
-    let kept = InlineText::<512>::of(fault);
-    let text = kept.as_str();
-    writeln!(writer, "{name}: error: {text}")
+// Prints a text with a space for each line feed.
+#[derive(Clone, Copy)]
+struct OneLine<'a>(&'a str);
+
+impl Display for OneLine<'_> {
+    ghost use Rattle.std.specs.Prelude.{Some};
+    ghost use Rattle.imagesize_probe.specs.Line.{one_line};
+
+    ghost output = { λ line. Some (one_line line.0.now) };
+
+    fn fmt<W: fmt::Write>(&self, f: &mut Formatter<W>) -> fmt::Result {
+        let mut rest = self.0;
+        while let Some((line, after)) = rest.split_once('\n') {
+            f.write_str(line)?;
+            f.write_str(" ")?;
+            rest = after;
+        }
+        f.write_str(rest)
+    }
 }
 
 /// The program's exit status after `files` files: 0 if each has a size, 1 if one has none, and 2 without files.

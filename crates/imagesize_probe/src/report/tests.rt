@@ -3,10 +3,11 @@ ghost use Rattle.std.specs.Result.{result_ok};
 ghost use Rattle.imagesize.specs.Meaning.{kind_of, meaning};
 ghost use Rattle.imagesize_probe.specs.Line.{answer_line, ReportsSpans};
 
-use super::{report, report_spans};
-use imagesize::{Stop, Told};
+use super::{report, report_spans, write_refusal};
+use imagesize::{ImageError, Stop, Told};
 use std::alloc::Global;
 use std::io::{self, Cursor, ErrorKind, SeekFrom, Write};
+use std::str;
 use std::test::Fail;
 
 // Reports on the bytes of a slice, from its first byte on.
@@ -143,6 +144,36 @@ fn line_of_a_fault_has_its_text(rt: HostRuntime) -> Result<(), Fail> {
     let error = fault();
     let line = format!(in alloc; "pipe: error: {error}\n")?;
     assert_eq!(rt; written.as_slice(), line.as_bytes());
+    Ok(())
+}
+
+#[test]
+fn line_of_a_fault_is_one_line(rt: HostRuntime) -> Result<(), Fail> {
+    for (message, line) in [
+        ("no disk\nin the drive", "a: error: no disk in the drive\n"),
+        ("\nno disk\n\n", "a: error:  no disk  \n"),
+        ("\n", "a: error:  \n"),
+        ("", "a: error: \n"),
+    ] {
+        let error = ImageError::from(io::Error::new(ErrorKind::Other, message));
+        let mut written = Vec::new(rt.alloc());
+        assert_eq!(rt; write_refusal("a", &error, &mut written)?, false);
+        assert_eq!(rt; written.as_slice(), line.as_bytes());
+    }
+    Ok(())
+}
+
+#[test]
+fn text_of_an_error_has_at_most_512_bytes(rt: HostRuntime) -> Result<(), Fail> {
+    let bytes = [b'x'; 513];
+    let mut written = Vec::new(rt.alloc());
+    assert!(rt; write_refusal("a", str::from_utf8(&bytes)?, &mut written).is_err());
+    assert!(rt; written.is_empty());
+    assert_eq!(rt;
+        write_refusal("a", str::from_utf8(&bytes[1..])?, &mut written)?,
+        false
+    );
+    assert_eq!(rt; written.len(), 523);
     Ok(())
 }
 

@@ -1,3 +1,4 @@
+use Rattle.imagesize_probe.proofs.Feeds.{error_line}
 use Rattle.imagesize_probe.proofs.Writing.{spans_refused, spans_written}
 use Rattle.imagesize_probe.proofs.run.write_with_spans.Goals as goal
 
@@ -9,4 +10,6 @@ returns-in-Ok-clause-line g c =
 pub returns-in-Err-clause-line : goal.returns-in-Err-clause-line
 returns-in-Err-clause-line g c =
     spans_refused (g.O.Open.known c.args.opener.now) c.args.name.now c.in-Err.error _ _ c.write_refusal.result
-    c.in-Err.ensures.refuses c.write_refusal.ensures.text c.write_refusal.ensures.line c.write_refusal.ensures.sized
+    c.in-Err.ensures.refuses
+    (error_line c.in-Err.error c.args.name.now _ _ c.write_refusal.result c.write_refusal.ensures.text)
+    c.write_refusal.ensures.line c.write_refusal.ensures.sized
