@@ -20,7 +20,17 @@
 /* The status of a call that returns none is lost, so its state is filled with this byte. A call over such a state is trapped too. */
 #define SPOILED 0xEE
 
+/* The address of such a state, and of one that the call does not write. */
+#define STATE ITEMS
+#define READ_STATE ITEMS
+
 typedef Z_imagesize_instance_t instance;
+
+/* From how many offsets of a buffer on there are 16 bytes. */
+static u64 inner_of(u64 size)
+{
+    return size > 15 ? size - 15 : 0;
+}
 
 /* Begins a call over some bytes. */
 static void begin(instance *in, const uint8_t *bytes, size_t length)
@@ -29,9 +39,11 @@ static void begin(instance *in, const uint8_t *bytes, size_t length)
     SET_VARIABLES(in)
     in->w2c_memory.bytes = bytes;
     in->w2c_memory.length = length;
+    in->w2c_memory.inner = inner_of(length);
     in->w2c_memory.items = NULL;
-    in->w2c_memory.written_items = NULL;
     in->w2c_memory.size = 0;
+    in->w2c_memory.written_items = NULL;
+    in->w2c_memory.written_size = in->w2c_memory.written_inner = 0;
     in->w2c_memory.flip = 0;
     i32_store(&in->w2c_memory, TYPE, 0);
 }
@@ -48,16 +60,23 @@ static void with_spans(instance *in, const imagesize_span *spans, size_t count)
 static void with_buffer(instance *in, void *buffer, u64 size, unsigned flip)
 {
     in->w2c_memory.items = in->w2c_memory.written_items = buffer;
-    in->w2c_memory.size = size;
+    in->w2c_memory.size = in->w2c_memory.written_size = size;
+    in->w2c_memory.written_inner = inner_of(size);
     in->w2c_memory.flip = flip & flip_of_host();
 }
 
-/* The state of a push parser or of a probe over spans, whose bytes have the same order on each machine. A spoiled one is a trap. */
-static void with_state(instance *in, const void *state)
+/*
+ * The state of a push parser or of a probe over spans, whose bytes have the same order on each machine, and the same if the call writes it.
+ * A spoiled one is a trap.
+ */
+static void with_state(instance *in, const void *state, void *written)
 {
     const u8 *of = state;
     in->w2c_memory.items = of;
     in->w2c_memory.size = IMAGESIZE_STREAM_SIZE;
+    in->w2c_memory.written_items = written;
+    in->w2c_memory.written_size = written != NULL ? IMAGESIZE_STREAM_SIZE : 0;
+    in->w2c_memory.written_inner = inner_of(in->w2c_memory.written_size);
     for (size_t at = 0; of[at] == SPOILED; at++) {
         if (at == IMAGESIZE_STREAM_SIZE - 1) {
             trapped(&in->w2c_memory);
@@ -203,7 +222,7 @@ void imagesize_stream_new(imagesize_stream *stream, uint64_t total)
         return;
     }
     with_buffer(&in, stream, sizeof *stream, 0);
-    MODULE(imagesize_stream_new)(&in, ITEMS, total);
+    MODULE(imagesize_stream_new)(&in, STATE, total);
 }
 
 uint32_t imagesize_stream_push(imagesize_stream *stream, const uint8_t *bytes, size_t length, uint32_t *type, uint32_t *compression,
@@ -216,9 +235,8 @@ uint32_t imagesize_stream_push(imagesize_stream *stream, const uint8_t *bytes, s
         memset(stream, SPOILED, sizeof *stream);
         return IMAGESIZE_TRAPPED;
     }
-    with_state(&in, stream);
-    in.w2c_memory.written_items = (u8 *)stream;
-    status = MODULE(imagesize_stream_push)(&in, ITEMS, BYTES, length, TYPE, COMPRESSION, WIDTH, HEIGHT);
+    with_state(&in, stream, stream);
+    status = MODULE(imagesize_stream_push)(&in, STATE, BYTES, length, TYPE, COMPRESSION, WIDTH, HEIGHT);
     tell_type(&in, type, compression);
     tell_size(&in, status, width, height);
     return status;
@@ -233,9 +251,8 @@ uint32_t imagesize_stream_finish(imagesize_stream *stream, uint32_t *type, uint3
         memset(stream, SPOILED, sizeof *stream);
         return IMAGESIZE_TRAPPED;
     }
-    with_state(&in, stream);
-    in.w2c_memory.written_items = (u8 *)stream;
-    status = MODULE(imagesize_stream_finish)(&in, ITEMS, TYPE, COMPRESSION, WIDTH, HEIGHT);
+    with_state(&in, stream, stream);
+    status = MODULE(imagesize_stream_finish)(&in, STATE, TYPE, COMPRESSION, WIDTH, HEIGHT);
     tell_type(&in, type, compression);
     tell_size(&in, status, width, height);
     return status;
@@ -250,7 +267,7 @@ void imagesize_parts_new(imagesize_parts *parts, uint64_t total)
         return;
     }
     with_buffer(&in, parts, sizeof *parts, 0);
-    MODULE(imagesize_parts_new)(&in, ITEMS, total);
+    MODULE(imagesize_parts_new)(&in, STATE, total);
 }
 
 void imagesize_parts_supply(imagesize_parts *parts, uint64_t offset, const uint8_t *bytes, size_t length)
@@ -261,9 +278,8 @@ void imagesize_parts_supply(imagesize_parts *parts, uint64_t offset, const uint8
         memset(parts, SPOILED, sizeof *parts);
         return;
     }
-    with_state(&in, parts);
-    in.w2c_memory.written_items = (u8 *)parts;
-    MODULE(imagesize_parts_supply)(&in, ITEMS, offset, BYTES, length);
+    with_state(&in, parts, parts);
+    MODULE(imagesize_parts_supply)(&in, STATE, offset, BYTES, length);
 }
 
 uint32_t imagesize_parts_answer(const imagesize_parts *parts, uint32_t *type, uint32_t *compression, uint64_t *width, uint64_t *height,
@@ -275,8 +291,8 @@ uint32_t imagesize_parts_answer(const imagesize_parts *parts, uint32_t *type, ui
     if (MARK(in.w2c_memory)) {
         return IMAGESIZE_TRAPPED;
     }
-    with_state(&in, parts);
-    status = MODULE(imagesize_parts_answer)(&in, ITEMS, TYPE, COMPRESSION, WIDTH, HEIGHT, WANTED);
+    with_state(&in, parts, NULL);
+    status = MODULE(imagesize_parts_answer)(&in, READ_STATE, TYPE, COMPRESSION, WIDTH, HEIGHT, WANTED);
     tell_type(&in, type, compression);
     tell_size(&in, status, width, height);
     tell_wanted(&in, status, wanted);

@@ -1,10 +1,13 @@
 """Writes the portable library, from what wasm2c made of the module.
 
-    python3 portable.py MODULE.c OUT.c
+    python3 portable.py MODULE.c OUT.c [--checked]
 
 MODULE.c is the output of wasm2c 1.0.32, and MODULE.h beside it. From it come the functions and the constants; runtime.h and calls.c of
 this folder come before and after them. The addresses of reads and writes are taken whole: wasm2c reads no module with 64-bit addresses,
 so `wasm-opt --memory64-lowering` cut each of them to 32 bits before, and here each cut is undone.
+
+Most accesses lie in a part of the memory whatever happens, which regions.py finds out, and are not checked when they run. With --checked they
+are, which is for tests.
 
 A line of another form than these ends the program. So does a function that calls itself, also by way of others, and a call by a table.
 Then the module's stack has a greatest depth, which is added up over all calls, and which OUT.c has room for.
@@ -13,6 +16,8 @@ Then the module's stack has a greatest depth, which is added up over all calls, 
 import pathlib
 import re
 import sys
+
+from regions import Region, functions_of
 
 HERE = pathlib.Path(__file__).resolve().parent
 HEADER = HERE.parent.parent / "include" / "imagesize.h"
@@ -24,16 +29,8 @@ COPY = re.compile(rf"( +)memory_copy\({MEMORY}, {MEMORY}, w2c_i(\d+), w2c_i(\d+)
 FILL = re.compile(rf"( +)memory_fill\({MEMORY}, w2c_i(\d+), (w2c_i\d+), w2c_i(\d+)\);")
 CUT = re.compile(r" +w2c_i(\d+) = \(u32\)\(w2c_j\1\);")
 SET = re.compile(r" +w2c_([ij])(\d+) ([-+*&|^]|<<|>>|)= (.*?);?$")
-KEPT = re.compile(r" +(w2c_[lp]\d+) = ")
+KEPT = re.compile(r" +w2c_([lp]\d+) = (?:w2c_(\w+);)?.*")
 JUMP = re.compile(r" +if \(w2c_i\d+\) \{goto \w+;\}")
-FRAME = re.compile(r""" +w2c_j0 = instance->w2c_g0;
- +w2c_j1 = (\d+)ull;
- +w2c_j0 -= w2c_j1;
- +(w2c_l\d+) = w2c_j0;
- +instance->w2c_g0 = w2c_j0;
- +w2c_j0 = \2;
- +(w2c_l\d+) = w2c_j0;
-""")
 CALL = re.compile(r"\b(w2c_\w+)\(instance\b")
 SPACE = re.compile(r""" +w2c_j0 = instance->w2c_g0;
 (?: +w2c_l\d+ = w2c_j0;
@@ -56,6 +53,10 @@ MODULE = """
 #pragma GCC diagnostic ignored "-Wsign-conversion"
 #endif
 
+"""
+CHECKED = """
+/* For tests: bytes that need no check are found once more, with all checks. */
+#define SAME(host, checked) ((host) != (checked) ? trapped(&instance->w2c_memory) : (void)0, (host))
 """
 CALLS = """#if defined __GNUC__ || defined __clang__
 #pragma GCC diagnostic pop
@@ -82,31 +83,16 @@ def parts_of(text):
     return functions, exports
 
 
-def frame_of(body):
-    """
-    The local variable that gets the lowest address of a function's frame on the stack, the frame's size, and the offsets in the body
-    between which the variable has that value; or None.
-    """
-    found = FRAME.search(body)
-    # What comes before may not skip the frame, and the frame may not be in a block.
-    if not found or re.search(r"goto|[{}]|^ *\w+:", body[:found.start()], re.M):
-        return None, 0, 0, 0
-    size, base = int(found[1]), found[3]
-    # No jump but those to the label of a loop leads back.
-    loops = {label: start for start, label in ((each.start(), each[1]) for each in re.finditer(r"^ *(w2c_L\w+):", body, re.M))}
-    jumps = [(each.start(), loops[each[1]]) for each in re.finditer(r"goto (w2c_L\w+);", body)]
-    sets = [each.start() for each in re.finditer(rf"\b{base} (?:[-+*&|^]|<<|>>)?= ", body) if each.start() > found.end()]
-    end = min(sets, default=len(body))
-    while any(at >= end > label for at, label in jumps):
-        end = min(label for at, label in jumps if at >= end)
-    return base, size, found.end(), end
+# The most bytes of a copy, and of one memset, that compilers write as moves.
+MOVES, FILLED = 256, 64
 
 
 class Slots:
-    """What is known of the values on the module's operand stack while the lines of a function are read."""
+    """What is known of the values on the module's operand stack and of its variables while the lines of a function are read."""
 
     def __init__(self):
-        self.cut, self.numbers, self.sums, self.versions, self.straight = set(), {}, {}, {}, 0
+        # A sum is the name of a value, which is a number of its own, and an offset from it.
+        self.cut, self.numbers, self.sums, self.names, self.straight = set(), {}, {}, 0, 0
 
     def read(self, line):
         """Takes note of what a line does."""
@@ -115,26 +101,36 @@ class Slots:
             self.cut.add(match[1])
         elif match := SET.match(line):
             self.set(*match.groups())
-        elif match := KEPT.match(line):
-            self.versions[match[1]] = self.versions.get(match[1], 0) + 1
+        elif match := KEPT.fullmatch(line):
+            self.sums.pop(match[1], None)
+            if match[2]:
+                self.sums[match[1]] = self.sum_of(match[2])
         elif JUMP.fullmatch(line):
             self.straight += 1
         elif re.search(r"[{}:]|goto", line):
             self.straight += 1
             self.numbers, self.sums = {}, {}
 
+    def sum_of(self, name):
+        """The sum that a slot or a variable holds."""
+        if name not in self.sums:
+            self.names += 1
+            self.sums[name] = (self.names, 0)
+        return self.sums[name]
+
     def set(self, kind, slot, operator, value):
         """A slot gets a value: a number, a variable, or what it had and a number."""
         self.cut.discard(slot)
         if kind == "j":
-            before = self.sums.pop(slot, None)
+            name = f"j{slot}"
+            before = self.sums.pop(name, None)
             self.numbers.pop(slot, None)
             if operator == "" and value.endswith("ull"):
                 self.numbers[slot] = int(value[:-3])
             elif operator == "" and re.fullmatch(r"w2c_[lp]\d+", value):
-                self.sums[slot] = (value, self.versions.get(value, 0), 0)
+                self.sums[name] = self.sum_of(value[4:])
             elif operator == "+" and before and value[5:] in self.numbers and self.numbers[value[5:]] < 1 << 31:
-                self.sums[slot] = (*before[:2], before[2] + self.numbers[value[5:]])
+                self.sums[name] = (before[0], before[1] + self.numbers[value[5:]])
 
 
 class Access:
@@ -143,16 +139,21 @@ class Access:
     def __init__(self, name, slot, offset):
         self.name, self.slot, self.offset = name, slot, int(re.sub(r"\D", "", offset or "0"))
         self.width = int((re.search(r"(?:load|store)(\d+)", name) or re.search(r"(\d+)", name))[1]) // 8
-        self.group = self.start = None
+        self.region = self.group = self.start = None
 
 
-def accesses_of(body, base, size, start, end):
+def lies(region, start, width, written):
+    """Whether some bytes after an address lie in its region, whatever happens."""
+    return isinstance(region, Region) and region.low <= start and start + width <= region.high and not (written and "read" in region.parts)
+
+
+def accesses_of(function):
     """
-    The accesses of a body by their lines. One in the function's own frame has the group `frame`. Others in straight code, from one variable
-    and of one kind, are a group if there are two or more: all of them happen, or none.
+    The accesses of a function by their lines. One that lies in a region has it. Others in straight code, from one variable and of one kind,
+    are a group if there are two or more: all of them happen, or none.
     """
-    slots, found, groups, at = Slots(), {}, {}, 0
-    for number, line in enumerate(body.split("\n")):
+    slots, found, groups = Slots(), {}, {}
+    for number, line in enumerate(function.lines):
         if match := LOAD.fullmatch(line):
             access = Access(match[2], match[3], match[4])
         elif match := STORE.fullmatch(line):
@@ -163,26 +164,62 @@ def accesses_of(body, base, size, start, end):
             found[number] = access
             if access.slot not in slots.cut:
                 stop(f"an address that is not cut: {line}")
-            if access.slot in slots.sums:
-                variable, version, offset = slots.sums[access.slot]
+            written = "store" in access.name
+            region = function.before.get(number, {}).get(f"j{access.slot}")
+            if lies(region, access.offset, access.width, written):
+                access.region = region
+            else:
+                name, offset = slots.sum_of(f"j{access.slot}")
                 access.start = offset + access.offset
-                if variable == base and start <= at < end:
-                    access.group = "frame" if access.start + access.width <= size else None
-                else:
-                    key = (slots.straight, variable, version, "store" in access.name)
-                    groups.setdefault(key, []).append(access)
+                groups.setdefault((slots.straight, name, written), []).append(access)
         slots.read(line)
-        at += len(line) + 1
     for number, group in enumerate(group for group in groups.values() if len(group) > 1):
         for access in group:
             access.group = (number, group)
     return found
 
 
-def with_whole_addresses(name, body):
-    """A function's body, in which no address is cut, and how many of its accesses are checked, lie in its frame, or are in a group."""
-    base, size, start, end = frame_of(body)
-    found, slots, lines, pointers = accesses_of(body, base, size, start, end), Slots(), [], []
+class Known:
+    """The host's addresses of bytes that lie in a region. The pointers that they need at the function's start are kept."""
+
+    def __init__(self, checked):
+        self.checked, self.pointers = checked, {}
+
+    def address(self, region, address, offset, width, written):
+        """The host's address of some bytes. Where all is checked, they are found once more, and both addresses compared."""
+        def within(address):
+            part = "STACK" if region.parts == {"stack"} else "EITHER" if "stack" in region.parts else "STATE"
+            return f"IN_{part}{'_WRITTEN' if part != 'STACK' and 'read' not in region.parts else ''}({address})"
+
+        if region.root and region.parts != {"stack"}:
+            self.pointers[region.root] = f"{'const ' if 'read' in region.parts else ''}u8 *near_{region.root} = {within(f'w2c_{region.root}')};"
+            found = f"near_{region.root} + {region.offset + offset}"
+        else:
+            found = within(f"{address} + {offset}u")
+        return f"SAME({found}, {'written_at' if written else 'at'}({MEMORY}, {address} + {offset}u, {width}))" if self.checked else found
+
+    def copy(self, to, start, size):
+        """A copy between regions, or None where it is to be checked. Both addresses come with what is known of them."""
+        if not (isinstance(size, int) and size > 0 and lies(to[0], 0, size, True) and lies(start[0], 0, size, False)):
+            return None
+        target, source = self.address(*to, 0, size, True), self.address(*start, 0, size, False)
+        if not to[0].parts & start[0].parts:
+            return f"memcpy({target}, {source}, {size});"
+        return f"COPY({target}, {source}, {size});" if size <= MOVES else f"memmove({target}, {source}, {size});"
+
+    def fill(self, to, value, size):
+        """The same for bytes that get a value."""
+        if not (isinstance(size, int) and lies(to[0], 0, size, True)):
+            return None
+        target = self.address(*to, 0, size, True)
+        if size > MOVES:
+            return f"fill({target}, {value}, {size});"
+        return " ".join(f"memset({target} + {at}, (u8){value}, {min(FILLED, size - at)});" for at in range(0, size, FILLED))
+
+
+def with_whole_addresses(name, function, checked=False):
+    """A function's body, in which no address is cut, and how many of its accesses are checked, lie in a region, or are in a group."""
+    found, known, slots, lines, pointers = accesses_of(function), Known(checked), Slots(), [], []
 
     def whole(slot):
         if slot not in slots.cut:
@@ -192,10 +229,10 @@ def with_whole_addresses(name, body):
     def place(access):
         """The name of an access, and its address."""
         address = f"w2c_j{access.slot} + {access.offset}u"
+        if access.region:
+            return f"known_{access.name}", known.address(access.region, f"w2c_j{access.slot}", access.offset, access.width, "store" in access.name)
         if access.group is None:
             return access.name, f"{MEMORY}, {address}"
-        if access.group == "frame":
-            return f"framed_{access.name}", f"{MEMORY}, {address}"
         number, group = access.group
         first = min(each.start for each in group)
         if access is group[0]:
@@ -205,7 +242,7 @@ def with_whole_addresses(name, body):
             lines.append(f"  near{number} = {kind}_AT({MEMORY}, w2c_j{access.slot} + {access.offset}u - {access.start - first}u, {length});")
         return f"near_{access.name}", f"{MEMORY}, near{number} + {access.start - first}"
 
-    for number, line in enumerate(body.split("\n")):
+    for number, line in enumerate(function.lines):
         if number in found:
             called, where = place(found[number])
             if match := LOAD.fullmatch(line):
@@ -215,22 +252,40 @@ def with_whole_addresses(name, body):
                 new = f"  {called}({where}, {match[4]});"
         elif match := COPY.fullmatch(line):
             indent, *places = match.groups()
-            new = f"{indent}memory_copy({MEMORY}, {MEMORY}, {', '.join(map(whole, places))});"
+            to, start, size = ((function.before.get(number, {}).get(f"j{each}"), whole(each)) for each in places)
+            new = indent + (known.copy(to, start, size[0]) or f"memory_copy({MEMORY}, {MEMORY}, {to[1]}, {start[1]}, {size[1]});")
         elif match := FILL.fullmatch(line):
             indent, to, value, count = match.groups()
-            new = f"{indent}memory_fill({MEMORY}, {whole(to)}, {value}, {whole(count)});"
+            to, size = ((function.before.get(number, {}).get(f"j{each}"), whole(each)) for each in (to, count))
+            new = indent + (known.fill(to, value, size[0]) or f"memory_fill({MEMORY}, {to[1]}, {value}, {size[1]});")
         elif "w2c_memory" in line or "CALL_INDIRECT" in line or "w2c_T" in line:
             stop(f"{name}: a line of no known form: {line}")
         else:
             new = line
         slots.read(line)
         lines.append(new)
-    text = "\n".join(lines)
-    if base:
-        text = FRAME.sub(lambda match: f"{match[0]}  CHECK_FRAME({base}, {size});\n", text, count=1)
-    kinds = [each.group if each.group in (None, "frame") else "near" for each in found.values()]
-    counts = [kinds.count(None) + len(pointers), kinds.count("frame"), kinds.count("near")]
-    return "".join(f"  {each}\n" for each in pointers) + text, counts
+        if number in function.frames:
+            lines.append(f"  CHECK_FRAME({line.split()[0]}, {function.frames[number]});")
+    kinds = ["region" if each.region else "near" if each.group else None for each in found.values()]
+    counts = [kinds.count(None) + len(pointers), kinds.count("region"), kinds.count("near")]
+    return "".join(f"  {each}\n" for each in [*pointers, *known.pointers.values()]) + "\n".join(lines), counts
+
+
+def parameters_of(exports):
+    """What is known of the parameters of the module's calls, from calls.c."""
+    text, found = (HERE / "calls.c").read_text(), {}
+    results = {name: int(offset or 0) for name, offset in re.findall(r"^#define (\w+) \(?FRAME(?: \+ (\d+)\))?$", text, re.M)}
+    (frame,) = re.findall(r"^#define FRAME \(TOP - (\d+)\)$", text, re.M)
+    (size,) = re.findall(r"^#define IMAGESIZE_STREAM_SIZE (\d+)$", HEADER.read_text(), re.M)
+    for match in re.finditer(r"MODULE\((\w+)\)\(&in, ([^;]*)\);", text):
+        known = [Region(frozenset({"stack"}), -results[each], int(frame) - results[each]) if each in results
+                 else Region(frozenset({"state"}), 0, int(size)) if each == "STATE"
+                 else Region(frozenset({"read"}), 0, int(size)) if each == "READ_STATE" else None for each in match[2].split(", ")]
+        # A macro defines several calls.
+        macros = re.findall(r"^#define (DEFINE_\w+)\(name\)", text[:match.start()], re.M)
+        for name in re.findall(rf"^{macros[-1]}\((\w+)\)$", text, re.M) if match[1] == "name" else [match[1]]:
+            found[exports[name]] = known
+    return found
 
 
 def depths(functions):
@@ -281,7 +336,8 @@ def globals_of(text, header):
     return {name: (kind, int(first[name])) for kind, name in re.findall(r"^  (u32|u64) (\w+);$", members, re.M)}
 
 
-def main(source, out):
+def main(source, out, *options):
+    checked = "--checked" in options
     text, header = pathlib.Path(source).read_text(), pathlib.Path(source).with_suffix(".h").read_text()
     functions, exports = parts_of(text)
     wanted = re.findall(r"^(?:uint32_t|void) (imagesize_\w+)\(", HEADER.read_text(), re.M)
@@ -293,6 +349,8 @@ def main(source, out):
     first, constants = constants_of(text)
     variables = globals_of(text, header)
     top = variables.pop("w2c_g0")[1]
+    if max(top, first + len(constants)) > 1 << 30:
+        stop("the module's memory reaches the addresses of the caller's buffers")
     frame = 64  # as calls.c has it
     room = (deepest * 3 // 2 + frame + 15) // 16 * 16
     used, todo = set(), [exports[name] for name in wanted]
@@ -304,8 +362,9 @@ def main(source, out):
     kept = {name: function for name, function in functions.items() if name in used}
     bodies = "".join(body for _, body in kept.values())
     variables = {name: each for name, each in variables.items() if f"->{name}" in bodies}
-    changed = {name: (head, *with_whole_addresses(name, body)) for name, (head, body) in kept.items()}
-    checks, framed, near = (sum(counts[at] for *_, counts in changed.values()) for at in range(3))
+    read = functions_of({name: body for name, (_, body) in kept.items()}, parameters_of(exports))
+    changed = {name: (head, *with_whole_addresses(name, read[name], checked)) for name, (head, _) in kept.items()}
+    checks, known, near = (sum(counts[at] for *_, counts in changed.values()) for at in range(3))
     rows = [", ".join(map(str, constants[at:at + 32])) for at in range(0, len(constants), 32)]
     licence = (HERE / "LICENSE-wasm2c").read_text()
     pieces = [
@@ -318,7 +377,7 @@ def main(source, out):
         "/* The module's constants. */\n",
         f"#define DATA UINT64_C({first})\n",
         "static const unsigned char constants[] = {\n" + "".join(f"    {row},\n" for row in rows) + "};\n\n",
-        (HERE / "runtime.h").read_text(), MODULE,
+        (HERE / "runtime.h").read_text(), CHECKED if checked else "", MODULE,
         "".join(f"{head};\n" for head, _ in kept.values()), "\n",
         "".join(f"{head}\n{{\n{body}}}\n\n" for head, body, _ in changed.values()),
         CALLS,
@@ -328,8 +387,8 @@ def main(source, out):
         f"\n/*\n{licence}*/\n",
     ]
     pathlib.Path(out).write_text("".join(pieces))
-    print(f"{len(kept)} functions, constants of {len(constants)} bytes, stack of {deepest} bytes, room for {room}; {checks} checks, {framed} accesses "
-          f"of frames, {near} in groups")
+    print(f"{len(kept)} functions, constants of {len(constants)} bytes, stack of {deepest} bytes, room for {room}; {checks} checks, "
+          f"{known} accesses that need none, {near} in groups")
 
 
 if __name__ == "__main__":

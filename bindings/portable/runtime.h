@@ -6,8 +6,9 @@
  *     ITEMS         the caller's buffer of spans or of text, or its push parser or probe
  *     BYTES         the caller's bytes, which nothing writes
  *
- * Nothing is allocated, no input is copied, and nothing is kept between two calls. Each read and each write is checked to lie within
- * one part. One that does not is a trap, and so is all else that WebAssembly calls one: the call returns IMAGESIZE_TRAPPED.
+ * Nothing is allocated, no input is copied, and nothing is kept between two calls. Each read and each write is checked to lie within one
+ * part, unless bindings/portable/regions.py found that it does whatever happens. One that does not is a trap, and so is all else that
+ * WebAssembly calls one: the call returns IMAGESIZE_TRAPPED.
  *
  * The arithmetic below, from I32_CLZ on, is that of wasm2c, from WABT. TRAP, DEFINE_LOAD and DEFINE_STORE are from wasm2c too, and were
  * changed. Copyright 2018 WebAssembly Community Group participants. They are licensed under the Apache License, Version 2.0, which is at
@@ -51,17 +52,20 @@ static INLINED unsigned flip_of_host(void)
     return *(const u8 *)&one != 0 ? 0 : 7;
 }
 
-/* The addresses of the caller's buffers. No buffer of a real machine has 2^61 bytes. */
-#define ITEMS (UINT64_C(1) << 61)
-#define BYTES (UINT64_C(1) << 62)
+/* The addresses of the caller's buffers, above those of the module. No buffer of a real machine has 2^61 bytes. */
+#define BYTES (UINT64_C(1) << 30)
+#define ITEMS (UINT64_C(1) << 62)
 
 /* The module's memory. `flip` turns the index of a byte of a span into that of the host's byte: 7 where numbers have their first byte first. */
 typedef struct wasm_rt_memory_t {
     const u8 *bytes;
     u64 length;
+    u64 inner; /* from how many offsets on there are 16 bytes */
     const u8 *items;
-    u8 *written_items; /* the same buffer, or NULL if nothing may write it */
     u64 size;
+    u8 *written_items; /* the same buffer with its size, or NULL and 0 if nothing may write it */
+    u64 written_size;
+    u64 written_inner;
     unsigned flip;
     jmp_buf trap;
     u8 room[ROOM];
@@ -93,50 +97,74 @@ static NEVER_INLINED NO_RETURN void trapped(wasm_rt_memory_t *mem)
 /* The host's bytes of `n` bytes of the module, one or more, outside of its stack. */
 static NEVER_INLINED const u8 *elsewhere(wasm_rt_memory_t *mem, u64 addr, u64 n)
 {
-    if (addr >= BYTES) {
-        if (LIES(addr, n, BYTES, mem->length)) {
-            return mem->bytes + (addr - BYTES);
-        }
-    } else if (addr >= ITEMS) {
+    if (addr >= ITEMS) {
         if (LIES(addr, n, ITEMS, mem->size)) {
             return mem->items + (addr - ITEMS);
+        }
+    } else if (addr >= BYTES) {
+        if (LIES(addr, n, BYTES, mem->length)) {
+            return mem->bytes + (addr - BYTES);
         }
     } else if (LIES(addr, n, DATA, sizeof constants)) {
         return constants + (addr - DATA);
     }
     trapped(mem);
+    return NULL; /* for compilers that do not know that a trap returns from the call */
 }
 
 /* The same for bytes that are written. */
 static NEVER_INLINED u8 *written_elsewhere(wasm_rt_memory_t *mem, u64 addr, u64 n)
 {
-    if (mem->written_items != NULL && LIES(addr, n, ITEMS, mem->size)) {
+    if (LIES(addr, n, ITEMS, mem->written_size)) {
         return mem->written_items + (addr - ITEMS);
     }
     trapped(mem);
+    return NULL;
 }
 
 #define IN_ROOM(addr, n) LIES(addr, n, TOP - ROOM, ROOM)
 
-/* A function's frame is checked as a whole, and then its own accesses of it are not. */
+/* A function's frame is checked as a whole. Then its accesses of the frame are not, nor are those of the functions that it calls. */
 #define CHECK_FRAME(base, n) \
     do { \
         if (UNLIKELY(!IN_ROOM(base, UINT64_C(n)))) { \
             trapped(&instance->w2c_memory); \
         } \
     } while (0)
-#define IN_FRAME(mem, addr) ((mem)->room + ((addr) - (TOP - ROOM)))
+
+/* The host's bytes of an address that lies in a part whatever happens: in the stack, in a state that is always there, or in one of both. */
+#define IN_STACK(addr) (instance->w2c_memory.room + ((addr) - (TOP - ROOM)))
+#define IN_STATE(addr) (instance->w2c_memory.items + ((addr) - ITEMS))
+#define IN_STATE_WRITTEN(addr) (instance->w2c_memory.written_items + ((addr) - ITEMS))
+#define IN_EITHER(addr) ((addr) >= ITEMS ? IN_STATE(addr) : IN_STACK(addr))
+#define IN_EITHER_WRITTEN(addr) ((addr) >= ITEMS ? IN_STATE_WRITTEN(addr) : IN_STACK(addr))
+
+/*
+ * Whether `n` bytes lie in a buffer. If the compiler knows that there are 2 to 16, one comparison is enough. It does not see the last bytes
+ * of the buffer, which are found elsewhere.
+ */
+#if defined __GNUC__ || defined __clang__
+#define IS_KNOWN(n) __builtin_constant_p(n)
+#else
+#define IS_KNOWN(n) 0
+#endif
+#define IS_INNER(addr, n, base, size, inner) \
+    (IS_KNOWN(n) && (n) == 1    ? (addr) - (base) < (size) \
+     : IS_KNOWN(n) && (n) <= 16 ? (addr) - (base) < (inner) \
+                                : LIES(addr, n, base, size))
 
 static INLINED const u8 *at(wasm_rt_memory_t *mem, u64 addr, u64 n)
 {
-    return IN_ROOM(addr, n)                          ? mem->room + (addr - (TOP - ROOM))
-           : LIES(addr, n, BYTES, mem->length) ? mem->bytes + (addr - BYTES)
-                                               : elsewhere(mem, addr, n);
+    return IS_INNER(addr, n, BYTES, mem->length, mem->inner) ? mem->bytes + (addr - BYTES)
+           : IN_ROOM(addr, n)                                ? mem->room + (addr - (TOP - ROOM))
+                                                             : elsewhere(mem, addr, n);
 }
 
 static INLINED u8 *written_at(wasm_rt_memory_t *mem, u64 addr, u64 n)
 {
-    return IN_ROOM(addr, n) ? mem->room + (addr - (TOP - ROOM)) : written_elsewhere(mem, addr, n);
+    return IN_ROOM(addr, n)                                                    ? mem->room + (addr - (TOP - ROOM))
+           : IS_INNER(addr, n, ITEMS, mem->written_size, mem->written_inner) ? mem->written_items + (addr - ITEMS)
+                                                                               : written_elsewhere(mem, addr, n);
 }
 
 #if IS_LITTLE
@@ -148,48 +176,42 @@ typedef u8 *WRITTEN_NEAR;
 #define WRITTEN_AT(mem, addr, n) written_at(mem, addr, n)
 
 #define DEFINE_LOAD(name, t1, t2, t3) \
-    static INLINED t3 name(wasm_rt_memory_t *mem, u64 addr) \
+    static INLINED t3 known_##name(const u8 *from) \
     { \
         t1 result; \
-        memcpy(&result, at(mem, addr, sizeof result), sizeof result); \
+        memcpy(&result, from, sizeof result); \
         return (t3)(t2)result; \
     } \
-    static INLINED t3 framed_##name(wasm_rt_memory_t *mem, u64 addr) \
+    static INLINED t3 name(wasm_rt_memory_t *mem, u64 addr) \
     { \
-        t1 result; \
-        memcpy(&result, IN_FRAME(mem, addr), sizeof result); \
-        return (t3)(t2)result; \
+        return known_##name(at(mem, addr, sizeof(t1))); \
     } \
     static INLINED t3 near_##name(wasm_rt_memory_t *mem, READ_NEAR from) \
     { \
-        t1 result; \
         (void)mem; \
-        memcpy(&result, from, sizeof result); \
-        return (t3)(t2)result; \
+        return known_##name(from); \
     }
 
 #define DEFINE_STORE(name, t1, t2) \
+    static INLINED void known_##name(u8 *to, t2 value) \
+    { \
+        t1 wrapped = (t1)value; \
+        memcpy(to, &wrapped, sizeof wrapped); \
+    } \
     static INLINED void name(wasm_rt_memory_t *mem, u64 addr, t2 value) \
     { \
-        t1 wrapped = (t1)value; \
-        memcpy(written_at(mem, addr, sizeof wrapped), &wrapped, sizeof wrapped); \
-    } \
-    static INLINED void framed_##name(wasm_rt_memory_t *mem, u64 addr, t2 value) \
-    { \
-        t1 wrapped = (t1)value; \
-        memcpy(IN_FRAME(mem, addr), &wrapped, sizeof wrapped); \
+        known_##name(written_at(mem, addr, sizeof(t1)), value); \
     } \
     static INLINED void near_##name(wasm_rt_memory_t *mem, WRITTEN_NEAR to, t2 value) \
     { \
-        t1 wrapped = (t1)value; \
         (void)mem; \
-        memcpy(to, &wrapped, sizeof wrapped); \
+        known_##name(to, value); \
     }
 
 #else
 
 /* Whether an address is that of a span, whose bytes have another order. */
-#define IS_FLIPPED(mem, addr) ((mem)->flip != 0 && (addr) >= ITEMS && (addr) < BYTES)
+#define IS_FLIPPED(mem, addr) ((mem)->flip != 0 && (addr) >= ITEMS)
 
 /* Each is checked alone. */
 typedef u64 READ_NEAR;
@@ -209,9 +231,26 @@ static inline u64 number_at(wasm_rt_memory_t *mem, u64 addr, unsigned n)
     return result;
 }
 
+/* The same for bytes that are no span's. */
+static inline u64 number_from(const u8 *from, unsigned n)
+{
+    u64 result = 0;
+    for (unsigned i = 0; i < n; i++) {
+        result |= (u64)from[i] << 8 * i;
+    }
+    return result;
+}
+
+static inline void put_number(u8 *to, unsigned n, u64 value)
+{
+    for (unsigned i = 0; i < n; i++) {
+        to[i] = (u8)(value >> 8 * i);
+    }
+}
+
 static inline void put_number_at(wasm_rt_memory_t *mem, u64 addr, unsigned n, u64 value)
 {
-    u8 *to = IS_FLIPPED(mem, addr) ? written_elsewhere(mem, addr, n) - (addr - ITEMS) : written_at(mem, addr, n);
+    u8 *to = IS_FLIPPED(mem, addr) ? written_at(mem, addr, n) - (addr - ITEMS) : written_at(mem, addr, n);
     u64 start = IS_FLIPPED(mem, addr) ? addr - ITEMS : 0;
     unsigned flip = IS_FLIPPED(mem, addr) ? mem->flip : 0;
     for (unsigned i = 0; i < n; i++) {
@@ -224,9 +263,9 @@ static inline void put_number_at(wasm_rt_memory_t *mem, u64 addr, unsigned n, u6
     { \
         return (t3)(t2)(t1)number_at(mem, addr, sizeof(t1)); \
     } \
-    static inline t3 framed_##name(wasm_rt_memory_t *mem, u64 addr) \
+    static inline t3 known_##name(const u8 *from) \
     { \
-        return name(mem, addr); \
+        return (t3)(t2)(t1)number_from(from, sizeof(t1)); \
     } \
     static inline t3 near_##name(wasm_rt_memory_t *mem, u64 addr) \
     { \
@@ -238,9 +277,9 @@ static inline void put_number_at(wasm_rt_memory_t *mem, u64 addr, unsigned n, u6
     { \
         put_number_at(mem, addr, sizeof(t1), (t1)value); \
     } \
-    static inline void framed_##name(wasm_rt_memory_t *mem, u64 addr, t2 value) \
+    static inline void known_##name(u8 *to, t2 value) \
     { \
-        name(mem, addr, value); \
+        put_number(to, sizeof(t1), (t1)value); \
     } \
     static inline void near_##name(wasm_rt_memory_t *mem, u64 addr, t2 value) \
     { \
@@ -269,8 +308,23 @@ DEFINE_STORE(i64_store8, u8, u64)
 DEFINE_STORE(i64_store16, u16, u64)
 DEFINE_STORE(i64_store32, u32, u64)
 
+/* Copies a number of bytes that the compiler knows, by moves. They may overlap. */
+#define COPY(to, from, n) \
+    do { \
+        u8 between[n]; \
+        memcpy(between, from, n); \
+        memcpy(to, between, n); \
+    } while (0)
+
+/* Fills many bytes by a call. Compilers that know the number would write a slower loop. */
+static NEVER_INLINED void fill(u8 *to, u32 value, size_t n)
+{
+    volatile size_t all = n;
+    memset(to, (u8)value, all);
+}
+
 /* An empty range may have any address. */
-static void memory_fill(wasm_rt_memory_t *mem, u64 to, u32 value, u64 n)
+static NEVER_INLINED void memory_fill(wasm_rt_memory_t *mem, u64 to, u32 value, u64 n)
 {
     if (n == 0) {
         return;
@@ -278,7 +332,7 @@ static void memory_fill(wasm_rt_memory_t *mem, u64 to, u32 value, u64 n)
     memset(written_at(mem, to, n), (u8)value, (size_t)n);
 }
 
-static void memory_copy(wasm_rt_memory_t *mem, wasm_rt_memory_t *same, u64 to, u64 from, u64 n)
+static NEVER_INLINED void memory_copy(wasm_rt_memory_t *mem, wasm_rt_memory_t *same, u64 to, u64 from, u64 n)
 {
     const u8 *source;
     u8 *target;
