@@ -14,7 +14,9 @@ use Rattle.imagesize_source.proofs.Runs.{part_is}
 use Rattle.imagesize_io.specs.declared.progress.Progress.{Progress}
 use Rattle.imagesize_io.specs.declared.reader.Ledger.{Ledger}
 use Rattle.imagesize_io.specs.Held.{Holds, HoldsFrom, IsWhole, is_line}
-use Rattle.imagesize_io.specs.ReaderState.{ReadsAt, kept_window, reader_state}
+use Rattle.imagesize_io.specs.ReaderState.{ReadsAt, held_at, kept_window, no_claim, reader_state, with_window}
+use Rattle.imagesize_source.specs.Shown.{AreShown}
+use Rattle.imagesize_io.proofs.Windows.{part-behind}
 use Rattle.imagesize_io.specs.Standing.{Standing, behind, steady, in_step, stand_of, stand, drift, GivesFrom, KeepsCounts, ReadsFrom}
 use Rattle.imagesize_io.specs.Telling.{Account, Telling}
 use Rattle.std.specs.declared.io.Error.{Error}
@@ -282,3 +284,27 @@ held_first a {old} {new} home t offset (suc n) buffer fits none line still reads
     let read = reads (omega arith) in
     held_part t offset (suc n) buffer fits (line (omega arith)) (still (omega arith)) (λ far. (read.pays (omega arith) far).0)
     (read.runs home)
+
+-- bytes that the reader holds are those that its source claims
+claimed : (st : Option Standing) (window : List ℕ) (offset now : ℕ) (bytes : List ℕ)
+    → GivesFrom st st offset now bytes (Ok (length bytes)) → length window ≤ offset → (held_at st window).honest ≡ true
+    → bytes ≡ part (held_at st window).input offset (length bytes)
+claimed None window offset now bytes gives far honest = absurd cc
+claimed (Some s) window offset now bytes gives far honest = by_test (leb (length window) (length s.bytes)) honest where
+  by_test : (b : Bool)
+      → (cond b (record { honest = true; input = with_window window s.bytes; can_fail = s.can_fail }) no_claim).honest ≡ true
+      → bytes ≡ part (cond b (record { honest = true; input = with_window window s.bytes; can_fail = s.can_fail }) no_claim).input
+      offset (length bytes)
+  by_test false is = absurd cc
+  by_test true is = sym (take_all (length bytes) bytes (omega arith)) ∙ gives.1 ∙ sym (part-behind window s.bytes offset (length bytes) far)
+
+pub held_shown : (a : Account) (p : Progress) (window : List ℕ) (offset : ℕ) (bytes : List ℕ)
+    → HoldsFrom a.telling p.offset offset bytes → p.offset ≤ offset → length window ≤ offset
+    → AreShown (held_at (stand a.telling p) window) offset bytes p.told
+held_shown a p window offset bytes holds ahead far = λ honest.
+    let sound = reader_sound a 0 p window honest in (
+      claimed (stand a.telling p) window offset p.offset bytes
+      (gives_held a.telling p.told p.offset offset p.retries p.fault bytes ahead holds) far honest,
+      sound.0,
+      sound.1,
+    )

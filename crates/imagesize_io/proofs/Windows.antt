@@ -96,7 +96,7 @@ part-window w d offset (suc k) fits =
     ∙ take-append-le (suc k) (drop offset w) (drop (length w) d) (rw (length-drop offset w) (omega arith))
 
 -- and a part behind the window one of the bytes behind the reader
-part-behind : (w d : List ℕ) (offset k : ℕ) → length w ≤ offset → part (with_window w d) offset k ≡ part d offset k
+pub part-behind : (w d : List ℕ) (offset k : ℕ) → length w ≤ offset → part (with_window w d) offset k ≡ part d offset k
 unfolding part
 part-behind w d offset k far =
     let split : length w + (offset - length w) ≡ offset = omega arith in

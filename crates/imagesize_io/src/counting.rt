@@ -9,6 +9,7 @@ use crate::reader::ALLOWANCE;
 use crate::window::WINDOW;
 use imagesize_source::part::{copy_part, copy_text_at};
 use imagesize_source::source::Source;
+use imagesize_source::source::held::{Claims, Counts};
 use imagesize_source::{Halt, ImageError, Reason, Text};
 use std::io::SeekFrom;
 
@@ -107,6 +108,8 @@ impl<'a> CountingSource<'a> {
     }
 }
 
+impl Claims for CountingSource<'_> {}
+
 impl Source for CountingSource<'_> {
     ghost state = { λ s. counting_state s.bytes.now s.front s.left s.position };
 
@@ -124,6 +127,10 @@ impl Source for CountingSource<'_> {
     fn refusal(&self, halt: Halt) -> ImageError {
         halt.error(Reason::EndOfInput, self.bytes.len() as u64 + ALLOWANCE)
     }
+
+    // It shows no bytes.
+    #[inline(always)]
+    fn pass(&mut self, _counts: Counts) {}
 
     #[inline(always)]
     fn read_at(&mut self, offset: u64, buffer: &mut [u8]) -> Result<usize, Halt> {

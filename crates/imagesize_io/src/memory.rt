@@ -2,6 +2,7 @@
 ghost use Rattle.imagesize_source.specs.State.{slice_state};
 
 use imagesize_source::source::Source;
+use imagesize_source::source::held::{Claims, Counts};
 use imagesize_source::source::slice::SliceSource;
 use imagesize_source::{Halt, ImageError, Text};
 
@@ -12,6 +13,8 @@ use imagesize_source::{Halt, ImageError, Text};
 pub struct MemorySource<'a> {
     pub slice: SliceSource<'a>,
 }
+
+impl Claims for MemorySource<'_> {}
 
 impl Source for MemorySource<'_> {
     ghost state = { λ s. slice_state s.slice.bytes.now };
@@ -30,6 +33,10 @@ impl Source for MemorySource<'_> {
     fn refusal(&self, halt: Halt) -> ImageError {
         self.slice.refusal(halt)
     }
+
+    // It shows no bytes.
+    #[inline(always)]
+    fn pass(&mut self, _counts: Counts) {}
 
     #[inline(always)]
     fn read_at(&mut self, offset: u64, buffer: &mut [u8]) -> Result<usize, Halt> {

@@ -1,8 +1,9 @@
 //! A reader as a source.
-ghost use Rattle.std.specs.Prelude.{◌≡◌, ℕ, ◌≤◌, Result, None, IfErr, IfSome, true, false};
+ghost use Rattle.std.specs.Prelude.{◌≡◌, ℕ, ◌≤◌, Result, None, IfErr, IfSome, length, true, false};
 ghost use Rattle.std.specs.declared.io.Error.{Error};
 ghost use Rattle.imagesize_source.specs.Errors.{is_fault, is_memory};
-ghost use Rattle.imagesize_io.specs.ReaderState.{reader_state, start_state, Opens};
+ghost use Rattle.imagesize_io.specs.ReaderState.{held_at, reader_state, start_state, Opens};
+ghost use Rattle.imagesize_io.specs.Standing.{stand};
 ghost use Rattle.imagesize_io.specs.Answers.{IsLast};
 ghost use Rattle.imagesize_io.specs.Telling.{SeekTells, account};
 ghost use Rattle.imagesize_source.specs.Halts.{error_by};
@@ -15,8 +16,10 @@ mod windowed;
 
 use crate::Told;
 use crate::progress::Progress;
-use crate::window::Window;
+use crate::window::{WINDOW, Window};
+use held::held_from;
 use imagesize_source::source::Source;
+use imagesize_source::source::held::{Claims, Counts, HeldSource};
 use imagesize_source::{Halt, ImageError, ImageResult, Reason, Text};
 use std::io::SeekFrom;
 
@@ -88,9 +91,18 @@ impl<'a, R: Told> ReaderSource<'a, R> {
     }
 }
 
+impl<R: Told> Claims for ReaderSource<'_, R> {
+    ghost claim = { λ s. held_at (stand (R.telling s.reader.now) s.ledger.progress) s.ledger.window.items };
+
+    ghost kept = { λ s. length s.ledger.window.items };
+}
+
 impl<R: Told> Source for ReaderSource<'_, R> {
     ghost state = { λ s. reader_state (account R.telling R.count R.failure s.reader.now) s.reader.ghost_name s.ledger.progress
         s.ledger.window.items };
+
+    // A reader that counts the bytes that it gives shows none.
+    ghost shows = { λ s. R.count s.reader.now ≡ None };
 
     #[inline]
     fn told(&self) -> u64 {
@@ -105,6 +117,33 @@ impl<R: Told> Source for ReaderSource<'_, R> {
     #[inline(always)]
     fn refusal(&self, halt: Halt) -> ImageError {
         refusal_of(halt, &self.ledger.progress)
+    }
+
+    #[inline(always)]
+    fn held(&self, offset: u64) -> Option<HeldSource<'_, Self>> {
+        // The proof needs that the window is not longer than its capacity.
+        let _length = self.ledger.window.len();
+        if offset < WINDOW as u64 {
+            return None;
+        }
+        let bytes = held_from(self.reader, &self.ledger, offset)?;
+        if bytes.is_empty() {
+            return None;
+        }
+        let progress = &self.ledger.progress;
+        let counts = Counts {
+            taken: progress.taken,
+            position: progress.position,
+        };
+        Some(HeldSource::new(self, bytes, offset, progress.told, progress.budget, counts))
+    }
+
+    #[inline(always)]
+    fn pass(&mut self, counts: Counts) {
+        let Counts { taken, position } = counts;
+        self.ledger.progress.taken = taken;
+        self.ledger.progress.position = position;
+        self.ledger.present = position;
     }
 
     #[inline(always)]

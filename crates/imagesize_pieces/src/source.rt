@@ -12,6 +12,7 @@ ghost use Rattle.imagesize_pieces.specs.Stream.{byte_at, came, end_of, run_at, s
 use crate::buffer::bytes_behind;
 use imagesize_source::part::copy_ended;
 use imagesize_source::source::Source;
+use imagesize_source::source::held::{Claims, Counts};
 use imagesize_source::source::log::SpanLog;
 use imagesize_source::source::parts::{Missing, count_there, put, uncut_length};
 use imagesize_source::{Halt, ImageError, Reason, Span, Text};
@@ -235,6 +236,8 @@ impl<'a> StreamSource<'a> {
     }
 }
 
+impl Claims for StreamSource<'_> {}
+
 impl Source for StreamSource<'_> {
     ghost state = { λ s. stream_state s.told s.start s.kept.now s.chunk.now s.log.spans s.missed };
 
@@ -249,6 +252,10 @@ impl Source for StreamSource<'_> {
     fn refusal(&self, halt: Halt) -> ImageError {
         halt.error(Reason::EndOfInput, 0)
     }
+
+    // It shows no bytes.
+    #[inline(always)]
+    fn pass(&mut self, _counts: Counts) {}
 
     #[inline(always)]
     fn read_at(&mut self, offset: u64, buffer: &mut [u8]) -> Result<usize, Halt> {

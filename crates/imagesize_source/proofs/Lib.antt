@@ -25,6 +25,7 @@ pub mod Reached
 pub mod Recordings
 pub mod Runs
 pub mod Sharing
+pub mod Shown
 pub mod Slices
 pub mod Spends
 pub mod Strides

@@ -7,20 +7,11 @@ use Rattle.imagesize_source.specs.Chain.{Decided, Next, Chain, Along, next_recor
 use Rattle.imagesize_source.specs.Layout.{Layout, layout_reads, bind}
 use Rattle.imagesize_source.specs.Reading.{Reads, and_then, go_on, put_behind, gives, is_stopped, is_faulted, just, uncounted}
 use Rattle.imagesize_source.specs.State.{State, Runs, EndedBy, Missed, IsSound, total, state_after}
+use Rattle.imagesize_source.specs.Strides.{Reached}
 use Rattle.imagesize_source.proofs.Chains.{chain_unfolds, follows}
 use Rattle.imagesize_source.proofs.Marks.{behind-behind}
 use Rattle.imagesize_source.proofs.Layouts.{over-bind}
 use Rattle.imagesize_source.proofs.Runs.{marks_onward, missed_before, missed_behind, past-past, past-held, past-recorded, total-append, runs_then, runs_refused}
-
--- From a on a run was to make the readings `whole`, and has made some of them; what is left from b on is `rest`.
-pub record Reached {X : Type 0} (a b : State) (whole rest : Reads X) : Type 0 where
-  pub sound : IsSound b → IsSound a
-  pub frame : b.frame ≡ a.frame
-  pub taken : a.taken ≤ b.taken
-  pub made : List Span
-  pub within : a.held.honest ≡ true → b.taken ≤ a.taken + total made
-  pub state : a.held.honest ≡ true → b ≡ state_after a made
-  pub left : a.held.honest ≡ true → uncounted whole ≡ put_behind made (uncounted rest)
 
 -- nothing was read
 pub reached_start : {X : Type 0} (a : State) (whole : Reads X) → Reached a a whole whole

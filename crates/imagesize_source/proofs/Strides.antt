@@ -8,22 +8,10 @@ use Rattle.imagesize_source.specs.Reading.{is_faulted, is_stopped, just, map_ans
 use Rattle.imagesize_source.specs.State.{State, Runs, Missed, IsSound, state_after}
 use Rattle.imagesize_source.specs.Sharing.{Shares, Stood}
 use Rattle.imagesize_source.proofs.Chains.{chain_stop}
-use Rattle.imagesize_source.proofs.Reached.{Reached, reached_start, reached_now, same_input, walk_on, walk_stop, walk_out}
+use Rattle.imagesize_source.specs.Strides.{Reached, Strides}
+use Rattle.imagesize_source.proofs.Reached.{reached_start, reached_now, same_input, walk_on, walk_stop, walk_out}
 use Rattle.imagesize_source.proofs.Runs.{past-held, past-none, past-past, plain_end, without_fault}
 use Rattle.imagesize_source.proofs.Sharing.{leads_on}
-
--- Since a, a walk has come from the record t on to an offset; it is in the state b, behind records that hold such a list.
-pub record Strides {C X : Type 0} (c : Chain C X) (P : List C → Type 0) (a b : State) (t : Along C)
-    (offset : ℕ) : Type 0 where
-  pub held : List C
-  pub known : P held
-  pub reached : Reached a b (chain_from c a.held.input t)
-      (chain_from c a.held.input (record { held = held; offset = offset }))
-  pub made : List Span
-  pub ahead : a.held.honest ≡ true → t.offset ≤ offset
-  pub state : a.held.honest ≡ true → b ≡ state_after a made
-  pub leads : a.held.honest ≡ true → (d : List ℕ) → Shares d a.held.input made
-      → uncounted (chain_from c d t) ≡ put_behind made (uncounted (chain_from c d (record { held = held; offset = offset })))
 
 module _ {C X : Type 0} (c : Chain C X) where
   pub strides_start : (P : List C → Type 0) (a : State) (t : Along C) → P t.held → Strides c P a a t t.offset
@@ -117,3 +105,16 @@ module _ {C X : Type 0} (c : Chain C X) (adv : (d : List ℕ) → Advances c d)
         ((run w.held w.known).misses
         (ap (λ s. s.held.honest) is ∙ ap (λ x. x.honest) (past-held a w.made) ∙ honest) faults));
   }
+
+-- what is known of the records before, otherwise said
+pub strides_knows : {C X : Type 0} (c : Chain C X) (P Q : List C → Type 0) {a b : State} {t : Along C} {offset : ℕ}
+    → ((held : List C) → P held → Q held) → Strides c P a b t offset → Strides c Q a b t offset
+strides_knows c P Q knows w = record {
+  held = w.held;
+  known = knows w.held w.known;
+  reached = w.reached;
+  made = w.made;
+  ahead = w.ahead;
+  state = w.state;
+  leads = w.leads;
+}

@@ -15,7 +15,9 @@ pub mod Paying
 pub mod Reading
 pub mod Reason
 pub mod Sharing
+pub mod Shown
 pub mod State
+pub mod Strides
 pub mod Text
 pub mod Walk
 pub mod Way

@@ -17,15 +17,23 @@ pub record Behind : Type 0 where
   pub can_fail : Bool
   pub interruptions : Option ℕ
 
+-- The bytes that the source claims to read, as long as it is honest, and whether a call on it may fail.
+pub record Held : Type 0 where
+  pub honest : Bool
+  pub input : List ℕ
+  pub can_fail : Bool
+
 -- What a source reads from; it never changes. `Slice` is a slice, and `Recorded` a slice with the name of the borrow
 -- of its span buffer. `Parts` are the known parts of an input and their bytes. `Reader` has the name of a reader's
 -- borrow, how its own count differs from `taken`, and its model. The difference is two numbers: how much the count is
--- above `taken`, and how much below.
+-- above `taken`, and how much below. `Shown` are bytes that another source holds: how many first bytes that one keeps, and
+-- what it claims.
 pub data Backing : Type 0 where
   Slice : Backing
   Recorded : ℕ → Backing
   Parts : List Span → List ℕ → Backing
   Reader : ℕ → Option (ℕ × ℕ) → Option Behind → Backing
+  Shown : ℕ → Held → Backing
 
 -- the known parts, if the source has parts
 abbrev pub parts_of : Backing → Option (List Span × List ℕ)
@@ -54,12 +62,6 @@ pub record Frame : Type 0 where
   pub budget : ℕ
   pub counts : Bool
   pub backing : Backing
-
--- The bytes that the source claims to read, as long as it is honest, and whether a call on it may fail.
-pub record Held : Type 0 where
-  pub honest : Bool
-  pub input : List ℕ
-  pub can_fail : Bool
 
 -- The state of a source. `front` is how many of its first bytes it holds, `taken` how many bytes it has read, and
 -- `place` the offset at which it leaves its reader. `recorded` is the spans that it has recorded, and `failure` the
@@ -186,3 +188,26 @@ recording_state d spans home = record {
   failure = end_of_input;
   failed = None;
 }
+
+-- The bytes that a source holds, as a source. A read of any other byte fails. The source reports this length, has this
+-- budget, keeps its first `front` bytes, and claims what `held` says.
+abbrev pub shown_state : ℕ → ℕ → ℕ → Held → ℕ → ℕ → State
+shown_state told budget front held taken place = record {
+  frame = record { told = told; budget = budget; counts = true; backing = Shown front held };
+  held = record { honest = held.honest; input = held.input; can_fail = true };
+  front = front;
+  taken = taken;
+  place = place;
+  recorded = None;
+  missed = None;
+  failure = end_of_input;
+  failed = None;
+}
+
+-- the bytes that a source in this state holds, as a source
+abbrev pub shown_by : State → State
+shown_by a = shown_state a.frame.told a.frame.budget a.front a.held a.taken a.place
+
+-- the state of a source after such reads
+abbrev pub rejoined : State → ℕ → ℕ → State
+rejoined a taken place = record a { taken = taken; place = place }

@@ -1,21 +1,26 @@
 //! A source: the bytes of an input, read at offsets.
-ghost use Rattle.std.specs.Prelude.{◌≡◌, ◌<◌, ◌≤◌, take, length, IfOk};
+ghost use Rattle.std.specs.Prelude.{◌≡◌, ◌<◌, ◌≤◌, true, None, take, length, IfOk, IfSome};
 ghost use Rattle.imagesize_source.specs.Halts.{error_by};
 ghost use Rattle.imagesize_source.specs.Paying.{Paid};
 ghost use Rattle.imagesize_source.specs.Reading.{map_answer, part_read, text_read};
-ghost use Rattle.imagesize_source.specs.State.{State, Runs, IsSound};
+ghost use Rattle.imagesize_source.specs.State.{State, Runs, IsSound, rejoined, shown_by, shown_state};
 
 use crate::{Halt, ImageError, Text};
+use held::{Claims, Counts, HeldSource};
 
+pub mod held;
 pub mod log;
 pub mod parts;
 pub mod recording;
 pub mod slice;
 
 /// An input that is read at offsets, which count bytes from 0.
-pub trait Source {
+pub trait Source: Claims {
     /// The input, the bytes read from a reader, and the recorded spans.
     ghost state: { Self → State };
+
+    /// What holds for a source that shows bytes by `held`.
+    ghost shows: { Self → Type 0 } = { λ _. ⊥ };
 
     /// The length of the input in bytes, as it was reported.
     fn told(&self) -> u64
@@ -29,6 +34,24 @@ pub trait Source {
     /// The error that the call returns after a read failed with this `Halt`.
     fn refusal(&self, halt: Halt) -> ImageError
         ensures { result ≡ error_by (state self.now).failure (state self.now).frame.budget halt };
+
+    /// The bytes from an offset on that the source holds, as a source of their own. Reads of them make no call of a reader.
+    /// `pass` counts them afterwards. This call may always return `None`.
+    #[inline(always)]
+    fn held(&self, _offset: u64) -> Option<HeldSource<'_, Self>>
+        ensures shows { IfSome result (λ held. shows self.now) }
+        ensures told { IfSome result (λ held. shown_state held.told held.budget (Self.kept held.of.now) (Self.claim held.of.now) held.counts.taken
+            held.counts.position ≡ shown_by (state self.now)) }
+        ensures counts { IfSome result (λ held. ((state self.now).frame.counts ≡ true) × ((state self.now).recorded ≡ None)) }
+    {
+        None
+    }
+
+    /// Counts what was read of the bytes that `held` returned, and nothing else has changed since.
+    fn pass(&mut self, counts: Counts)
+        requires shows { shows self.old }
+        requires paid { ((state self.old).taken ≤ counts.taken) × (counts.taken ≤ (state self.old).frame.budget) }
+        ensures { state self.new ≡ rejoined (state self.old) counts.taken counts.position };
 
     /// Reads the bytes from an offset on into the buffer, as far as there are any, and returns how many. Fails with a `Halt`.
     fn read_at(&mut self, offset: u64, buffer: &mut [u8]) -> Result<usize, Halt>

@@ -1,11 +1,12 @@
 //! A walk along a sequence of records, such as segments, chunks, boxes or entries.
-ghost use Rattle.std.specs.Prelude.{◌≡◌, ℕ, true, false, List, [], IfOk, IfErr};
-ghost use Rattle.imagesize_source.specs.Chain.{Said, chain_at, chain_from};
+ghost use Rattle.std.specs.Prelude.{◌≡◌, ℕ, ◌≤◌, true, false, List, [], IfOk, IfErr, IfSome, None};
+ghost use Rattle.imagesize_source.specs.Chain.{Along, Said, chain_at, chain_from};
 ghost use Rattle.imagesize_source.specs.Layout.{Layout, layout_reads};
-ghost use Rattle.imagesize_source.specs.Paying.{Nears};
-ghost use Rattle.imagesize_source.specs.Reading.{is_faulted, is_stopped, map_answer};
+ghost use Rattle.imagesize_source.specs.Paying.{Nears, ahead_of};
+ghost use Rattle.imagesize_source.specs.Reading.{is_failure, is_faulted, is_stopped, map_answer};
 ghost use Rattle.imagesize_source.specs.Sharing.{Stood};
-ghost use Rattle.imagesize_source.specs.State.{Runs};
+ghost use Rattle.imagesize_source.specs.State.{State, Runs};
+ghost use Rattle.imagesize_source.specs.Strides.{Strides};
 ghost use Rattle.imagesize_source.specs.Walk.{CanFollow, EndsBy, KeepsOn, chain_of, said_at};
 
 use crate::Halt;
@@ -96,6 +97,9 @@ pub fn walk_on<S: Source, R: Records>(
 {
     let mut at = *offset;
     loop {
+        if let Some(result) = walk_held(records, &mut at, source) {
+            return result;
+        }
         match records.read_record(source, at) {
             Ok(Found::Answer(answer)) => return Ok(answer),
             Ok(Found::Other { length, .. }) => match at.checked_add(length) {
@@ -108,4 +112,70 @@ pub fn walk_on<S: Source, R: Records>(
             }
         }
     }
+}
+
+// Walks on along the records that lie within the bytes that the source holds. Returns the result if it is there. Otherwise the
+// walk has come to the record at `offset`, which does not lie within them.
+//
+// Reads of held bytes make no call of the reader. This saves the tests of a reader's read for most records of a file.
+#[inline(always)]
+fn walk_held<S: Source, R: Records>(
+    records: &mut R,
+    offset: &mut u64,
+    source: &mut S,
+) -> Option<Result<R::Answer, Halt>>
+    requires follows { CanFollow (chain_of 0 (R.said records.old)) }
+    requires keeps { (held : List R.Held) × R.keeps records.old held offset.old }
+    ensures same { R.said records.new ≡ R.said records.old }
+    ensures keeps { result ≡ None → (held : List R.Held) × R.keeps records.new held offset.new }
+    ensures nearer { result ≡ None → ahead_of (S.state source.new) offset.new ≤ ahead_of (S.state source.old) offset.old }
+    ensures plain { IfSome result (λ r. is_faulted r ≡ false) }
+
+    // A walk that has come to the offset has come to the new one then, or has this result.
+    ensures strides { result ≡ None → (first : ℕ) (a : State) (t : Along R.Held)
+        → Strides (chain_of first (R.said records.old)) (λ held. R.keeps records.old held offset.old) a (S.state source.old) t offset.old
+        → Strides (chain_of first (R.said records.old)) (λ held. R.keeps records.new held offset.new) a (S.state source.new) t offset.new }
+    ensures runs { IfSome result (λ r. (first : ℕ) (a : State) (t : Along R.Held)
+        → Strides (chain_of first (R.said records.old)) (λ held. R.keeps records.old held offset.old) a (S.state source.old) t offset.old
+        → Runs a (S.state source.new) r (chain_from (chain_of first (R.said records.old)) a.held.input t)) }
+{
+    let mut held = source.held(*offset)?;
+    let mut at = *offset;
+    loop {
+        let before = held.counts();
+        match records.read_record(&mut held, at) {
+            Ok(Found::Answer(answer)) => {
+                let counts = held.counts();
+                source.pass(counts);
+                return Some(Ok(answer));
+            }
+            Ok(Found::Other { length, .. }) => match at.checked_add(length) {
+                Some(next) => at = next,
+                None => {
+                    let counts = held.counts();
+                    source.pass(counts);
+                    return Some(records.at_end());
+                }
+            },
+            // The record does not lie within the held bytes. None of its reads counts.
+            Err(halt) if is_failure(halt) => {
+                source.pass(before);
+                *offset = at;
+                return None;
+            }
+            Err(halt) => {
+                let counts = held.counts();
+                source.pass(counts);
+                return Some(Err(halt));
+            }
+        }
+    }
+}
+
+// Whether a call of the reader failed, or a byte is missing.
+#[inline(always)]
+fn is_failure(halt: Halt) -> bool
+    ensures { result ≡ is_failure halt }
+{
+    matches!(halt, Halt::Failed)
 }

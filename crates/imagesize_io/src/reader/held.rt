@@ -110,7 +110,11 @@ pub(super) fn read_held_part<R: Told>(
 //
 // A read past the reported length continues only where the last one ended, and calls the reader. So no byte past it is read here.
 #[inline(always)]
-fn held_from<'r, R: Told>(reader: &'r R, ledger: &Ledger, offset: u64) -> Option<&'r [u8]>
+pub(super) fn held_from<'r, R: Told>(
+    reader: &'r R,
+    ledger: &Ledger,
+    offset: u64,
+) -> Option<&'r [u8]>
     ensures there { IfSome result (λ bytes. HoldsFrom (R.telling reader.now) ledger.now.progress.offset offset bytes.now) }
     ensures ahead { IfSome result (λ _. ledger.now.progress.offset ≤ offset) }
     ensures told { IfSome result (λ _. offset ≤ ledger.now.progress.told) }

@@ -10,6 +10,7 @@ ghost use Rattle.imagesize_source.specs.State.{Runs};
 ghost use Rattle.imagesize_source.specs.Text.{is_ended, text_front};
 
 use super::Source;
+use super::held::{Claims, Counts};
 use super::log::SpanLog;
 use crate::part::{copy_ended, part_of};
 use crate::text::ended_behind;
@@ -272,6 +273,8 @@ impl<'a> PartsSource<'a> {
     }
 }
 
+impl Claims for PartsSource<'_> {}
+
 impl Source for PartsSource<'_> {
     ghost state = { λ s. parts_state s.told s.spans.now s.bytes.now s.log.spans s.missed };
 
@@ -286,6 +289,10 @@ impl Source for PartsSource<'_> {
     fn refusal(&self, halt: Halt) -> ImageError {
         halt.error(Reason::EndOfInput, 0)
     }
+
+    // It shows no bytes.
+    #[inline(always)]
+    fn pass(&mut self, _counts: Counts) {}
 
     #[inline(always)]
     fn read_at(&mut self, offset: u64, buffer: &mut [u8]) -> Result<usize, Halt> {

@@ -6,6 +6,7 @@ ghost use Rattle.imagesize_source.specs.State.{recording_state, total};
 ghost use Rattle.imagesize_source.specs.declared.span.Span.{Span};
 
 use super::Source;
+use super::held::{Claims, Counts};
 use super::log::SpanLog;
 use crate::part::{copy_part, copy_text_at};
 use crate::{Halt, ImageError, Reason, Span, Text};
@@ -73,6 +74,8 @@ fn put(buffer: &mut [Span], count: usize, span: Span)
     }
 }
 
+impl Claims for RecordingSource<'_, '_> {}
+
 impl Source for RecordingSource<'_, '_> {
     ghost state = { λ s. recording_state s.bytes.now s.log.spans s.buffer.ghost_name };
 
@@ -89,6 +92,10 @@ impl Source for RecordingSource<'_, '_> {
     fn refusal(&self, halt: Halt) -> ImageError {
         halt.error(Reason::EndOfInput, 0)
     }
+
+    // It shows no bytes.
+    #[inline(always)]
+    fn pass(&mut self, _counts: Counts) {}
 
     #[inline(always)]
     fn read_at(&mut self, offset: u64, buffer: &mut [u8]) -> Result<usize, Halt> {

@@ -3,6 +3,7 @@ ghost use Rattle.std.specs.Prelude.{◌<◌, ◌-◌, length};
 ghost use Rattle.imagesize_source.specs.State.{slice_state};
 
 use super::Source;
+use super::held::{Claims, Counts};
 use crate::part::{copy_part, copy_text_at};
 use crate::{Halt, ImageError, Reason, Text};
 
@@ -11,6 +12,8 @@ use crate::{Halt, ImageError, Reason, Text};
 pub struct SliceSource<'a> {
     pub bytes: &'a [u8],
 }
+
+impl Claims for SliceSource<'_> {}
 
 impl Source for SliceSource<'_> {
     ghost state = { λ s. slice_state s.bytes.now };
@@ -29,6 +32,10 @@ impl Source for SliceSource<'_> {
     fn refusal(&self, halt: Halt) -> ImageError {
         halt.error(Reason::EndOfInput, 0)
     }
+
+    // It shows no bytes.
+    #[inline(always)]
+    fn pass(&mut self, _counts: Counts) {}
 
     #[inline(always)]
     fn read_at(&mut self, offset: u64, buffer: &mut [u8]) -> Result<usize, Halt> {

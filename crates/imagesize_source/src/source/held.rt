@@ -1,0 +1,175 @@
+//! The bytes that another source holds, as a source of their own.
+ghost use Rattle.std.specs.Prelude.{◌≡◌, ℕ, [], ◌+◌, ◌^◌, ◌<◌, ◌≤◌, true, false, length, IfSome};
+ghost use Rattle.imagesize_source.specs.Shown.{AreShown, AreWithin};
+ghost use Rattle.imagesize_source.specs.State.{Held, shown_state};
+
+use super::Source;
+use crate::part::copy_ended;
+use crate::{Halt, ImageError, Reason, Text};
+
+/// How many bytes were read in all, and where the last read ended.
+#[derive(Clone, Copy, Debug)]
+pub struct Counts {
+    /// How many bytes were read.
+    pub taken: u64,
+    /// The offset at which the last read ended.
+    pub position: u64,
+}
+
+/// What a source claims, as far as the bytes that it shows depend on it. Proofs alone read it.
+pub trait Claims {
+    /// Its bytes, whether it is honest, and whether its calls can fail.
+    ghost claim: { Self → Held } = { λ _. record { honest = false; input = []; can_fail = true } };
+
+    /// How many of its first bytes it keeps.
+    ghost kept: { Self → ℕ } = { λ _. 0 };
+}
+
+/// The bytes that another source holds from an offset on, as a source. A read of any other byte fails, and so does one that the
+/// budget does not have. So a read is a comparison, a copy and a count.
+#[derive(Drop)]
+pub struct HeldSource<'a, S: Claims> {
+    bytes: &'a [u8],
+    // The source that holds them.
+    of: &'a S,
+    // The offset of the first one.
+    start: u64,
+    // The reported length of the input.
+    told: u64,
+    budget: u64,
+    counts: Counts,
+    ghost shown: { AreShown (S.claim of.now) start bytes.now told },
+    ghost within: { AreWithin (S.kept of.now) start (length bytes.now) told },
+    ghost paid: { counts.taken ≤ budget },
+}
+
+impl<'a, S: Claims> HeldSource<'a, S> {
+    /// A source of bytes that the source `of` holds from `start` on. That one reports the length `told`, has this budget, and has
+    /// read so much.
+    #[inline(always)]
+    pub fn new(
+        of: &'a S,
+        bytes: &'a [u8],
+        start: u64,
+        told: u64,
+        budget: u64,
+        counts: Counts,
+    ) -> Self
+        requires shown { AreShown (S.claim of.now) start bytes.now told }
+        requires within { AreWithin (S.kept of.now) start (length bytes.now) told }
+        requires paid { counts.taken ≤ budget }
+        ensures told { result.told ≡ told }
+        ensures budget { result.budget ≡ budget }
+        ensures counts { result.counts ≡ counts }
+        ensures of { result.of.now ≡ of.now }
+    {
+        HeldSource {
+            bytes,
+            of,
+            start,
+            told,
+            budget,
+            counts,
+        }
+    }
+
+    /// How many bytes were read in all, and where the last read ended.
+    #[inline(always)]
+    pub fn counts(&self) -> Counts
+        ensures is { result ≡ self.now.counts }
+        ensures paid { result.taken ≤ self.now.budget }
+    {
+        self.counts
+    }
+
+    // The bytes from an offset on. `None` if they begin after it, or end before it.
+    #[inline(always)]
+    fn from(&self, offset: u64) -> Option<&'a [u8]>
+        ensures ahead { IfSome result (λ _. self.now.start ≤ offset) }
+        ensures there { IfSome result (λ bytes. offset + length bytes.now ≤ self.now.told) }
+        ensures fits { IfSome result (λ bytes. offset + length bytes.now < 2 ^ 64) }
+        ensures shown { IfSome result (λ bytes. AreShown (S.claim self.now.of.now) offset bytes.now self.now.told) }
+    {
+        // The proof needs that the reported length is below 2^64.
+        let _told = self.told;
+        let ahead = offset.checked_sub(self.start)?;
+        if ahead > self.bytes.len() as u64 {
+            return None;
+        }
+        Some(&self.bytes[ahead as usize..])
+    }
+
+    // Counts the bytes of a read. Returns whether the budget has them.
+    #[inline(always)]
+    fn pays(&mut self, offset: u64, count: usize) -> bool
+        requires { offset + count < 2 ^ 64 }
+        ensures bytes { self.new.bytes.now ≡ self.old.bytes.now }
+        ensures start { self.new.start ≡ self.old.start }
+        ensures told { self.new.told ≡ self.old.told }
+        ensures budget { self.new.budget ≡ self.old.budget }
+        ensures of { self.new.of.now ≡ self.old.of.now }
+        ensures paid { result ≡ true → (self.new.counts.taken ≡ self.old.counts.taken + count) × (self.new.counts.position ≡ offset + count) }
+        ensures spent { result ≡ false → self.new.counts ≡ self.old.counts }
+    {
+        if self.budget - self.counts.taken < count as u64 {
+            return false;
+        }
+        self.counts.taken += count as u64;
+        self.counts.position = offset + count as u64;
+        true
+    }
+}
+
+impl<S: Claims> Claims for HeldSource<'_, S> {}
+
+impl<S: Claims> Source for HeldSource<'_, S> {
+    ghost state = { λ s. shown_state s.told s.budget (S.kept s.of.now) (S.claim s.of.now) s.counts.taken s.counts.position };
+
+    #[inline(always)]
+    fn told(&self) -> u64 {
+        self.told
+    }
+
+    #[inline(always)]
+    fn taken(&self) -> u64 {
+        self.counts.taken
+    }
+
+    #[inline(always)]
+    fn refusal(&self, halt: Halt) -> ImageError {
+        halt.error(Reason::EndOfInput, self.budget)
+    }
+
+    #[inline(always)]
+    fn pass(&mut self, _counts: Counts) {}
+
+    #[inline(always)]
+    fn read_at(&mut self, offset: u64, buffer: &mut [u8]) -> Result<usize, Halt> {
+        let Some(bytes) = self.from(offset) else {
+            return Err(Halt::Failed);
+        };
+        let count = buffer.len();
+        if count == 0 || count > bytes.len() {
+            return Err(Halt::Failed);
+        }
+        if !self.pays(offset, count) {
+            return Err(Halt::Failed);
+        }
+        buffer.copy_from_slice(&bytes[..count]);
+        Ok(buffer.len())
+    }
+
+    #[inline(always)]
+    fn read_text(&mut self, offset: u64, text: Text, buffer: &mut [u8]) -> Result<usize, Halt> {
+        let Some(bytes) = self.from(offset) else {
+            return Err(Halt::Failed);
+        };
+        let Some(count) = copy_ended(bytes, text, buffer) else {
+            return Err(Halt::Failed);
+        };
+        if count == 0 || !self.pays(offset, count) {
+            return Err(Halt::Failed);
+        }
+        Ok(count)
+    }
+}
