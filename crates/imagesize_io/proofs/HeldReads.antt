@@ -304,7 +304,7 @@ pub held_shown : (a : Account) (p : Progress) (window : List ℕ) (offset : ℕ)
 held_shown a p window offset bytes holds ahead far = λ honest.
     let sound = reader_sound a 0 p window honest in (
       claimed (stand a.telling p) window offset p.offset bytes
-      (gives_held a.telling p.told p.offset offset p.retries p.fault bytes ahead holds) far honest,
+          (gives_held a.telling p.told p.offset offset p.retries p.fault bytes ahead holds) far honest,
       sound.0,
       sound.1,
     )

@@ -141,9 +141,14 @@ impl<R: Told> Source for ReaderSource<'_, R> {
     #[inline(always)]
     fn pass(&mut self, counts: Counts) {
         let Counts { taken, position } = counts;
-        self.ledger.progress.taken = taken;
-        self.ledger.progress.position = position;
-        self.ledger.present = position;
+        let Ledger {
+            progress,
+            present,
+            ..
+        } = &mut self.ledger;
+        progress.taken = taken;
+        progress.position = position;
+        *present = position;
     }
 
     #[inline(always)]

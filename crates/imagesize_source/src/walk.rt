@@ -140,17 +140,17 @@ fn walk_held<S: Source, R: Records>(
         → Runs a (S.state source.new) r (chain_from (chain_of first (R.said records.old)) a.held.input t)) }
 {
     let mut held = source.held(*offset)?;
-    let mut at = *offset;
+    let mut here = *offset;
     loop {
         let before = held.counts();
-        match records.read_record(&mut held, at) {
+        match records.read_record(&mut held, here) {
             Ok(Found::Answer(answer)) => {
                 let counts = held.counts();
                 source.pass(counts);
                 return Some(Ok(answer));
             }
-            Ok(Found::Other { length, .. }) => match at.checked_add(length) {
-                Some(next) => at = next,
+            Ok(Found::Other { length, .. }) => match here.checked_add(length) {
+                Some(next) => here = next,
                 None => {
                     let counts = held.counts();
                     source.pass(counts);
@@ -160,7 +160,7 @@ fn walk_held<S: Source, R: Records>(
             // The record does not lie within the held bytes. None of its reads counts.
             Err(halt) if is_failure(halt) => {
                 source.pass(before);
-                *offset = at;
+                *offset = here;
                 return None;
             }
             Err(halt) => {

@@ -92,7 +92,10 @@ impl<'a, S: Claims> HeldSource<'a, S> {
     {
         // The proof needs that the reported length is below 2^64.
         let _told = self.told;
-        let ahead = offset.checked_sub(self.start)?;
+        if offset < self.start {
+            return None;
+        }
+        let ahead = offset - self.start;
         if ahead > self.bytes.len() as u64 {
             return None;
         }

@@ -85,6 +85,7 @@ impl Records for Attributes {
     ghost keeps = { λ attributes passed offset. (0 < attributes.names) × (attributes.names ≤ 256) };
 
     // Reads the attribute at an offset.
+    #[inline(always)]
     fn read_record<S: Source>(
         &mut self,
         source: &mut S,

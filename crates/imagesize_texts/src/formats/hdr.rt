@@ -94,6 +94,7 @@ impl Records for Lines {
     ghost keeps = { λ _ passed offset. Unit {0} };
 
     // Reads the line at an offset.
+    #[inline(always)]
     fn read_record<S: Source>(
         &mut self,
         source: &mut S,

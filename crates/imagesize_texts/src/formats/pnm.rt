@@ -57,6 +57,7 @@ impl Records for Words {
 
     // Reads the word at an offset. After the width it reads the height too, and at the start of a comment the rest of the
     // comment.
+    #[inline(always)]
     #[tactic(auto, using(imagesize_source::proofs::Runs::steps, imagesize_source::proofs::Runs::missed_before))]
     fn read_record<S: Source>(
         &mut self,

@@ -72,7 +72,7 @@ impl Records for Entries {
     ghost keeps = { λ entries sizes offset. Seen entries.seen entries.largest sizes };
 
     // Reads the entry at an offset.
-    #[inline]
+    #[inline(always)]
     #[tactic(auto, using(crate::proofs::Ico::icons_on, crate::proofs::Ico::icons_stay, crate::proofs::Ico::icon_as))]
     fn read_record<S: Source>(
         &mut self,
@@ -91,7 +91,7 @@ impl Records for Entries {
 
 impl Entries {
     /// Reads the entry at an offset.
-    #[inline]
+    #[inline(always)]
     #[tactic(auto, using(imagesize_source::proofs::Runs::steps))]
     pub fn read_icon<S: Source>(
         &mut self,

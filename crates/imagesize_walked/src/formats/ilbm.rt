@@ -43,6 +43,7 @@ impl Records for Chunks {
     ghost keeps = { λ _ passed offset. Unit {0} };
 
     // Reads the chunk at an offset.
+    #[inline(always)]
     #[tactic(auto, using(imagesize_source::proofs::Runs::steps))]
     fn read_record<S: Source>(
         &mut self,

@@ -48,7 +48,7 @@ impl Records for Segments {
     ghost keeps = { λ segments markers offset. Stands segments.depth markers offset };
 
     // Reads the segment at an offset.
-    #[inline]
+    #[inline(always)]
     #[tactic(auto, using(crate::proofs::Jpeg::stands_on, crate::proofs::Jpeg::stands_stay, crate::proofs::Jpeg::segment_as, crate::proofs::Jpeg::shallow))]
     fn read_record<S: Source>(
         &mut self,
@@ -101,7 +101,7 @@ fn role_of(depth: u64, marker: u8) -> Role
 
 impl Segments {
     /// Reads the segment at an offset.
-    #[inline]
+    #[inline(always)]
     #[tactic(auto, using(imagesize_source::proofs::Runs::steps))]
     pub fn read_segment<S: Source>(
         &mut self,

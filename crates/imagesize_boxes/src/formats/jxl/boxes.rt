@@ -46,6 +46,7 @@ impl Records for Boxes {
     ghost keeps = { λ boxes held offset. concat held ≡ boxes.front };
 
     // Reads the box at an offset.
+    #[inline(always)]
     #[tactic(auto, using(crate::proofs::JxlBoxes::joined))]
     fn read_record<S: Source>(
         &mut self,

@@ -12,7 +12,7 @@ returns-in-Ok-Answer-clause-runs g c = λ first o t on.
     let runs = rw (c.in-Ok-Answer.field-0-is, known.same) at c.in-Ok-Answer.ensures.runs in
     rw (c.pass.ensures, c.counts-counts.ensures.is, c.in-Ok-Answer.answer-is)
     (strides_stop _ c.requires.follows _ (known.strides first o t on) _
-    (λ held keeps. record_back {b = b} _ (g.R.Records.said c.args.records.now held c.loop-answer.at) known.counts known.plain
+    (λ held keeps. record_back {b = b} _ (g.R.Records.said c.args.records.now held c.loop-answer.here) known.counts known.plain
     known.shown refl (runs held keeps)))
 
 pub returns-in-None-clause-runs : goal.returns-in-None-clause-runs
@@ -22,23 +22,23 @@ returns-in-None-clause-runs g c = λ first o t on.
     let runs = rw (c.in-Ok-Other.field-0-is, known.same) at c.in-Ok-Other.ensures.runs in
     let so_far = known.strides first o t on in
     let next = strides_on _ c.requires.follows _ so_far
-    (λ held. g.R.Records.keeps c.read_record.new.self held (c.loop-answer.at + c.in-Ok-Other.length)) _ _
-    (λ held keeps. record_back {b = b} _ (g.R.Records.said c.args.records.now held c.loop-answer.at) known.counts known.plain
+    (λ held. g.R.Records.keeps c.read_record.new.self held (c.loop-answer.here + c.in-Ok-Other.length)) _ _
+    (λ held keeps. record_back {b = b} _ (g.R.Records.said c.args.records.now held c.loop-answer.here) known.counts known.plain
     known.shown refl (runs held keeps))
     (rw c.in-Ok-Other.field-0-is at c.in-Ok-Other.ensures.keeps) in
-    let far : c.loop-answer.at + c.in-Ok-Other.length < 2 ^ 64 → ⊥ = rw c.in-Ok-Other.length-is at c.in-None.ensures in
+    let far : c.loop-answer.here + c.in-Ok-Other.length < 2 ^ 64 → ⊥ = rw c.in-Ok-Other.length-is at c.in-None.ensures in
     let ends = rw (c.read_record.ensures.same, known.same) at c.at_end.ensures.ends in
     rw (c.pass-in-None.ensures, c.counts-counts-in-None.ensures.is)
     (strides_past _ c.requires.follows _ next c.at_end.result (omega (arith, far))
-    (record_back {b = b} _ (g.R.Records.said c.args.records.now so_far.held c.loop-answer.at) known.counts known.plain known.shown refl
+    (record_back {b = b} _ (g.R.Records.said c.args.records.now so_far.held c.loop-answer.here) known.counts known.plain known.shown refl
     (runs so_far.held so_far.known)).sound_after c.at_end.ensures.goes_on
-    (λ held d kept short. ends held (c.loop-answer.at + c.in-Ok-Other.length) kept d
-    (c.loop-answer.at + c.in-Ok-Other.length) short))
+    (λ held d kept short. ends held (c.loop-answer.here + c.in-Ok-Other.length) kept d
+    (c.loop-answer.here + c.in-Ok-Other.length) short))
 
 pub returns-in-Err-clause-strides : goal.returns-in-Err-clause-strides
 returns-in-Err-clause-strides g c = λ none first o t on.
     rw (c.pass-in-Err.ensures, c.counts-before.ensures.is)
-    (strides_knows _ _ (λ held. g.R.Records.keeps c.read_record.new.self held c.loop-answer.at) c.in-Err.ensures.stays
+    (strides_knows _ _ (λ held. g.R.Records.keeps c.read_record.new.self held c.loop-answer.here) c.in-Err.ensures.stays
     (c.loop-answer.invariant.strides first o t on))
 
 pub returns-in-Err-2-clause-runs : goal.returns-in-Err-2-clause-runs
@@ -48,7 +48,7 @@ returns-in-Err-2-clause-runs g c = λ first o t on.
     let runs = rw known.same at c.in-Err.ensures.runs in
     rw (c.pass-in-Err-2.ensures, c.counts-counts-in-Err-2.ensures.is)
     (strides_out _ c.requires.follows _ (known.strides first o t on) _
-    (λ held keeps. record_back {b = b} _ (g.R.Records.said c.args.records.now held c.loop-answer.at) known.counts known.plain
+    (λ held keeps. record_back {b = b} _ (g.R.Records.said c.args.records.now held c.loop-answer.here) known.counts known.plain
     known.shown (sym c.is_failure.ensures ∙ c.if-is_failure.false) (runs held keeps)))
 
 pub loop-answer-preserved-in-Some : goal.loop-answer-preserved-in-Some
@@ -62,8 +62,8 @@ loop-answer-preserved-in-Some g c =
     let run = runs known.some.0 known.some.1 in
     let again = shown_again after.told after.budget (g.S.Claims.kept after.of.now) (g.S.Claims.claim after.of.now) after.counts.taken after.counts.position b
     (run.frame ∙ ap (λ s. s.frame) known.shown) in
-    let next : (c.loop-answer.at + c.in-Ok-Other.length < 2 ^ 64) ×
-    (c.in-Some.next ≡ c.loop-answer.at + c.in-Ok-Other.length) = rw c.in-Ok-Other.length-is at c.in-Some.ensures in
+    let next : (c.loop-answer.here + c.in-Ok-Other.length < 2 ^ 64) ×
+    (c.in-Some.next ≡ c.loop-answer.here + c.in-Ok-Other.length) = rw c.in-Ok-Other.length-is at c.in-Some.ensures in
     record {
       same = c.read_record.ensures.same ∙ known.same;
       some = rw next.1 ((known.some.0 ++ c.in-Ok-Other.field-0-0 ∷ []), knows known.some.0 known.some.1);
@@ -75,14 +75,14 @@ loop-answer-preserved-in-Some g c =
       nearer = rw next.1 (omega (
         arith,
         near.1,
-        ap (λ s. ahead_of s c.loop-answer.at) known.shown,
-        ap (λ s. ahead_of s (c.loop-answer.at + c.in-Ok-Other.length)) again,
+        ap (λ s. ahead_of s c.loop-answer.here) known.shown,
+        ap (λ s. ahead_of s (c.loop-answer.here + c.in-Ok-Other.length)) again,
         known.nearer,
       ));
       strides = λ first o t on.
           let more = strides_on _ c.requires.follows _ (known.strides first o t on)
-          (λ held. g.R.Records.keeps c.read_record.new.self held (c.loop-answer.at + c.in-Ok-Other.length)) _ _
-          (λ held keeps. record_back {b = b} _ (g.R.Records.said c.args.records.now held c.loop-answer.at) known.counts known.plain
+          (λ held. g.R.Records.keeps c.read_record.new.self held (c.loop-answer.here + c.in-Ok-Other.length)) _ _
+          (λ held keeps. record_back {b = b} _ (g.R.Records.said c.args.records.now held c.loop-answer.here) known.counts known.plain
           known.shown refl (runs held keeps)) knows in
           rw next.1 more;
     }

@@ -12,19 +12,19 @@ invariant-loop-answer g l =
     let b : State = rejoined a l.held.counts.taken l.held.counts.position in
     record {
       same : g.R.Records.said l.records ≡ g.R.Records.said l.fn.records;
-      some : (held : List _) × g.R.Records.keeps l.records held l.at;
+      some : (held : List _) × g.R.Records.keeps l.records held l.here;
       shows : g.S.Source.shows l.fn.source;
       counts : a.frame.counts ≡ true;
       plain : a.recorded ≡ None;
       shown : shown_state l.held.told l.held.budget (g.S.Claims.kept l.held.of.now) (g.S.Claims.claim l.held.of.now) l.held.counts.taken l.held.counts.position
           ≡ shown_by b;
       more : a.taken ≤ l.held.counts.taken;
-      nearer : ahead_of b l.at ≤ ahead_of a l.fn.offset;
+      nearer : ahead_of b l.here ≤ ahead_of a l.fn.offset;
       strides : (first : ℕ) (o : State) (t : Along _)
           → Strides (chain_of first (g.R.Records.said l.fn.records)) (λ held. g.R.Records.keeps l.fn.records held l.fn.offset) o a t
           l.fn.offset
-          → Strides (chain_of first (g.R.Records.said l.fn.records)) (λ held. g.R.Records.keeps l.records held l.at) o b t l.at;
+          → Strides (chain_of first (g.R.Records.said l.fn.records)) (λ held. g.R.Records.keeps l.records held l.here) o b t l.here;
     }
 
 abbrev pub decreases-loop-answer : goal.decreases-loop-answer
-decreases-loop-answer g l = ahead_of (rejoined (g.S.Source.state l.fn.source) l.held.counts.taken l.held.counts.position) l.at
+decreases-loop-answer g l = ahead_of (rejoined (g.S.Source.state l.fn.source) l.held.counts.taken l.held.counts.position) l.here
