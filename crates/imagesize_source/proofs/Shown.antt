@@ -1,5 +1,5 @@
 -- What is read of the bytes that a source holds, and what it is for that source.
-use Rattle.std.proofs.Common.{◌≡◌, ℕ, ◌+◌, ◌-◌, ◌^◌, ◌<◌, ◌≤◌, min, max, Bool, true, false, cond, leb, List, [], ◌∷◌, ◌++◌, length, take, drop, Option, None, Some, Result, Ok, Err, refl, sym, ap, ◌∙◌, subst, arith}
+use Rattle.std.proofs.Common.{◌≡◌, ℕ, ◌+◌, ◌-◌, ◌^◌, ◌<◌, ◌≤◌, min, max, Bool, true, false, cond, leb, List, [], ◌∷◌, ◌++◌, length, take, drop, None, Result, Ok, Err, refl, sym, ap, ◌∙◌, subst, arith}
 use Rattle.std.proofs.lemmas.Bool.Decides.{nat_tests}
 use Rattle.std.proofs.lemmas.List.{drop-take, length-drop, length-take, take-append-drop, take_all}
 use Rattle.std.proofs.Math.Seq.{drop-drop}
@@ -7,15 +7,15 @@ use Rattle.imagesize_source.specs.declared.halt.Halt.{Halt}
 use Rattle.imagesize_source.specs.declared.halt.Halt.TheVariants.{Failed}
 use Rattle.imagesize_source.specs.declared.span.Span.{Span}
 use Rattle.imagesize_source.specs.declared.text.Text.{Text}
-use Rattle.imagesize_source.specs.Input.{part, span_at, span_of}
-use Rattle.imagesize_source.specs.Reading.{Reads, is_faulted, is_failure, is_spent, part_read, text_part, text_read}
+use Rattle.imagesize_source.specs.Input.{part, span_at}
+use Rattle.imagesize_source.specs.Reading.{Reads, is_faulted, part_read, text_part, text_read}
 use Rattle.imagesize_source.specs.Shown.{AreShown}
 use Rattle.imagesize_source.specs.Layout.{Layout, layout_reads}
-use Rattle.imagesize_source.specs.State.{State, Held, Backing, Shown, Runs, Follows, IsSound, EndedBy, front_after, new_bytes, place_after, shown_state, shown_by, rejoined, state_after, step, total}
+use Rattle.imagesize_source.specs.State.{State, Held, Backing, Shown, Runs, Follows, EndedBy, front_after, new_bytes, place_after, shown_state, shown_by, rejoined, state_after, step, total}
 use Rattle.imagesize_source.specs.Text.{is_ended, text_front}
 use Rattle.imagesize_source.proofs.Agreement.{span-some, whole_span}
 use Rattle.imagesize_source.proofs.Counts.{total-span_at}
-use Rattle.imagesize_source.proofs.Parts.{part_front, part_length}
+use Rattle.imagesize_source.proofs.Parts.{part_front}
 use Rattle.imagesize_source.proofs.Texts.{front_more}
 use Rattle.std.specs.Prelude.{IfErr, option_map}
 

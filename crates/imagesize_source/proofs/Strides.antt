@@ -1,14 +1,13 @@
 -- A walk along a chain that can be left and gone on with: what leads to an offset leads each input there that shares what was read.
 use Rattle.std.proofs.Common.{◌≡◌, ℕ, ◌^◌, ◌≤◌, List, [], ◌∷◌, ◌++◌, length, true, false, Some, Result, Ok, Err, refl, ap, ◌∙◌, sym, subst, arith}
 use Rattle.imagesize_source.specs.declared.halt.Halt.{Halt}
-use Rattle.imagesize_source.specs.declared.span.Span.{Span}
 use Rattle.imagesize_source.specs.Chain.{Said, Decided, Next, Chain, Along, next_record, verdict, chain_from, Advances}
 use Rattle.imagesize_source.specs.Layout.{layout_reads}
 use Rattle.imagesize_source.specs.Reading.{is_faulted, is_stopped, just, map_answer, put_behind, uncounted, with_answer}
 use Rattle.imagesize_source.specs.State.{State, Runs, Missed, IsSound, state_after}
 use Rattle.imagesize_source.specs.Sharing.{Shares, Stood}
 use Rattle.imagesize_source.proofs.Chains.{chain_stop}
-use Rattle.imagesize_source.specs.Strides.{Reached, Strides}
+use Rattle.imagesize_source.specs.Strides.{Strides}
 use Rattle.imagesize_source.proofs.Reached.{reached_start, reached_now, same_input, walk_on, walk_stop, walk_out}
 use Rattle.imagesize_source.proofs.Runs.{past-held, past-none, past-past, plain_end, without_fault}
 use Rattle.imagesize_source.proofs.Sharing.{leads_on}

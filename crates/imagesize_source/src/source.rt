@@ -35,8 +35,8 @@ pub trait Source: Claims {
     fn refusal(&self, halt: Halt) -> ImageError
         ensures { result ≡ error_by (state self.now).failure (state self.now).frame.budget halt };
 
-    /// The bytes from an offset on that the source holds, as a source of their own. Reads of them make no call of a reader.
-    /// `pass` counts them afterwards. This call may always return `None`.
+    /// The bytes from an offset on that the source holds, as a source of their own. A read of them makes no call of a reader.
+    /// `pass` counts these reads afterwards. This call may always return `None`.
     #[inline(always)]
     fn held(&self, _offset: u64) -> Option<HeldSource<'_, Self>>
         ensures shows { IfSome result (λ held. shows self.now) }
@@ -47,7 +47,7 @@ pub trait Source: Claims {
         None
     }
 
-    /// Counts what was read of the bytes that `held` returned, and nothing else has changed since.
+    /// Counts what was read of the bytes that `held` returned. No other read was made since.
     fn pass(&mut self, counts: Counts)
         requires shows { shows self.old }
         requires paid { ((state self.old).taken ≤ counts.taken) × (counts.taken ≤ (state self.old).frame.budget) }

@@ -25,8 +25,8 @@ pub trait Claims {
     ghost kept: { Self → ℕ } = { λ _. 0 };
 }
 
-/// The bytes that another source holds from an offset on, as a source. A read of any other byte fails, and so does one that the
-/// budget does not have. So a read is a comparison, a copy and a count.
+/// The bytes that another source holds from an offset on, as a source. A read of any other byte fails, and so does a read that
+/// the budget does not have. A read is two comparisons, a copy and a count, and makes no call of a reader.
 #[derive(Drop)]
 pub struct HeldSource<'a, S: Claims> {
     bytes: &'a [u8],
