@@ -146,7 +146,7 @@ impl<R: Told> Source for ReaderSource<'_, R> {
             present,
             ..
         } = &mut self.ledger;
-        progress.taken = taken;
+        progress.taken = taken.min(progress.budget);
         progress.position = position;
         *present = position;
     }

@@ -47,11 +47,11 @@ pub trait Source: Claims {
         None
     }
 
-    /// Counts what was read of the bytes that `held` returned. No other read was made since.
+    /// Counts what was read of the bytes that `held` returned. No other read was made since. Only a source that shows bytes does
+    /// anything.
     fn pass(&mut self, counts: Counts)
-        requires shows { shows self.old }
-        requires paid { ((state self.old).taken ≤ counts.taken) × (counts.taken ≤ (state self.old).frame.budget) }
-        ensures { state self.new ≡ rejoined (state self.old) counts.taken counts.position };
+        ensures { shows self.old → (state self.old).taken ≤ counts.taken → counts.taken ≤ (state self.old).frame.budget
+            → state self.new ≡ rejoined (state self.old) counts.taken counts.position };
 
     /// Reads the bytes from an offset on into the buffer, as far as there are any, and returns how many. Fails with a `Halt`.
     fn read_at(&mut self, offset: u64, buffer: &mut [u8]) -> Result<usize, Halt>

@@ -10,7 +10,11 @@ returns-in-Ok-Answer-clause-runs g c = λ first o t on.
     let known = c.loop-answer.invariant in
     let b : State = rejoined (g.S.Source.state c.args.source.now) c.loop-answer.held.counts.taken c.loop-answer.held.counts.position in
     let runs = rw (c.in-Ok-Answer.field-0-is, known.same) at c.in-Ok-Answer.ensures.runs in
-    rw (c.pass.ensures, c.counts-counts.ensures.is, c.in-Ok-Answer.answer-is)
+    let run = runs known.some.0 known.some.1 in
+    let counts = c.counts-counts.ensures in
+    let passed = c.pass.ensures known.shows (omega (arith, ap (λ k. k.taken) counts.is, run.taken, known.more))
+    (omega (arith, counts.paid, ap (λ f. f.budget) (run.frame ∙ ap (λ s. s.frame) known.shown))) in
+    rw (passed, counts.is, c.in-Ok-Answer.answer-is)
     (strides_stop _ c.requires.follows _ (known.strides first o t on) _
     (λ held keeps. record_back {b = b} _ (g.R.Records.said c.args.records.now held c.loop-answer.here) known.counts known.plain
     known.shown refl (runs held keeps)))
@@ -28,7 +32,11 @@ returns-in-None-clause-runs g c = λ first o t on.
     (rw c.in-Ok-Other.field-0-is at c.in-Ok-Other.ensures.keeps) in
     let far : c.loop-answer.here + c.in-Ok-Other.length < 2 ^ 64 → ⊥ = rw c.in-Ok-Other.length-is at c.in-None.ensures in
     let ends = rw (c.read_record.ensures.same, known.same) at c.at_end.ensures.ends in
-    rw (c.pass-in-None.ensures, c.counts-counts-in-None.ensures.is)
+    let run = runs known.some.0 known.some.1 in
+    let counts = c.counts-counts-in-None.ensures in
+    let passed = c.pass-in-None.ensures known.shows (omega (arith, ap (λ k. k.taken) counts.is, run.taken, known.more))
+    (omega (arith, counts.paid, ap (λ f. f.budget) (run.frame ∙ ap (λ s. s.frame) known.shown))) in
+    rw (passed, counts.is)
     (strides_past _ c.requires.follows _ next c.at_end.result (omega (arith, far))
     (record_back {b = b} _ (g.R.Records.said c.args.records.now so_far.held c.loop-answer.here) known.counts known.plain known.shown refl
     (runs so_far.held so_far.known)).sound_after c.at_end.ensures.goes_on
@@ -37,7 +45,11 @@ returns-in-None-clause-runs g c = λ first o t on.
 
 pub returns-in-Err-clause-strides : goal.returns-in-Err-clause-strides
 returns-in-Err-clause-strides g c = λ none first o t on.
-    rw (c.pass-in-Err.ensures, c.counts-before.ensures.is)
+    let known = c.loop-answer.invariant in
+    let counts = c.counts-before.ensures in
+    let passed = c.pass-in-Err.ensures known.shows (omega (arith, ap (λ k. k.taken) counts.is, known.more))
+    (omega (arith, counts.paid, ap (λ s. s.frame.budget) known.shown)) in
+    rw (passed, counts.is)
     (strides_knows _ _ (λ held. g.R.Records.keeps c.read_record.new.self held c.loop-answer.here) c.in-Err.ensures.stays
     (c.loop-answer.invariant.strides first o t on))
 
@@ -46,7 +58,11 @@ returns-in-Err-2-clause-runs g c = λ first o t on.
     let known = c.loop-answer.invariant in
     let b : State = rejoined (g.S.Source.state c.args.source.now) c.loop-answer.held.counts.taken c.loop-answer.held.counts.position in
     let runs = rw known.same at c.in-Err.ensures.runs in
-    rw (c.pass-in-Err-2.ensures, c.counts-counts-in-Err-2.ensures.is)
+    let run = runs known.some.0 known.some.1 in
+    let counts = c.counts-counts-in-Err-2.ensures in
+    let passed = c.pass-in-Err-2.ensures known.shows (omega (arith, ap (λ k. k.taken) counts.is, run.taken, known.more))
+    (omega (arith, counts.paid, ap (λ f. f.budget) (run.frame ∙ ap (λ s. s.frame) known.shown))) in
+    rw (passed, counts.is)
     (strides_out _ c.requires.follows _ (known.strides first o t on) _
     (λ held keeps. record_back {b = b} _ (g.R.Records.said c.args.records.now held c.loop-answer.here) known.counts known.plain
     known.shown (sym c.is_failure.ensures ∙ c.if-is_failure.false) (runs held keeps)))
