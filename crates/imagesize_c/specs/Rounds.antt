@@ -1,15 +1,17 @@
 -- What the spans that were passed to a probe say, and what the calls over it write.
-use Rattle.std.specs.Prelude.{◌≡◌, ℕ, ◌+◌, ◌-◌, ◌<◌, ◌≤◌, ◌^◌, List, length, min, Option, Result}
-use Rattle.imagesize.specs.Parted.{IfFound, IfWanted}
+use Rattle.std.specs.Prelude.{◌≡◌, ℕ, ◌+◌, ◌-◌, ◌<◌, ◌≤◌, ◌^◌, false, List, length, min, Option, Result}
+use Rattle.imagesize.specs.Meaning.{meaning}
+use Rattle.imagesize.specs.Parted.{IfFound, IfWanted, texts_of}
 use Rattle.imagesize.specs.declared.parts.PartsAnswer.{PartsAnswer}
 use Rattle.imagesize.specs.declared.parts.PartsAnswer.TheVariants.{Found, Wanted}
 use Rattle.imagesize.specs.declared.types.ImageType.{ImageType}
 use Rattle.imagesize_c.specs.Status.{status_of}
 use Rattle.imagesize_c.specs.Told.{TellsSize, TellsType}
+use Rattle.imagesize_pieces.specs.Stream.{EndsAt}
 use Rattle.imagesize_source.specs.declared.error.ImageError.{ImageError}
 use Rattle.imagesize_source.specs.declared.span.Span.{Span}
 use Rattle.imagesize_stream.specs.Given.{HasPart}
-use Rattle.imagesize_stream.specs.Parts.{MayBe, next_of, total_of}
+use Rattle.imagesize_stream.specs.Parts.{MayBe, latest_of, next_of, total_of}
 use Rattle.imagesize_stream.specs.declared.parts.PartsProbe.{PartsProbe}
 use Rattle.imagesize_types.specs.declared.size.ImageSize.{ImageSize}
 
@@ -31,6 +33,14 @@ pub record TakesPart (old new : PartsProbe) (offset : ℕ) (bytes : List ℕ) : 
       → IfWanted (next_of new) (λ next. w.start < next.start))
   pub beyond : IfWanted (next_of old) (λ w. offset ≤ w.start → w.start + w.len ≤ offset + length bytes
       → IfWanted (next_of new) (λ next. w.start + w.len ≤ next.start))
+
+-- A requested span ends with the first 18 bytes as long as fewer than 12 are there. For a type without texts, one that ends after
+-- these ends where a read ends that the result depends on. In a record it ends at the latest with the last byte that the record may
+-- read, and before the first record with the first 132 bytes.
+pub record EndsEarly (probe : PartsProbe) (w : Span) : Type 0 where
+  pub early : w.start < 12 → w.start + w.len ≤ 18
+  pub exact : (d : List ℕ) → MayBe probe d → texts_of d ≡ false → 18 < w.start + w.len → EndsAt (w.start + w.len) (meaning d 0).marks
+  pub latest : w.start + w.len ≤ latest_of probe
 
 -- The status of a result, with its type and its size. Without a result, the span that is requested.
 abbrev pub TellsNext : PartsAnswer (Option ImageType × Result ImageSize ImageError)

@@ -5,7 +5,7 @@ ghost use Rattle.std.specs.Ptr.{lies_at, room_at};
 ghost use Rattle.std.specs.Result.{result_ok};
 ghost use Rattle.imagesize.specs.Meaning.{kind_of, meaning};
 ghost use Rattle.imagesize.specs.Parted.{IsWithin, texts_of};
-ghost use Rattle.imagesize_c.specs.Rounds.{Opens, TakesPart, TellsNext};
+ghost use Rattle.imagesize_c.specs.Rounds.{EndsEarly, Opens, TakesPart, TellsNext};
 ghost use Rattle.imagesize_c.specs.Status.{is_answered, is_stop_status, is_wanted, status_of};
 ghost use Rattle.imagesize_c.specs.Told.{TellsSize, TellsType};
 ghost use Rattle.imagesize_pieces.specs.Stream.{AllBelow};
@@ -66,8 +66,9 @@ pub unsafe extern "C" fn imagesize_parts_answer(
     ensures within { (d : List ℕ) → MayBe held d → is_wanted result ≡ true → (wanted.new.start < 12) ⊎ (18 ≤ wanted.new.start) → HasMarked wanted.new d }
     ensures fits { is_wanted result ≡ true → IsWithin (total_of held) wanted.new }
 
-    // The span has 1,024 bytes at most. Unless the type is a text format, it has 132 at most.
-    ensures short { is_wanted result ≡ true → wanted.new.len ≤ 1024 }
+    // The span has 1,024 bytes at most. Unless the type is a text format, it has 132 at most, and past the first 18 bytes it ends where
+    // a read ends that the result depends on.
+    ensures short { is_wanted result ≡ true → (wanted.new.len ≤ 1024) × EndsEarly held wanted.new }
     ensures shorter { (d : List ℕ) → MayBe held d → is_wanted result ≡ true → texts_of d ≡ false → wanted.new.len ≤ 132 }
 
     // Values that are not found do not change.
@@ -117,7 +118,7 @@ fn answer_by(
     ensures wants { (d : List ℕ) → MayBe parts.now d → is_wanted result ≡ true → AllBelow wanted.new.start (meaning d 0).marks → ⊥ }
     ensures within { (d : List ℕ) → MayBe parts.now d → is_wanted result ≡ true → (wanted.new.start < 12) ⊎ (18 ≤ wanted.new.start) → HasMarked wanted.new d }
     ensures fits { is_wanted result ≡ true → IsWithin (total_of parts.now) wanted.new }
-    ensures short { is_wanted result ≡ true → wanted.new.len ≤ 1024 }
+    ensures short { is_wanted result ≡ true → (wanted.new.len ≤ 1024) × EndsEarly parts.now wanted.new }
     ensures shorter { (d : List ℕ) → MayBe parts.now d → is_wanted result ≡ true → texts_of d ≡ false → wanted.new.len ≤ 132 }
     ensures unknown { is_wanted result ≡ true → (number.new ≡ number.old) × (compression.new ≡ compression.old) }
     ensures sides { is_answered result ≡ false → (width.new ≡ width.old) × (height.new ≡ height.old) }

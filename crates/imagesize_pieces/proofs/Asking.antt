@@ -12,7 +12,7 @@ use Rattle.imagesize_source.specs.State.{State, Misses}
 use Rattle.imagesize_source.proofs.Agreement.{covered-left, covered-one, covered-right, covered_one_of}
 use Rattle.imagesize_source.proofs.Among.{Among, covered-any, head_is, later_cut, middle, tail_is}
 use Rattle.imagesize_source.specs.Sharing.{Shares}
-use Rattle.imagesize_pieces.specs.Stream.{AllBelow, Begins, Says, came, end_of, stream_input, stream_state}
+use Rattle.imagesize_pieces.specs.Stream.{AllBelow, EndsAt, Begins, Says, came, end_of, stream_input, stream_state}
 use Rattle.imagesize_pieces.proofs.Beginning.{Run, begins_left, begins_shares, shares_begun, unknown_behind}
 use Rattle.imagesize_pieces.proofs.Called.{Called, all_seen, answered, is_short, some_is}
 
@@ -104,16 +104,16 @@ alike_among {X} d e f g made rest mark m alike all shares = elim alike [
 last_in : (s : Span) → 0 < s.len → has_offset s (s.start + s.len - 1) ≡ true
 last_in s some = grind (arith, nat_tests)
 
--- where that mark ends
-pub mark_ends : {a b : State} (marks : List Span) (m : Missing) (is : Misses a b marks m) → 0 < m.sure → (low high : ℕ)
-    → low ≤ m.start → ((offset : ℕ) → is_covered marks offset ≡ true → offset < high)
-    → (low < is.mark.start + is.mark.len) × (is.mark.start + is.mark.len ≤ min (m.start + m.most) high)
-mark_ends marks m is some low high above below =
+-- That mark ends where the read that missed a byte ends.
+pub mark_ends : {a b : State} (marks : List Span) (m : Missing) (is : Misses a b marks m) → 0 < m.sure → m.sure ≡ m.most → (high : ℕ)
+    → ((offset : ℕ) → is_covered marks offset ≡ true → offset < high)
+    → (is.mark.start + is.mark.len ≡ m.start + m.most) × (m.start + m.most ≤ high)
+mark_ends marks m is some sure high below =
     let begins = is.behind in let within = is.within in let reaches = is.reaches in
     let long : 0 < is.mark.len = omega (arith, begins, within, some) in
     let last = below (is.mark.start + is.mark.len - 1) (subst (λ s. is_covered s (is.mark.start + is.mark.len - 1) ≡ true)
     (sym is.all) (covered_one_of is.made is.mark is.rest (is.mark.start + is.mark.len - 1) (last_in is.mark long))) in
-    (omega (arith, within, some, above), omega (arith, reaches, last, long))
+    (omega (arith, within, sure, reaches), omega (arith, within, sure, last, long))
 
 -- a mark that ends there
 pub ends_among : (mark : Span) (spans : List Span) (low high : ℕ) → Among mark spans → low < mark.start + mark.len
@@ -192,18 +192,18 @@ module _ {X : Type 0} (f : List ℕ → Reads X) (same : IsShared f) (told start
     -- and one of these ends after the bytes so far, if no text is read
     pub closed_begun : start ≤ what.0.start → (d : List ℕ) → Begins front told d → Alike false fill d (f fill) (f d)
         → (high : ℕ) → ((offset : ℕ) → is_covered (f fill).marks offset ≡ true → offset < high)
-        → EndsBetween (length front) (min (end_of missed) high) (f d).marks
+        → EndsAt (min (end_of missed) high) (f d).marks
     closed_begun above d begins alike high below =
         let is = what.2 in
         let ends : end_of missed ≡ what.0.start + what.0.most = ap end_of what.1 in
-        let at = mark_ends (f fill).marks what.0 is (call.lacks what.0 what.1).0 (length front) high (what_behind above).0
-        below in
-        ends_among is.mark (f d).marks (length front) (min (end_of missed) high)
+        let none = call.lacks what.0 what.1 in let some = none.0 in
+        let at = mark_ends (f fill).marks what.0 is some (call.sure what.0 what.1 above) high below in
+        ends_among is.mark (f d).marks (min (end_of missed) high - 1) (min (end_of missed) high)
         (alike_among fill d (f fill) (f d) is.made is.rest is.mark what.0.start alike is.all
         (begins_shares told start kept unread front run fits d
         (is.made ++ span_at is.mark.start (what.0.start - is.mark.start)) begins
         (λ p here. call.seen p (subst (λ s. is_covered s p ≡ true) (sym (some_is is.recorded)) here))))
-        at.0 (omega (arith, at.1, ends))
+        (omega (arith, at.0, at.1, ends, some, none.1)) (omega (arith, at.0, at.1, ends))
 
     -- An input of the told length whose marks all lie in the bytes so far would have missed nothing.
     pub complete_begun : (d : List ℕ) → Begins front told d → length d ≡ told

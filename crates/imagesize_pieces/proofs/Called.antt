@@ -10,6 +10,7 @@ use Rattle.imagesize_source.specs.declared.halt.Halt.{Halt}
 use Rattle.imagesize_source.specs.declared.source.parts.Missing.{Missing}
 use Rattle.imagesize_source.specs.declared.span.Span.{Span}
 use Rattle.imagesize_source.proofs.KnownReadings.{past-parts}
+use Rattle.imagesize_pieces.specs.Stream.{EndsSure, start_of}
 
 -- The readings f on known parts: what they saw and missed, and their answer.
 pub record Called {X : Type 0} (f : List ℕ → Reads X) (n : ℕ) (spans : List Span) (bytes : List ℕ) (log : List Span)
@@ -19,6 +20,7 @@ pub record Called {X : Type 0} (f : List ℕ → Reads X) (n : ℕ) (spans : Lis
       (f (filled_input n spans bytes))
   pub seen : AllKnown n spans bytes log
   pub lacks : ForSome missed (Lacks n spans bytes)
+  pub sure : ForSome missed (EndsSure (start_of spans))
 
 pub is_short : (n : ℕ) → n < 2 ^ 63 → (parts_state n [] [] [] None).held.honest ≡ true
 is_short n short = grind (arith, nat_tests)
@@ -90,13 +92,14 @@ pub called : {X : Type 0} (f : List ℕ → Reads X) (n m : ℕ) (spans others :
     (before missed : Option Missing) (r : Result X Halt) → first ≡ [] → before ≡ None
     → Runs (parts_state n spans bytes first before) (parts_state m others content log missed) r
     (f (filled_input n spans bytes))
-    → AllKnown m others content log → ForSome missed (Lacks m others content) → Called f n spans bytes log missed r
-called f n m spans others bytes content first log before missed r none unmissed runs seen lacks =
+    → AllKnown m others content log → ForSome missed (Lacks m others content) → ForSome missed (EndsSure (start_of others))
+    → Called f n spans bytes log missed r
+called f n m spans others bytes content first log before missed r none unmissed runs seen lacks sure =
     let same = same_frame n m spans others bytes content first log before missed runs.frame in
     let one = moved (λ x y z. Runs (parts_state n spans bytes first before) (parts_state x y z log missed) r
     (f (filled_input n spans bytes))
-    × AllKnown x y z log × ForSome missed (Lacks x y z)) n m spans others bytes content same.0 same.1 same.2
-    (runs, seen, lacks) in
+    × AllKnown x y z log × ForSome missed (Lacks x y z) × ForSome missed (EndsSure (start_of y))) n m spans others bytes content same.0 same.1 same.2
+    (runs, seen, lacks, sure) in
     record {
       runs = subst (λ l. Runs (parts_state n spans bytes l None) (parts_state n spans bytes log missed) r
           (f (filled_input n spans bytes))) none
@@ -105,4 +108,5 @@ called f n m spans others bytes content first log before missed r none unmissed 
           unmissed one.0);
       seen = one.1;
       lacks = one.2;
+      sure = one.3;
     }

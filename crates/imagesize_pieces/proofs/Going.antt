@@ -18,7 +18,7 @@ use Rattle.imagesize_source.proofs.Chains.{chain_next, chain_stop, chain_unfolds
 use Rattle.imagesize_source.proofs.Runs.{past-recorded}
 use Rattle.imagesize_source.specs.Sharing.{Stood}
 use Rattle.imagesize_source.proofs.Known.{length-filled_input}
-use Rattle.imagesize_pieces.specs.Stream.{Begins, Needs, Reach, came, end_of, stream_input, stream_state}
+use Rattle.imagesize_pieces.specs.Stream.{Begins, EndsSure, Needs, Reach, came, end_of, stream_input, stream_state}
 use Rattle.imagesize_pieces.proofs.Asking.{alike_among, alike_covered, ends_among, mark_ends, missed_is, missed_covered}
 use Rattle.imagesize_pieces.proofs.Beginning.{Run, begins_shares, unknown_behind}
 use Rattle.imagesize_pieces.proofs.Called.{is_short, moved, some_is}
@@ -173,11 +173,11 @@ module _ {C X : Type 0} (c : Chain C X) (P : List C → Type 0) (t : Along C) (t
       (is.made ++ span_at is.mark.start (what.0.start - is.mark.start)) begins seen_known)
 
   -- An input of the told length depends on it.
-  pub marked_left : start ≤ t.offset → ((e : List ℕ) → Advances c e) → (d : List ℕ) → Begins front told d
+  pub marked_left : ForSome missed (EndsSure start) → start ≤ t.offset → ((e : List ℕ) → Advances c e) → (d : List ℕ) → Begins front told d
       → length d ≡ told → (texts : Bool) (high : ℕ) → AllRead texts (c.said stood.held offset)
       → Reach offset high (c.said stood.held offset)
       → Needs texts (max (length front) offset) (min (end_of missed) high) (chain_from c d t).marks
-  marked_left from adv d begins as_long texts high read reach =
+  marked_left sure from adv d begins as_long texts high read reach =
       let is = what.2 in
       let none = lacks what.0 what.1 in let some = none.0 in let few = none.1 in
       let here = record_covered d begins as_long in
@@ -190,8 +190,8 @@ module _ {C X : Type 0} (c : Chain C X) (P : List C → Type 0) (t : Along C) (t
       (any_right P stood.made (chain_from c d u).marks
       (subst (λ w. list_any P w.marks ≡ true) (sym (chain_unfolds c d u (adv d)))
       (onward_any (next_record c d u).marks (next_record c d u).answer (follows c d u.held) P among))) in
-      let at = mark_ends (next_record c fill u).marks what.0 is some (max (length front) offset) high
-      (omega (arith, behind, between.0))
+      let at = mark_ends (next_record c fill u).marks what.0 is some
+      (sure what.0 what.1 (omega (arith, ahead_begun, from, between.0))) high
       (λ p there. (reach_covered fill offset high (c.said stood.held offset) reach p there).1) in (
         (
           what.0.start,
@@ -201,8 +201,8 @@ module _ {C X : Type 0} (c : Chain C X) (P : List C → Type 0) (t : Along C) (t
               (sym (covered-any (next_record c d u).marks what.0.start) ∙ here),
         ),
         λ no_text. onward
-            (λ s. leb (suc (max (length front) offset)) (s.start + s.len) && leb (s.start + s.len) (min (end_of missed) high))
-            (ends_among is.mark (next_record c d u).marks (max (length front) offset) (min (end_of missed) high)
+            (λ s. leb (suc (min (end_of missed) high - 1)) (s.start + s.len) && leb (s.start + s.len) (min (end_of missed) high))
+            (ends_among is.mark (next_record c d u).marks (min (end_of missed) high - 1) (min (end_of missed) high)
             (record_among d begins as_long (subst (λ b. AllRead b (c.said stood.held offset)) no_text read))
-            at.0 (omega (arith, at.1, ends))),
+            (omega (arith, at.0, at.1, ends, some, few)) (omega (arith, at.0, at.1, ends))),
       )

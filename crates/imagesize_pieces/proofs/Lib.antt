@@ -1,6 +1,7 @@
 pub mod Asking
 pub mod Beginning
 pub mod Called
+pub mod Endless
 pub mod Going
 pub mod Reaching
 pub mod Keeping

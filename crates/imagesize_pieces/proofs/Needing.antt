@@ -1,5 +1,5 @@
 -- What a result needs, between wider bounds and after other spans.
-use Rattle.std.proofs.Common.{◌≡◌, ℕ, suc, leb, ◌+◌, ◌≤◌, Bool, true, false, ◌&&◌, List, ◌++◌, Result, Ok, Err, refl, sym, ◌∙◌, subst, arith}
+use Rattle.std.proofs.Common.{◌≡◌, ℕ, suc, leb, ◌+◌, ◌-◌, ◌<◌, ◌≤◌, Bool, true, false, ◌&&◌, List, ◌++◌, Result, Ok, Err, refl, sym, ◌∙◌, subst, arith}
 use Rattle.std.specs.List.{list_any}
 use Rattle.std.proofs.lemmas.Bool.Decides.{nat_tests}
 use Rattle.imagesize_source.specs.declared.halt.Halt.{Halt}
@@ -7,7 +7,7 @@ use Rattle.imagesize_source.specs.declared.span.Span.{Span}
 use Rattle.imagesize_source.specs.Agreement.{EndsBetween, has_offset}
 use Rattle.imagesize_source.specs.Reading.{Reads, go_on}
 use Rattle.imagesize_source.proofs.Among.{any_left, any_more, any_right, covered-any}
-use Rattle.imagesize_pieces.specs.Stream.{Needs}
+use Rattle.imagesize_pieces.specs.Stream.{EndsAt, Needs, NeedsAmong}
 
 pub ends_wider : (low high less more : ℕ) (spans : List Span) → less ≤ low → high ≤ more → EndsBetween low high spans
     → EndsBetween less more spans
@@ -15,11 +15,23 @@ ends_wider low high less more spans early late ends =
     any_more (λ s. leb (suc low) (s.start + s.len) && leb (s.start + s.len) high)
     (λ s. leb (suc less) (s.start + s.len) && leb (s.start + s.len) more) spans (λ s is. grind (arith, nat_tests)) ends
 
-pub needs_wider : (texts : Bool) (low high less more : ℕ) (spans : List Span) → less ≤ low → high ≤ more
+pub needs_wider : (texts : Bool) (low high less more : ℕ) (spans : List Span) → less ≤ low → high ≡ more
     → Needs texts low high spans → Needs texts less more spans
-needs_wider texts low high less more spans early late needs = (
+needs_wider texts low high less more spans early same needs = (
+  (needs.0.0, omega (arith, needs.0.1, early), omega (arith, needs.0.2, same), needs.0.3),
+  λ none. subst (λ e. EndsAt e spans) same (needs.1 none),
+)
+
+-- a read that ends at an offset ends between wider bounds
+pub ends_at_wider : (end less more : ℕ) (spans : List Span) → less < end → end ≤ more → EndsAt end spans → EndsBetween less more spans
+ends_at_wider end less more spans early late ends =
+    ends_wider (end - 1) end less more spans (omega (arith, early)) late ends
+
+pub needs_among : (texts : Bool) (low high less more : ℕ) (spans : List Span) → less ≤ low → high ≤ more
+    → Needs texts low high spans → NeedsAmong texts less more spans
+needs_among texts low high less more spans early late needs = (
   (needs.0.0, omega (arith, needs.0.1, early), omega (arith, needs.0.2, late), needs.0.3),
-  λ none. ends_wider low high less more spans early late (needs.1 none),
+  λ none. ends_at_wider high less more spans (omega (arith, needs.0.1, needs.0.2, early)) late (needs.1 none),
 )
 
 -- what holds for a mark of the first readings holds for one of all
@@ -40,7 +52,7 @@ needs_any texts low high spans all more needs = (
     covered-any all needs.0.0
         ∙ more (λ s. has_offset s needs.0.0) (sym (covered-any spans needs.0.0) ∙ needs.0.3),
   ),
-  λ none. more (λ s. leb (suc low) (s.start + s.len) && leb (s.start + s.len) high) (needs.1 none),
+  λ none. more (λ s. leb (suc (high - 1)) (s.start + s.len) && leb (s.start + s.len) high) (needs.1 none),
 )
 
 pub needs_behind : (texts : Bool) (low high : ℕ) (before spans all : List Span) → all ≡ before ++ spans
@@ -53,7 +65,7 @@ pub needs_texts : (texts : Bool) (low high : ℕ) (spans : List Span) → Needs 
     → Needs texts low high spans
 needs_texts texts low high spans needs = (needs.0, λ none. needs.1 refl)
 
-pub needs_as : {texts other : Bool} (low high less more : ℕ) (spans : List Span) → texts ≡ other → less ≤ low → high ≤ more
+pub needs_as : {texts other : Bool} (low high less more : ℕ) (spans : List Span) → texts ≡ other → less ≤ low → high ≡ more
     → Needs texts low high spans → Needs other less more spans
 needs_as {texts} {other} low high less more spans same early late needs =
     subst (λ t. Needs t less more spans) same (needs_wider texts low high less more spans early late needs)

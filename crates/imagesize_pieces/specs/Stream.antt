@@ -32,9 +32,17 @@ AllBelow n spans = (offset : ℕ) → is_covered spans offset ≡ true → offse
 abbrev pub SomeBetween : ℕ → ℕ → List Span → Type 0
 SomeBetween low high spans = (offset : ℕ) × (low ≤ offset) × (offset < high) × (is_covered spans offset ≡ true)
 
--- What a result still needs lies between these offsets: some byte, and if no text is read, the end of a read.
+-- a read of these spans ends at this offset
+abbrev pub EndsAt : ℕ → List Span → Type 0
+EndsAt end spans = EndsBetween (end - 1) end spans
+
+-- What a result still needs lies between these offsets: some byte, and if no text is read, a read ends at the second one.
 abbrev pub Needs : Bool → ℕ → ℕ → List Span → Type 0
-Needs texts low high spans = SomeBetween low high spans × (texts ≡ false → EndsBetween low high spans)
+Needs texts low high spans = SomeBetween low high spans × (texts ≡ false → EndsAt high spans)
+
+-- The same, with the end of a read anywhere between these offsets.
+abbrev pub NeedsAmong : Bool → ℕ → ℕ → List Span → Type 0
+NeedsAmong texts low high spans = SomeBetween low high spans × (texts ≡ false → EndsBetween low high spans)
 
 -- Every input that begins with these bytes has this result, with the same spans.
 pub record Says {X : Type 0} (front : List ℕ) (told : ℕ) (reads : List ℕ → Reads X) (answer : Result X Halt) : Type 0 where
@@ -66,6 +74,15 @@ stream_input told start kept chunk = filled_input told (came start kept chunk) (
 -- these bytes as a source
 abbrev pub stream_state : ℕ → ℕ → List ℕ → List ℕ → List Span → Option Missing → State
 stream_state told start kept chunk seen missed = parts_state told (came start kept chunk) (kept ++ chunk) seen missed
+
+-- A read that missed a byte from `start` on reads all that it requests, if no missing byte ends its text.
+abbrev pub EndsSure : ℕ → Missing → Type 0
+EndsSure start m = start ≤ m.start → m.sure ≡ m.most
+
+-- where the first span starts
+abbrev pub start_of : List Span → ℕ
+start_of [] = 0
+start_of (s ∷ spans) = s.start
 
 -- the offset after the last byte that a read requests that missed bytes
 abbrev pub end_of : Option Missing → ℕ

@@ -34,7 +34,7 @@ pub fn read_front<F: Fixed>(fixed: &F, bytes: &[u8], told: u64) -> (Result<F::An
     ensures complete { is_faulted result.0 ≡ true → (d : List ℕ) → Begins bytes.now told d → length d ≡ told
         → AllBelow (length bytes.now) (layout_reads d (F.layout fixed.now)).marks → ⊥ }
 
-    // The value depends on a missing byte that the failed read requests. If no text is read, that read ends among them.
+    // The value depends on a missing byte that the failed read requests. If no text is read, that read ends with the last of them.
     ensures marked { is_faulted result.0 ≡ true → (d : List ℕ) → Begins bytes.now told d → length d ≡ told
         → (texts : Bool) (high : ℕ) → AllRead texts (F.layout fixed.now) → Reach 0 high (F.layout fixed.now)
         → Needs texts (length bytes.now) (min result.1 high) (layout_reads d (F.layout fixed.now)).marks }

@@ -6,8 +6,8 @@ ghost use Rattle.imagesize_source.specs.Input.{part, span_at};
 ghost use Rattle.imagesize_source.specs.Known.{AllKnown, Lacks};
 ghost use Rattle.imagesize_source.specs.Reading.{part_read, text_read, map_answer};
 ghost use Rattle.imagesize_source.specs.State.{Runs};
-ghost use Rattle.imagesize_source.specs.Text.{is_ended};
-ghost use Rattle.imagesize_pieces.specs.Stream.{byte_at, came, end_of, run_at, stream_input, stream_state};
+ghost use Rattle.imagesize_source.specs.Text.{delimits, is_ended};
+ghost use Rattle.imagesize_pieces.specs.Stream.{EndsSure, byte_at, came, end_of, run_at, stream_input, stream_state};
 
 use crate::buffer::bytes_behind;
 use imagesize_source::part::copy_ended;
@@ -16,6 +16,9 @@ use imagesize_source::source::held::{Claims, Counts};
 use imagesize_source::source::log::SpanLog;
 use imagesize_source::source::parts::{Missing, count_there, put, uncut_length};
 use imagesize_source::{Halt, ImageError, Reason, Span, Text};
+
+// The proofs take each missing byte as this one. A text that it does not end goes on as far as the read requests.
+const FILLER: u8 = 1;
 
 /// The bytes from an offset on: the kept ones, and those of the next chunk after them. The input may have more.
 #[derive(Drop)]
@@ -35,6 +38,7 @@ pub struct StreamSource<'a> {
     ghost within: { start + length kept.now + length chunk.now ≤ told },
     ghost seen: { AllKnown told (came start kept.now chunk.now) (kept.now ++ chunk.now) log.spans },
     ghost lacks: { ForSome missed (Lacks told (came start kept.now chunk.now) (kept.now ++ chunk.now)) },
+    ghost ends: { ForSome missed (EndsSure start) },
 }
 
 impl<'a> StreamSource<'a> {
@@ -107,6 +111,7 @@ impl<'a> StreamSource<'a> {
         requires among { sure ≤ most }
         requires fits { start + count + most ≤ self.old.told }
         requires unknown { is_some (byte_at self.old.told self.old.start self.old.kept.now self.old.chunk.now (start + count)) ≡ false }
+        requires ends { self.old.start ≤ start + count → sure ≡ most }
         ensures start { self.new.start ≡ self.old.start }
         ensures kept { self.new.kept.now ≡ self.old.kept.now }
         ensures chunk { self.new.chunk.now ≡ self.old.chunk.now }
@@ -228,7 +233,14 @@ impl<'a> StreamSource<'a> {
         let (found, wanted) = self.fill_known(offset, buffer);
         let searched = run.min(found);
         let Some(count) = uncut_length(text, &buffer[..found], searched, wanted) else {
-            self.miss(offset, found, 1, wanted - found);
+            let left = wanted - found;
+            if ends_with_filler(text) {
+                self.miss(offset, found, 1, 1);
+            } else if offset < self.start {
+                self.miss(offset, found, 1, left);
+            } else {
+                self.miss(offset, found, left, left);
+            }
             return None;
         };
         self.see(offset, count);
@@ -274,5 +286,16 @@ impl Source for StreamSource<'_> {
         };
         self.see(offset, count);
         Ok(count)
+    }
+}
+
+// Whether the byte that the proofs take each missing byte as ends the text. No format has such a text.
+#[inline(always)]
+fn ends_with_filler(text: Text) -> bool
+    ensures { result ≡ delimits text 1 }
+{
+    match text {
+        Text::Line { delimiter } => delimiter == FILLER,
+        Text::Word => false,
     }
 }

@@ -58,7 +58,7 @@ pub fn read_on<R: Records>(
         → stand.new.passed < high }
 
     // The result depends on a byte that has not arrived. It is in the next record, and the read that missed a byte requests it.
-    // It is before each offset `high` up to which that record is read. If the record reads no text, that read ends before
+    // It is before each offset `high` up to which that record is read. If the record reads no text, that read ends at
     // `stand.new.end`.
     ensures marked { result ≡ None → (texts : Bool) (high : ℕ) → ((held : List R.Held) → R.keeps records.new held stand.new.offset
         → AllRead texts (R.said records.new held stand.new.offset) × Reach stand.new.offset high (R.said records.new held stand.new.offset))

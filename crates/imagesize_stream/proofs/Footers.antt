@@ -1,5 +1,5 @@
 -- What may be a TGA: its header and its footer.
-use Rattle.std.proofs.Common.{◌≡◌, ℕ, ◌+◌, ◌-◌, ◌<◌, ◌≤◌, min, inl, inr, Bool, true, false, ◌&&◌, not, cond, leb, List, [], ◌++◌, length, slice_index, take, drop, Option, Some, None, Result, Ok, Err, refl, sym, ap, ◌∙◌, subst, arith}
+use Rattle.std.proofs.Common.{◌≡◌, ℕ, ◌+◌, ◌-◌, ◌<◌, ◌≤◌, min, ◌⊎◌, inl, inr, Bool, true, false, ◌&&◌, not, cond, leb, List, [], ◌++◌, length, slice_index, take, drop, Option, Some, None, Result, Ok, Err, refl, sym, ap, ◌∙◌, subst, arith}
 use Rattle.std.proofs.lemmas.Bool.Decides.{nat_tests}
 use Rattle.std.proofs.lemmas.List.{append-nil, drop-append-le, drop-drop, length-append, length-drop, length-take, take_all}
 use Rattle.std.specs.Result.{result_ok}
@@ -143,6 +143,11 @@ size_reach = (omega arith, omega arith, λ width. (omega arith, omega arith, λ 
 pub in_header : (n : ℕ) → OutOfHeader n → 12 ≤ n → n < 18 → ⊥
 in_header n (inl few) enough short = omega (arith, few, enough)
 in_header n (inr all) enough short = omega (arith, all, short)
+
+-- the rest of the header is asked for up to its end
+pub asked_out : (n : ℕ) → OutOfHeader n ⊎ (18 < 18) → OutOfHeader n
+asked_out n (inl out) = out
+asked_out n (inr behind) = absurd (omega (arith, behind))
 
 -- these first bytes may be of a TGA
 abbrev MayBe : First → Type 0

@@ -10,8 +10,8 @@ use Rattle.imagesize.specs.declared.types.ImageType.{ImageType}
 use Rattle.imagesize.specs.declared.types.ImageType.TheVariants.{Tga}
 use Rattle.imagesize_fixed.specs.Tga.{is_tga_footer}
 use Rattle.imagesize_pieces.proofs.Beginning.{begins_left}
-use Rattle.imagesize_pieces.proofs.Needing.{needs_wider}
-use Rattle.imagesize_pieces.specs.Stream.{Begins, Needs}
+use Rattle.imagesize_pieces.proofs.Needing.{needs_among, needs_wider}
+use Rattle.imagesize_pieces.specs.Stream.{Begins, EndsAt, NeedsAmong}
 use Rattle.imagesize_pieces.specs.declared.stand.Stand.{Stand}
 use Rattle.imagesize_source.specs.Input.{part}
 use Rattle.imagesize_source.specs.declared.halt.Halt.{Halt}
@@ -242,8 +242,8 @@ pub marked_behind : (texts : Bool) (stage : Stage) (start offset passed next end
     → next ≡ max passed start → IsCut stage start end cut → HoldsBy stage start offset passed
     → MarkedBy texts stage start passed end marks → MarkedBy texts stage start next cut marks
 marked_behind texts First start offset passed next end cut marks is ends holds marked =
-    subst (λ e. OutOfHeader next → Needs texts next e marks) (sym ends)
-    (subst (λ k. OutOfHeader k → Needs texts k end marks) (omega (arith, is, holds.0)) marked)
+    subst (λ e. (OutOfHeader next → NeedsAmong texts next e marks) × (18 < e → texts ≡ false → EndsAt e marks)) (sym ends)
+    (subst (λ k. OutOfHeader k → NeedsAmong texts k end marks) (omega (arith, is, holds.0)) marked.0, marked.1)
 marked_behind texts (Records awaited) start offset passed next end cut marks is ends holds marked =
     needs_wider texts (max passed start) (min end (start + reach_at awaited)) (max next start)
     (min cut (start + reach_at awaited)) marks (omega (arith, is)) (omega (arith, ends)) marked
@@ -356,13 +356,23 @@ latest_none kind (Done size) start offset passed end told none holds next = absu
 -- the result depends on a byte of the requested span
 pub marked_none : (kind : Option ImageType) (texts : Bool) (stage : Stage) (start passed end : ℕ) (marks : List Span)
     → stage_answer kind stage ≡ None → MarkedBy texts stage start passed end marks → OutOfHeader passed
-    → Needs texts passed end marks
-marked_none kind texts First start passed end marks none marked out = marked out
+    → NeedsAmong texts passed end marks
+marked_none kind texts First start passed end marks none marked out = marked.0 out
 marked_none kind texts (Records awaited) start passed end marks none marked out =
-    needs_wider texts (max passed start) (min end (start + reach_at awaited)) passed end marks (omega arith) (omega arith) marked
+    needs_among texts (max passed start) (min end (start + reach_at awaited)) passed end marks (omega arith) (omega arith) marked
 marked_none kind texts (Footer size) start passed end marks none marked out =
-    needs_wider texts (max passed start) end passed end marks (omega arith) (omega arith) marked
+    needs_among texts (max passed start) end passed end marks (omega arith) (omega arith) marked
 marked_none kind texts (Done size) start passed end marks none marked out = absurd cc
+
+-- where no text is read, a read ends where the span ends
+pub exact_none : (kind : Option ImageType) (texts : Bool) (stage : Stage) (start passed end told : ℕ) (marks : List Span)
+    → stage_answer kind stage ≡ None → NextBy stage start passed end told → MarkedBy texts stage start passed end marks
+    → texts ≡ false → 18 < end → EndsAt end marks
+exact_none kind texts First start passed end told marks none next marked without late = marked.1 late without
+exact_none kind texts (Records awaited) start passed end told marks none next marked without late =
+    let last = next.1.1.1 in subst (λ e. EndsAt e marks) (omega (arith, last)) (marked.1 without)
+exact_none kind texts (Footer size) start passed end told marks none next marked without late = marked.1 without
+exact_none kind texts (Done size) start passed end told marks none next marked without late = absurd cc
 
 -- before any byte came the stage is the first one
 pub none_passed : (kind : Option ImageType) (stage : Stage) (start offset passed : ℕ) → stage_answer kind stage ≡ None

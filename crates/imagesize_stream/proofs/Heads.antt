@@ -21,7 +21,7 @@ head_span d long =
 pub head_needed : (d : List ℕ) (low : ℕ) → low < 12 → 12 ≤ length d → Needs false low 12 (layout_reads d first_layout).marks
 head_needed d low few long =
     let has : has_offset (record { start = 0; len = 12 }) low ≡ true = grind (arith, nat_tests, few) in
-    let ends : leb (suc low) (0 + 12) && leb (0 + 12) 12 ≡ true = grind (arith, nat_tests, few) in
+    let ends : leb (suc (12 - 1)) (0 + 12) && leb (0 + 12) 12 ≡ true = grind (arith, nat_tests) in
     needs_any false low 12 (span_of d 0 12) _
     (λ P here. onward_any (span_of d 0 12) (bytes_at d 0 12) (λ head. layout_reads d (first_by head (first_row rows head))) P here)
     (subst (Needs false low 12) (sym (head_span d long)) ((low, omega arith, few, rw has refl), λ none. rw ends refl))

@@ -55,7 +55,7 @@ span_needs : (texts : Bool) (d : List ℕ) (offset n : ℕ) → 0 < n → offset
 span_needs texts d offset n some below =
     let len : ℕ = min n (length d - offset) in
     let has : has_offset (record { start = offset; len = len }) offset ≡ true = grind (arith, nat_tests, some, below) in
-    let ends : leb (suc offset) (offset + len) && leb (offset + len) (min (offset + n) (length d)) ≡ true =
+    let ends : leb (suc (min (offset + n) (length d) - 1)) (offset + len) && leb (offset + len) (min (offset + n) (length d)) ≡ true =
     grind (arith, nat_tests, some, below) in
     subst (Needs texts offset (min (offset + n) (length d))) (sym (span_there d offset n some below)) (
       (offset, omega arith, omega (arith, some, below), rw has refl),

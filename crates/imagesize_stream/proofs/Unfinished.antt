@@ -1,13 +1,13 @@
 -- What a chunk leaves that belongs to a text whose end has not arrived.
-use Rattle.std.proofs.Common.{◌≡◌, ℕ, zero, suc, leb, ◌+◌, ◌-◌, ◌<◌, ◌≤◌, min, max, Bool, true, false, ◌&&◌, List, [], ◌∷◌, ◌++◌, length, take, drop, Option, refl, sym, ap, ◌∙◌, subst, arith}
+use Rattle.std.proofs.Common.{◌≡◌, ℕ, zero, suc, ◌+◌, ◌-◌, ◌<◌, ◌≤◌, min, max, Bool, true, false, List, [], ◌∷◌, ◌++◌, length, take, drop, Option, refl, sym, ap, ◌∙◌, subst, arith}
 use Rattle.std.proofs.lemmas.Bool.Decides.{nat_tests}
 use Rattle.std.proofs.lemmas.List.{length-append, length-drop, length-take, take-append-drop, take-take}
 use Rattle.std.specs.List.{list_any}
-use Rattle.imagesize.specs.Meaning.{meaning_reads}
+use Rattle.imagesize.specs.Meaning.{kind_reads, meaning_reads}
 use Rattle.imagesize.specs.Parted.{texts_of}
 use Rattle.imagesize.specs.declared.types.ImageType.{ImageType}
 use Rattle.imagesize_pieces.proofs.Beginning.{begins_left}
-use Rattle.imagesize_pieces.proofs.Needing.{needs_behind, needs_wider, onward_any}
+use Rattle.imagesize_pieces.proofs.Needing.{needs_as, needs_behind, onward_any}
 use Rattle.imagesize_pieces.specs.Pending.{KeepsPending}
 use Rattle.imagesize_pieces.specs.Stream.{Begins, Needs, Streams}
 use Rattle.imagesize_pieces.specs.declared.stand.Stand.{Stand}
@@ -22,13 +22,13 @@ use Rattle.imagesize_source.specs.Reading.{AllOf, PartOf, TextOf, Reads, read_of
 use Rattle.imagesize_source.specs.Text.{is_ended, text_front}
 use Rattle.imagesize_source.specs.declared.span.Span.{Span}
 use Rattle.imagesize_source.specs.declared.text.Text.{Text}
-use Rattle.imagesize_stream.proofs.Coming.{type_on}
+use Rattle.imagesize_stream.proofs.Coming.{texts_stated, type_on}
 use Rattle.imagesize_stream.proofs.Given.{dropped}
 use Rattle.imagesize_stream.proofs.Skipping.{walk_needs}
 use Rattle.imagesize_stream.specs.Probe.{CameTo, HoldsAt, IsAhead, SearchedBy, texts_by}
 use Rattle.imagesize_stream.specs.Skips.{ReadsText}
 use Rattle.imagesize_stream.proofs.Far.{reach_few, reach_most}
-use Rattle.imagesize_stream.specs.Steps.{Awaits, IsSteady, awaited_said, first_text, reach_at, step}
+use Rattle.imagesize_stream.specs.Steps.{Awaits, IsSteady, awaited_said, first_text, is_text, reach_at, step}
 use Rattle.imagesize_stream.specs.declared.awaited.Awaited.{Awaited}
 use Rattle.imagesize_stream.specs.declared.stage.Stage.{Stage}
 use Rattle.imagesize_stream.specs.declared.stage.Stage.TheVariants.{Done, First, Footer, Records}
@@ -84,11 +84,11 @@ text_any d offset n text (reading (TextOf t k) p f) first P here =
 text_any d offset n text (begin_record t) first P here = text_any d offset n text t first P here
 
 -- a text that the first bytes do not end needs the byte after them
-text_needs : (texts : Bool) (d : List ℕ) (offset n found : ℕ) (t : Text) → is_ended t (part d offset found) ≡ false
+text_needs : (d : List ℕ) (offset n found : ℕ) (t : Text) → is_ended t (part d offset found) ≡ false
     → found < n → offset + found < length d
-    → Needs texts (offset + found) (min (offset + n) (length d)) (span_at offset (length (text_part d t offset n)))
+    → Needs true (offset + found) (min (offset + n) (length d)) (span_at offset (length (text_part d t offset n)))
 unfolding part text_part
-text_needs texts d offset n found t still short more =
+text_needs d offset n found t still short more =
     let bs : List ℕ = take n (drop offset d) in
     let len : ℕ = length (text_front t bs) in
     let split : take found bs ++ drop found bs ≡ bs = take-append-drop found bs in
@@ -108,11 +108,9 @@ text_needs texts d offset n found t still short more =
     ) in
     let few : len ≤ min n (length d - offset) = omega (arith, front_length t bs, long) in
     let has : has_offset (record { start = offset; len = len }) (offset + found) ≡ true = grind (arith, nat_tests, behind) in
-    let ends : leb (suc (offset + found)) (offset + len) && leb (offset + len) (min (offset + n) (length d)) ≡ true =
-    grind (arith, nat_tests, behind, few, more) in
-    subst (Needs texts (offset + found) (min (offset + n) (length d))) (sym (span-some offset len (omega (arith, behind)))) (
+    subst (Needs true (offset + found) (min (offset + n) (length d))) (sym (span-some offset len (omega (arith, behind)))) (
       (offset + found, omega arith, omega (arith, short, more), rw has refl),
-      λ none. rw ends refl,
+      λ none. absurd cc,
     )
 
 -- the bytes kept are those of the input from the record's offset on
@@ -147,10 +145,13 @@ module _ (next : Awaited) (text : Text) (most : ℕ) (old new : Stand) (kind : O
   text_many = omega (arith, keeps.passed, came.1.as_many, length-append front chunk)
 
   -- each input that begins so depends on the byte after them
-  pub pending_needs : most ≤ reach_at next → (d : List ℕ) → Begins (front ++ chunk) old.told d → length d ≡ old.told
+  pub pending_needs : is_text next ≡ true → most ≤ reach_at next → (d : List ℕ) → Begins (front ++ chunk) old.told d → length d ≡ old.told
       → Needs (texts_of d) (max new.passed new.start) (min new.end (new.start + reach_at next)) (meaning_reads d 0).marks
-  pending_needs few d begins as_long =
+  pending_needs is few d begins as_long =
       let streams = came.1 in
+      let type = came.0 d (begins_left front chunk old.told d begins) in
+      let texts : true ≡ texts_of d =
+      sym is ∙ streams.known.2 ∙ ap texts_by (sym type) ∙ sym (texts_stated (kind_reads d 0).answer) in
       let found : ℕ = new.passed - old.offset in
       let same : take (new.passed - new.start) after ≡ part d old.offset found =
       kept_part d (take (new.passed - new.start) after) (front ++ chunk) new.start old.offset new.passed
@@ -158,15 +159,15 @@ module _ (next : Awaited) (text : Text) (most : ℕ) (old new : Stand) (kind : O
       let resumes = streams.resumes d (begins_left front chunk old.told d begins) in
       let reads : ReadsText old.offset text most (awaited_said streams.held old.offset) =
       subst (λ a. ReadsText old.offset text most (step a old.offset)) (sym streams.known.0) (first old.offset) in
-      let needs = walk_needs (texts_of d) d streams.held old.offset (old.offset + found)
+      let needs = walk_needs true d streams.held old.offset (old.offset + found)
       (min (old.offset + most) (length d)) (span_at old.offset (length (text_part d text old.offset most)))
       (text_any d old.offset most text (awaited_said streams.held old.offset) reads)
-      (text_needs (texts_of d) d old.offset most found text (ap (is_ended text) (sym same) ∙ keeps.unended)
+      (text_needs d old.offset most found text (ap (is_ended text) (sym same) ∙ keeps.unended)
       (omega (arith, keeps.few, keeps.start, keeps.here)) (omega (arith, keeps.more, as_long, keeps.start, keeps.here))) in
       needs_behind (texts_of d) _ _ streams.before _ (meaning_reads d 0).marks
       (ap (λ (w : Reads _). w.marks) resumes)
-      (needs_wider (texts_of d) (old.offset + found) (min (old.offset + most) (length d)) (max new.passed new.start)
-      (min new.end (new.start + reach_at next)) _ (omega (arith, keeps.start, keeps.here))
+      (needs_as (old.offset + found) (min (old.offset + most) (length d)) (max new.passed new.start)
+      (min new.end (new.start + reach_at next)) _ texts (omega (arith, keeps.start, keeps.here))
       (omega (arith, keeps.end, keeps.start, keeps.here, as_long, few)) needs)
 
 -- what always holds at the record, still holds

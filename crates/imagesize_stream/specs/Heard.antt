@@ -40,7 +40,7 @@ abbrev pub TypeMissing : Option ImageType → List ℕ → ℕ → Type 0
 TypeMissing None front told = TypeRests front told
 TypeMissing (Some type) front told = Unit {0}
 
--- each of them depends on a byte from `low` on, below `high`; if it has no texts, a read ends there
+-- each of them depends on a byte from `low` on, below `high`; if it has no texts, a read ends at `high`
 abbrev pub RestsBetween : ℕ → ℕ → List ℕ → ℕ → Type 0
 RestsBetween low high front told = (d : List ℕ) → Begins front told d → length d ≡ told
     → Needs (texts_of d) low high (meaning_reads d 0).marks
@@ -57,11 +57,11 @@ pub record IsByFooter (size : ImageSize) (d : List ℕ) : Type 0 where
   pub typed : Needs false (length d - 1) (length d) (kind_reads d 0).marks
 
 -- What the first bytes say is true of every input that begins so. If bytes are missing, it depends on one of those that the
--- read requests. Of the header of what may be a TGA, it may depend on none.
+-- read requests, and if no text is read, a read ends there. Of the header of what may be a TGA, it may depend on none.
 abbrev pub Hears : List ℕ → ℕ → Heard → Type 0
 Hears front told (Missing image end) =
     RestsOnMore front told × IfSome image (λ type. Says front told (λ d. kind_reads d 0) (Ok type))
-    × (OutOfHeader (length front) → RestsBetween (length front) (min end 132) front told)
+    × (OutOfHeader (length front) ⊎ (18 < end) → RestsBetween (length front) (min end 132) front told)
 Hears front told (Answer image size) = TypeIs front told image × SizeIs front told size
 Hears front told (Records image next offset) =
     IsSteady next offset × Says front told (λ d. kind_reads d 0) (Ok image)

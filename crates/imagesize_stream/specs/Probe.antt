@@ -5,7 +5,7 @@ use denote.Struct.Props.{≡_prop}
 use Rattle.imagesize.specs.Meaning.{meaning_reads}
 use Rattle.imagesize.specs.Parted.{has_texts, texts_of}
 use Rattle.imagesize.specs.declared.types.ImageType.{ImageType}
-use Rattle.imagesize_pieces.specs.Stream.{Begins, Needs, Streams}
+use Rattle.imagesize_pieces.specs.Stream.{Begins, EndsAt, Needs, NeedsAmong, Streams}
 use Rattle.imagesize_pieces.specs.declared.stand.Stand.{Stand}
 use Rattle.imagesize_source.specs.Reading.{is_stopped}
 use Rattle.imagesize_source.specs.Text.{is_ended}
@@ -133,9 +133,11 @@ latest_by (Footer size) start told = told
 latest_by (Done size) start told = told
 
 -- The result depends on a byte before this end, after those that came, and in the next record or footer, where that is read. If no
--- text is read, a read that it depends on ends there. Of the bytes 12 to 17 this is not known, if they may be the header of a TGA.
+-- text is read, a read that it depends on ends at this end. Of the first bytes at least 18 are requested, so there a read ends among
+-- them. Of the bytes 12 to 17 this is not known, if they may be the header of a TGA.
 abbrev pub MarkedBy : Bool → Stage → ℕ → ℕ → ℕ → List Span → Type 0
-MarkedBy texts First start passed end marks = OutOfHeader passed → Needs texts passed end marks
+MarkedBy texts First start passed end marks =
+    (OutOfHeader passed → NeedsAmong texts passed end marks) × (18 < end → texts ≡ false → EndsAt end marks)
 MarkedBy texts (Records next) start passed end marks = Needs texts (max passed start) (min end (start + reach_at next)) marks
 MarkedBy texts (Footer size) start passed end marks = Needs texts (max passed start) end marks
 MarkedBy texts (Done size) start passed end marks = Unit {0}

@@ -151,6 +151,7 @@ impl Awaited {
     // The text that the record begins with, if it is a text, and how many bytes it has at most.
     #[inline(always)]
     pub(crate) fn first_text(&self) -> Option<(Text, usize)>
+        ensures kind { IfSome result (λ _. is_text self.now ≡ true) }
         ensures text { IfSome result (λ found. found.0 ≡ first_text self.now) }
         ensures first { IfSome result (λ found. (offset : ℕ) → ReadsText offset found.0 found.1 (step self.now offset)) }
         ensures few { IfSome result (λ found. found.1 ≤ reach_at self.now) }

@@ -44,7 +44,7 @@ impl PartsProbe {
     ghost use Rattle.imagesize.specs.Meaning.{meaning};
     ghost use Rattle.imagesize.specs.Parted.{Fits, IfFound, IfWanted, IsProbed, texts_of};
     ghost use Rattle.imagesize.specs.declared.parts.PartsAnswer.TheVariants as answer;
-    ghost use Rattle.imagesize_pieces.specs.Stream.{AllBelow};
+    ghost use Rattle.imagesize_pieces.specs.Stream.{AllBelow, EndsAt};
     ghost use Rattle.imagesize_source.specs.Agreement.{EndsBetween};
     ghost use Rattle.imagesize_source.specs.Errors.{is_stopped};
     ghost use Rattle.imagesize_stream.specs.Given.{HasPart};
@@ -88,6 +88,10 @@ impl PartsProbe {
         // For a type without texts, a read that the result depends on ends in the span: one span is enough for a read.
         ensures reaches { (d : List ℕ) → MayBe self.now d → texts_of d ≡ false → IfWanted result (λ w. (w.start < 12) ⊎ (18 ≤ w.start)
             → EndsBetween w.start (w.start + w.len) (meaning d 0).marks) }
+
+        // For a type without texts, a span that ends after the first 18 bytes ends where a read ends that the result depends on.
+        ensures exact { (d : List ℕ) → MayBe self.now d → texts_of d ≡ false → IfWanted result (λ w. 18 < w.start + w.len
+            → EndsAt (w.start + w.len) (meaning d 0).marks) }
 
         // No result is a fault, a spent budget or a lack of memory.
         ensures unstopped { IfFound result (λ found. is_stopped found.1 ≡ false) }

@@ -12,7 +12,7 @@ use Rattle.std.specs.Result.{result_ok}
 use Rattle.imagesize.specs.Meaning.{kind_of, meaning}
 use Rattle.imagesize.specs.Parted.{IsWithin, texts_of}
 use Rattle.imagesize_pieces.specs.Stream.{AllBelow}
-use Rattle.imagesize_c.specs.Rounds.{TellsNext}
+use Rattle.imagesize_c.specs.Rounds.{EndsEarly, TellsNext}
 use Rattle.imagesize_c.specs.Status.{is_answered, is_stop_status, is_wanted, status_of}
 use Rattle.imagesize_c.specs.Told.{TellsSize, TellsType}
 use Rattle.imagesize_c.specs.contracts.rounds.imagesize_parts_answer as f
@@ -85,7 +85,7 @@ imagesize_parts_answer_spec 𝓤 𝓛 𝓜 𝓡 wired =
     raw (fact 𝓤 ((d : List ℕ) → MayBe held d → is_wanted r ≡ true → (span.start < 12) ⊎ (18 ≤ span.start)
     → HasMarked span d)) ⊛
     raw (fact 𝓤 (is_wanted r ≡ true → IsWithin (total_of held) span)) ⊛
-    raw (fact 𝓤 (is_wanted r ≡ true → span.len ≤ 1024)) ⊛
+    raw (fact 𝓤 (is_wanted r ≡ true → (span.len ≤ 1024) × EndsEarly held span)) ⊛
     raw (fact 𝓤 ((d : List ℕ) → MayBe held d → is_wanted r ≡ true → texts_of d ≡ false → span.len ≤ 132)) ⊛
     raw (fact 𝓤 (is_wanted r ≡ true → (n ≡ number.now) × (m ≡ compression.now))) ⊛
     raw (fact 𝓤 (is_answered r ≡ false → (w ≡ width.now) × (h ≡ height.now))) ⊛

@@ -1,12 +1,12 @@
 use Rattle.std.proofs.Common.{◌<◌, ◌^◌, ◌++◌, length, min, refl, sym, ap, ◌∙◌, subst, arith}
 use Rattle.std.proofs.lemmas.Bool.{false_from_ne_true}
-use Rattle.imagesize_source.specs.Agreement.{AllRead, EndsBetween}
+use Rattle.imagesize_source.specs.Agreement.{AllRead}
 use Rattle.imagesize_source.specs.Layout.{layout_reads}
 use Rattle.imagesize_source.specs.Reading.{is_faulted}
 use Rattle.imagesize_source.proofs.Agreement.{alike_layout, with_texts}
 use Rattle.imagesize_source.proofs.Known.{length-filled_input}
 use Rattle.imagesize_source.proofs.Sharing.{shared}
-use Rattle.imagesize_pieces.specs.Stream.{Begins, Says, came, stream_input}
+use Rattle.imagesize_pieces.specs.Stream.{Begins, EndsAt, Says, came, stream_input}
 use Rattle.imagesize_pieces.proofs.Asking.{closed_begun, complete_begun, ends_begun, few_begun, marked_begun, none_missed, says_begun}
 use Rattle.imagesize_pieces.proofs.Beginning.{last_run}
 use Rattle.imagesize_pieces.proofs.Called.{called, goes_on}
@@ -18,7 +18,7 @@ returns-clause-says g c = λ faultless.
     let a = c.new-source.result in let b = c.read-found.new.source in let new = c.new-source.ensures in
     let call = called (λ e. layout_reads e
     (g.F.Fixed.layout c.args.fixed.now)) _ _ _ _ _ _ _ b.log.spans _ b.missed _ new.seen new.missed c.read-found.ensures
-    b.seen b.lacks in
+    b.seen b.lacks b.ends in
     let run = last_run c.args.bytes.now a.kept.now a.chunk.now 0 (length c.args.bytes.now) a.start refl new.kept
     (ap length new.chunk) (new.start ∙ omega arith) in
     subst (λ k. Says c.args.bytes.now k
@@ -33,7 +33,7 @@ returns-clause-unstopped g c = λ faultless.
     let a = c.new-source.result in let b = c.read-found.new.source in let new = c.new-source.ensures in
     let call = called (λ e. layout_reads e
     (g.F.Fixed.layout c.args.fixed.now)) _ _ _ _ _ _ _ b.log.spans _ b.missed _ new.seen new.missed c.read-found.ensures
-    b.seen b.lacks in
+    b.seen b.lacks b.ends in
     goes_on _ _ _ _ (subst (λ k. k < 2 ^ 63) (sym new.told) c.requires.short) _ _ _ call faultless
 
 pub returns-clause-few : goal.returns-clause-few
@@ -41,7 +41,7 @@ returns-clause-few g c = λ faults high reach.
     let a = c.new-source.result in let b = c.read-found.new.source in let new = c.new-source.ensures in
     let call = called (λ e. layout_reads e
     (g.F.Fixed.layout c.args.fixed.now)) _ _ _ _ _ _ _ b.log.spans _ b.missed _ new.seen new.missed c.read-found.ensures
-    b.seen b.lacks in
+    b.seen b.lacks b.ends in
     let run = last_run c.args.bytes.now a.kept.now a.chunk.now 0 (length c.args.bytes.now) a.start refl new.kept
     (ap length new.chunk) (new.start ∙ omega arith) in
     few_begun (λ e. layout_reads e (g.F.Fixed.layout c.args.fixed.now))
@@ -56,7 +56,7 @@ returns-clause-complete g c = λ faults d begins as_long below.
     let a = c.new-source.result in let b = c.read-found.new.source in let new = c.new-source.ensures in
     let call = called (λ e. layout_reads e
     (g.F.Fixed.layout c.args.fixed.now)) _ _ _ _ _ _ _ b.log.spans _ b.missed _ new.seen new.missed c.read-found.ensures
-    b.seen b.lacks in
+    b.seen b.lacks b.ends in
     let run = last_run c.args.bytes.now a.kept.now a.chunk.now 0 (length c.args.bytes.now) a.start refl new.kept
     (ap length new.chunk) (new.start ∙ omega arith) in
     complete_begun (λ e. layout_reads e (g.F.Fixed.layout c.args.fixed.now))
@@ -72,7 +72,7 @@ returns-clause-marked g c = λ faults d begins as_long texts high read reach.
     let a = c.new-source.result in let b = c.read-found.new.source in let new = c.new-source.ensures in
     let call = called (λ e. layout_reads e
     (g.F.Fixed.layout c.args.fixed.now)) _ _ _ _ _ _ _ b.log.spans _ b.missed _ new.seen new.missed c.read-found.ensures
-    b.seen b.lacks in
+    b.seen b.lacks b.ends in
     let run = last_run c.args.bytes.now a.kept.now a.chunk.now 0 (length c.args.bytes.now) a.start refl new.kept
     (ap length new.chunk) (new.start ∙ omega arith) in
     let fill = stream_input a.told a.start a.kept.now a.chunk.now in
@@ -87,7 +87,7 @@ returns-clause-marked g c = λ faults d begins as_long texts high read reach.
     ∙ sym (length-filled_input a.told (came a.start a.kept.now a.chunk.now) (a.kept.now ++ a.chunk.now)))) in
     let reached = reach_covered d 0 high (g.F.Fixed.layout c.args.fixed.now) reach _ marked.2 in (
       (_, marked.0, omega (arith, marked.1, reached.1, c.end.ensures), marked.2),
-      λ no_text. subst (λ k. EndsBetween (length c.args.bytes.now) (min k high)
+      λ no_text. subst (λ k. EndsAt (min k high)
           (layout_reads d (g.F.Fixed.layout c.args.fixed.now)).marks) (sym c.end.ensures)
           (closed_begun (λ e. layout_reads e (g.F.Fixed.layout c.args.fixed.now))
           (λ d e. shared d e (g.F.Fixed.layout c.args.fixed.now)) a.told a.start a.kept.now a.chunk.now _ run
@@ -107,7 +107,7 @@ returns-clause-whole g c = λ all.
     let a = c.new-source.result in let b = c.read-found.new.source in let new = c.new-source.ensures in
     let call = called (λ e. layout_reads e
     (g.F.Fixed.layout c.args.fixed.now)) _ _ _ _ _ _ _ b.log.spans _ b.missed _ new.seen new.missed c.read-found.ensures
-    b.seen b.lacks in
+    b.seen b.lacks b.ends in
     let run = last_run c.args.bytes.now a.kept.now a.chunk.now 0 (length c.args.bytes.now) a.start refl new.kept
     (ap length new.chunk) (new.start ∙ omega arith) in
     false_from_ne_true (is_faulted c.read-found.result) (λ faults.
@@ -123,7 +123,7 @@ returns-clause-ends g c = λ faults.
     let a = c.new-source.result in let b = c.read-found.new.source in let new = c.new-source.ensures in
     let call = called (λ e. layout_reads e
     (g.F.Fixed.layout c.args.fixed.now)) _ _ _ _ _ _ _ b.log.spans _ b.missed _ new.seen new.missed c.read-found.ensures
-    b.seen b.lacks in
+    b.seen b.lacks b.ends in
     let run = last_run c.args.bytes.now a.kept.now a.chunk.now 0 (length c.args.bytes.now) a.start refl new.kept
     (ap length new.chunk) (new.start ∙ omega arith) in
     let ends = ends_begun (λ e. layout_reads e (g.F.Fixed.layout c.args.fixed.now))

@@ -22,7 +22,7 @@ returns-clause-unstopped g c =
     let call = called (λ e. chain_from (chain_of 0 (g.R.Records.said c.args.records.now)) e
     (record { held = c.requires.keeps.0; offset = c.args.stand.now.offset }))
     _ _ _ _ _ _ _ b.log.spans _ b.missed _ new.seen new.missed
-    (c.walk_on-found.ensures.runs 0 c.requires.keeps.0 c.requires.keeps.1) b.seen b.lacks in
+    (c.walk_on-found.ensures.runs 0 c.requires.keeps.0 c.requires.keeps.1) b.seen b.lacks b.ends in
     goes_on _ _ _ _ (subst (λ k. k < 2 ^ 63) (sym new.told) c.args.stand.now.short) _ _ _ call
     (sym c.is_faulted.ensures ∙ c.if-is_faulted.false)
 
@@ -32,7 +32,7 @@ returns-clause-says g c = λ first whole front s.
     let call = called (λ e. chain_from (chain_of first (g.R.Records.said c.args.records.now)) e
     (record { held = s.held; offset = c.args.stand.now.offset }))
     _ _ _ _ _ _ _ b.log.spans _ b.missed _ new.seen new.missed
-    (c.walk_on-found.ensures.runs first s.held s.known) b.seen b.lacks in
+    (c.walk_on-found.ensures.runs first s.held s.known) b.seen b.lacks b.ends in
     let run = run_held front c.args.chunk.now a.kept.now a.chunk.now c.args.stand.now.start c.args.stand.now.passed
     a.start s.as_many
     (new.kept ∙ ap (λ k. take k c.args.buffer.now) c.saturating_sub-count.ensures ∙ s.rest)
@@ -56,7 +56,7 @@ keep_behind-requires-clause-fits g c =
     let runs = c.walk_on-found.ensures.runs 0 c.requires.keeps.0 c.requires.keeps.1 in
     let call = called (λ e. chain_from (chain_of 0 (g.R.Records.said c.args.records.now)) e
     (record { held = c.requires.keeps.0; offset = c.args.stand.now.offset }))
-    _ _ _ _ _ _ _ b.log.spans _ b.missed _ new.seen new.missed runs b.seen b.lacks in
+    _ _ _ _ _ _ _ b.log.spans _ b.missed _ new.seen new.missed runs b.seen b.lacks b.ends in
     let same = same_frame _ _ _ _ _ _ [] [] None None runs.frame in
     let stood = stood_as (chain_of 0 (g.R.Records.said c.args.records.now))
     (λ behind. g.R.Records.keeps c.walk_on-found.new.records behind c.walk_on-found.new.offset)
@@ -115,7 +115,7 @@ returns-then-is_faulted-clause-buffer g c = λ none.
     let runs = c.walk_on-found.ensures.runs 0 c.requires.keeps.0 c.requires.keeps.1 in
     let call = called (λ e. chain_from (chain_of 0 (g.R.Records.said c.args.records.now)) e
     (record { held = c.requires.keeps.0; offset = c.args.stand.now.offset }))
-    _ _ _ _ _ _ _ b.log.spans _ b.missed _ new.seen new.missed runs b.seen b.lacks in
+    _ _ _ _ _ _ _ b.log.spans _ b.missed _ new.seen new.missed runs b.seen b.lacks b.ends in
     let same = same_frame _ _ _ _ _ _ [] [] None None runs.frame in
     let stood = stood_as (chain_of 0 (g.R.Records.said c.args.records.now))
     (λ behind. g.R.Records.keeps c.walk_on-found.new.records behind c.walk_on-found.new.offset)
@@ -155,7 +155,7 @@ returns-then-is_faulted-clause-few g c = λ none high far.
     let runs = c.walk_on-found.ensures.runs 0 c.requires.keeps.0 c.requires.keeps.1 in
     let call = called (λ e. chain_from (chain_of 0 (g.R.Records.said c.args.records.now)) e
     (record { held = c.requires.keeps.0; offset = c.args.stand.now.offset }))
-    _ _ _ _ _ _ _ b.log.spans _ b.missed _ new.seen new.missed runs b.seen b.lacks in
+    _ _ _ _ _ _ _ b.log.spans _ b.missed _ new.seen new.missed runs b.seen b.lacks b.ends in
     let same = same_frame _ _ _ _ _ _ [] [] None None runs.frame in
     let stood = stood_as (chain_of 0 (g.R.Records.said c.args.records.now))
     (λ behind. g.R.Records.keeps c.walk_on-found.new.records behind c.walk_on-found.new.offset)
@@ -192,7 +192,7 @@ returns-then-is_faulted-clause-goes_on g c = λ none first whole front s.
     let runs = c.walk_on-found.ensures.runs first s.held s.known in
     let call = called (λ e. chain_from (chain_of first (g.R.Records.said c.args.records.now)) e
     (record { held = s.held; offset = c.args.stand.now.offset }))
-    _ _ _ _ _ _ _ b.log.spans _ b.missed _ new.seen new.missed runs b.seen b.lacks in
+    _ _ _ _ _ _ _ b.log.spans _ b.missed _ new.seen new.missed runs b.seen b.lacks b.ends in
     let same = same_frame _ _ _ _ _ _ [] [] None None runs.frame in
     let stood = stood_as (chain_of first (g.R.Records.said c.args.records.now))
     (λ behind. g.R.Records.keeps c.walk_on-found.new.records behind c.walk_on-found.new.offset)
@@ -260,7 +260,7 @@ returns-then-is_faulted-clause-complete g c = λ none first whole front s d begi
     let runs = c.walk_on-found.ensures.runs first s.held s.known in
     let call = called (λ e. chain_from (chain_of first (g.R.Records.said c.args.records.now)) e
     (record { held = s.held; offset = c.args.stand.now.offset }))
-    _ _ _ _ _ _ _ b.log.spans _ b.missed _ new.seen new.missed runs b.seen b.lacks in
+    _ _ _ _ _ _ _ b.log.spans _ b.missed _ new.seen new.missed runs b.seen b.lacks b.ends in
     let start_is : a.start ≡ min c.args.stand.now.start (c.args.stand.now.passed + length c.args.chunk.now) = new.start
     ∙ c.min-start.ensures in
     let short = subst (λ k. k < 2 ^ 63) (sym new.told) c.args.stand.now.short in
@@ -294,7 +294,7 @@ returns-then-is_faulted-clause-ends g c = λ none.
     let runs = c.walk_on-found.ensures.runs 0 c.requires.keeps.0 c.requires.keeps.1 in
     let call = called (λ e. chain_from (chain_of 0 (g.R.Records.said c.args.records.now)) e
     (record { held = c.requires.keeps.0; offset = c.args.stand.now.offset }))
-    _ _ _ _ _ _ _ b.log.spans _ b.missed _ new.seen new.missed runs b.seen b.lacks in
+    _ _ _ _ _ _ _ b.log.spans _ b.missed _ new.seen new.missed runs b.seen b.lacks b.ends in
     let same = same_frame _ _ _ _ _ _ [] [] None None runs.frame in
     let stood = stood_as (chain_of 0 (g.R.Records.said c.args.records.now))
     (λ behind. g.R.Records.keeps c.walk_on-found.new.records behind c.walk_on-found.new.offset)
@@ -336,7 +336,7 @@ returns-then-is_faulted-clause-marked g c = λ none texts high reads first whole
     let runs = c.walk_on-found.ensures.runs first s.held s.known in
     let call = called (λ e. chain_from (chain_of first (g.R.Records.said c.args.records.now)) e
     (record { held = s.held; offset = c.args.stand.now.offset }))
-    _ _ _ _ _ _ _ b.log.spans _ b.missed _ new.seen new.missed runs b.seen b.lacks in
+    _ _ _ _ _ _ _ b.log.spans _ b.missed _ new.seen new.missed runs b.seen b.lacks b.ends in
     let same = same_frame _ _ _ _ _ _ [] [] None None runs.frame in
     let stood = stood_as (chain_of first (g.R.Records.said c.args.records.now))
     (λ behind. g.R.Records.keeps c.walk_on-found.new.records behind c.walk_on-found.new.offset)
@@ -359,7 +359,7 @@ returns-then-is_faulted-clause-marked g c = λ none texts high reads first whole
     (record { held = s.held; offset = c.args.stand.now.offset })
     a.told a.start a.kept.now a.chunk.now (front ++ c.args.chunk.now) run
     (omega (arith, a.within)) short b.log.spans b.missed c.walk_on-found.new.offset stood call.seen call.lacks
-    (omega (arith, start_is, c.args.stand.now.ahead)) c.requires.follows d
+    call.sure (omega (arith, start_is, c.args.stand.now.ahead)) c.requires.follows d
     (subst (λ k. Begins (front ++ c.args.chunk.now) k d) (sym new.told) begins) (as_long ∙ sym new.told) texts high
     read.0 read.1 in
     needs_wider texts _ _ _ _ (whole d).marks
@@ -375,7 +375,7 @@ returns-then-is_faulted-clause-whole g c = λ all none.
     let runs = c.walk_on-found.ensures.runs 0 c.requires.keeps.0 c.requires.keeps.1 in
     let call = called (λ e. chain_from (chain_of 0 (g.R.Records.said c.args.records.now)) e
     (record { held = c.requires.keeps.0; offset = c.args.stand.now.offset }))
-    _ _ _ _ _ _ _ b.log.spans _ b.missed _ new.seen new.missed runs b.seen b.lacks in
+    _ _ _ _ _ _ _ b.log.spans _ b.missed _ new.seen new.missed runs b.seen b.lacks b.ends in
     let start_is : a.start ≡ min c.args.stand.now.start (c.args.stand.now.passed + length c.args.chunk.now) = new.start
     ∙ c.min-start.ensures in
     let short = subst (λ k. k < 2 ^ 63) (sym new.told) c.args.stand.now.short in

@@ -1,6 +1,6 @@
 use Rattle.std.proofs.Common.{length, sym, ◌∙◌}
 use Rattle.imagesize_fixed.specs.Tga.{tga, tga_by_header}
-use Rattle.imagesize_stream.proofs.Footers.{footer_decides, header_reach, header_size, header_sure, header_type, in_header, never_missed, rests_on_more, said_ok, short_size, short_type, size_reach, size_sure, type_on_more}
+use Rattle.imagesize_stream.proofs.Footers.{asked_out, footer_decides, header_reach, header_size, header_sure, header_type, in_header, never_missed, rests_on_more, said_ok, short_size, short_type, size_reach, size_sure, type_on_more}
 use Rattle.imagesize_stream.proofs.Hearing.{first_typed}
 use Rattle.imagesize_stream.specs.declared.front.First.TheVariants as first
 use Rattle.imagesize_stream.proofs.hear.hear_tga.Goals as goal
@@ -16,7 +16,7 @@ returns-then-bytes-lt18-clause-hears c = (
   rests_on_more c.args.bytes.now c.args.told c.args.head.now c.requires.first c.requires.fits c.if-told-lt18.false
       c.if-bytes-lt18.true,
   tt,
-  λ out. absurd (in_header (length c.args.bytes.now) out
+  λ asked. absurd (in_header (length c.args.bytes.now) (asked_out (length c.args.bytes.now) asked)
       (first_typed c.args.bytes.now c.args.told c.requires.fits (first.MaybeTga c.args.head.now) c.requires.first)
       c.if-bytes-lt18.true),
 )

@@ -1,9 +1,10 @@
-use Rattle.std.proofs.Common.{◌≡◌, ◌-◌, Some, length, take, refl, sym, ◌∙◌, subst, arith}
+use Rattle.std.proofs.Common.{◌≡◌, ◌-◌, inl, inr, Some, length, take, refl, sym, ◌∙◌, subst, arith}
 use Rattle.std.proofs.lemmas.List.{length-take}
 use Rattle.imagesize.specs.Meaning.{meaning_reads}
 use Rattle.imagesize.specs.Parted.{texts_of}
 use Rattle.imagesize_pieces.proofs.Beginning.{begins_left}
-use Rattle.imagesize_pieces.proofs.Needing.{needs_wider}
+use Rattle.imagesize_pieces.specs.Stream.{EndsAt}
+use Rattle.imagesize_pieces.proofs.Needing.{needs_among}
 use Rattle.imagesize_stream.proofs.Footers.{last_kept}
 use Rattle.imagesize_stream.proofs.Coming.{awaiting_map, missing_on, opened_came}
 use Rattle.imagesize_stream.proofs.Hearing.{type_is}
@@ -40,14 +41,18 @@ returns-in-Footer-clause-goes_on c =
     c.wait.ensures.goes_on (take c.args.stand.now.passed c.args.buffer.now) (last.0, last.1, tt, hears.1)
 
 pub returns-in-Missing-clause-marked : goal.returns-in-Missing-clause-marked
-returns-in-Missing-clause-marked c = λ d begins as_long out.
+returns-in-Missing-clause-marked c = λ d begins as_long.
     let front = take c.args.stand.now.passed c.args.buffer.now in
     let many : length front ≡ c.args.stand.now.passed =
     length-take c.args.stand.now.passed c.args.buffer.now ∙ omega (arith, c.requires.few) in
-    let marked = c.in-Missing.ensures.hears.2 (subst OutOfHeader (sym many) out) d
-    (begins_left front c.args.chunk.now c.args.stand.now.told d begins) as_long in
-    needs_wider (texts_of d) (length front) _ _ _ (meaning_reads d 0).marks (omega (arith, many))
-    (omega (arith, c.in-Missing.ensures.ends.1)) marked
+    let starts = begins_left front c.args.chunk.now c.args.stand.now.told d begins in (
+      λ out. needs_among (texts_of d) (length front) _ _ _ (meaning_reads d 0).marks (omega (arith, many))
+          (omega (arith, c.in-Missing.ensures.ends.1))
+          (c.in-Missing.ensures.hears.2 (inl (subst OutOfHeader (sym many) out)) d starts as_long),
+      λ late no_text. subst (λ e. EndsAt e (meaning_reads d 0).marks)
+          (omega (arith, late, c.in-Missing.ensures.ends.1))
+          ((c.in-Missing.ensures.hears.2 (inr (omega (arith, late))) d starts as_long).1 no_text),
+    )
 
 pub returns-in-Records-clause-marked : goal.returns-in-Records-clause-marked
 returns-in-Records-clause-marked c =

@@ -54,9 +54,9 @@ returns-in-None-clause-ahead c =
     let keeps = c.in-None.ensures.keeps refl in
     let same = ap reach_of keeps.1.2 in
     let most = reach_few c.read_on.new.records in (
-      omega (arith, ends.0, few, starts, most, same, c.min-stand.ensures),
+      omega (arith, ends.0, ends.2, few, starts, most, same, c.min-stand.ensures),
       (
-        omega (arith, ends.1, c.min-stand.ensures),
+        omega (arith, ends.1, ends.2, c.min-stand.ensures),
         (
           omega (arith, ends.2, c.min-stand.ensures),
           (omega (arith, same, c.min-stand.ensures), omega (arith, few, starts)),

@@ -1,8 +1,9 @@
-use Rattle.std.proofs.Common.{sym, ◌∙◌, arith}
+use Rattle.std.proofs.Common.{◌≡◌, ◌+◌, ◌-◌, sym, ◌∙◌, subst, arith}
 use Rattle.imagesize.specs.Meaning.{meaning_reads}
 use Rattle.imagesize.specs.Parted.{texts_of}
 use Rattle.imagesize_pieces.proofs.Needing.{ends_wider}
-use Rattle.imagesize_stream.proofs.Given.{early_none, few_none, latest_none, marked_none, next_none}
+use Rattle.imagesize_pieces.specs.Stream.{EndsAt}
+use Rattle.imagesize_stream.proofs.Given.{early_none, exact_none, few_none, latest_none, marked_none, next_none}
 use Rattle.imagesize_stream.proofs.parts.PartsProbe.answer.Goals as goal
 
 pub returns-in-None-clause-within : goal.returns-in-None-clause-within
@@ -25,6 +26,17 @@ returns-in-None-clause-reaches c = λ d may without out.
     none may.marked out in
     ends_wider s.stand.passed s.stand.end _ _ (meaning_reads d 0).marks (omega arith) (omega (arith, next.0))
     (marked.1 without)
+
+pub returns-in-None-clause-exact : goal.returns-in-None-clause-exact
+returns-in-None-clause-exact c = λ d may without late.
+    let s = c.args.self.now.probe in
+    let none = sym c.answer.ensures.is ∙ c.in-None.is in
+    let next = next_none s.kind s.stage s.stand.start s.stand.offset s.stand.passed s.stand.end s.stand.told none s.holds
+    c.args.self.now.next in
+    let ends : s.stand.end ≡ s.stand.passed + (s.stand.end - s.stand.passed) = omega (arith, next.0) in
+    subst (λ e. EndsAt e (meaning_reads d 0).marks) ends
+    (exact_none s.kind (texts_of d) s.stage s.stand.start s.stand.passed s.stand.end s.stand.told (meaning_reads d 0).marks none
+    c.args.self.now.next may.marked without (omega (arith, ends, late)))
 
 pub returns-in-None-clause-short : goal.returns-in-None-clause-short
 returns-in-None-clause-short c =

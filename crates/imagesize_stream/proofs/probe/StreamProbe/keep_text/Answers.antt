@@ -42,7 +42,7 @@ returns-clause-complete c = λ is front came.
     rests_cut front c.args.chunk.now more s.stand.passed s.stand.told here.1.as_many c.front_of-more.ensures
     (λ d begins as_long below.
     let needs = pending_needs c.in-Records.next c.in-Some.text c.in-Some.most s.stand new.stand s.kind s.buffer new.buffer
-    front more keeps c.in-Some.ensures.first here c.in-Some.ensures.few d begins as_long in
+    front more keeps c.in-Some.ensures.first here c.in-Some.ensures.kind c.in-Some.ensures.few d begins as_long in
     absurd (omega (arith, below needs.0.0 needs.0.3, needs.0.1, many)))
 
 pub returns-clause-parts : goal.returns-clause-parts
@@ -57,7 +57,7 @@ returns-clause-parts c = λ is d given has.
     let many = text_many c.in-Records.next c.in-Some.text c.in-Some.most s.stand new.stand s.kind s.buffer new.buffer front
     more keeps c.in-Some.ensures.first here.known in
     let all = pending_needs c.in-Records.next c.in-Some.text c.in-Some.most s.stand new.stand s.kind s.buffer new.buffer
-    front more keeps c.in-Some.ensures.first here.known c.in-Some.ensures.few in
+    front more keeps c.in-Some.ensures.first here.known c.in-Some.ensures.kind c.in-Some.ensures.few in
     subst (λ stage. MayBeAt stage s.kind new.stand new.buffer d) (sym c.in-Records.is)
     (given_on (Records c.in-Records.next) s.kind new.stand new.buffer d more s.stand.passed s.stand.told given.as_long cut
     keeps.told
