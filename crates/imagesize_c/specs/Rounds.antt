@@ -34,9 +34,9 @@ pub record TakesPart (old new : PartsProbe) (offset : ℕ) (bytes : List ℕ) : 
   pub beyond : IfWanted (next_of old) (λ w. offset ≤ w.start → w.start + w.len ≤ offset + length bytes
       → IfWanted (next_of new) (λ next. w.start + w.len ≤ next.start))
 
--- A requested span ends with the first 18 bytes as long as fewer than 12 are there. For a type without texts, one that ends after
--- these ends where a read ends that the result depends on. In a record it ends at the latest with the last byte that the record may
--- read, and before the first record with the first 132 bytes.
+-- As long as fewer than 12 bytes are there, a requested span ends at the latest with the first 18. For a type without texts, a span
+-- that ends after these ends where a read ends that the result depends on. In a record, a span ends at the latest with the last byte
+-- that the record may read. Before the first record, it ends at the latest with the first 132 bytes.
 pub record EndsEarly (probe : PartsProbe) (w : Span) : Type 0 where
   pub early : w.start < 12 → w.start + w.len ≤ 18
   pub exact : (d : List ℕ) → MayBe probe d → texts_of d ≡ false → 18 < w.start + w.len → EndsAt (w.start + w.len) (meaning d 0).marks

@@ -66,8 +66,8 @@ pub unsafe extern "C" fn imagesize_parts_answer(
     ensures within { (d : List ℕ) → MayBe held d → is_wanted result ≡ true → (wanted.new.start < 12) ⊎ (18 ≤ wanted.new.start) → HasMarked wanted.new d }
     ensures fits { is_wanted result ≡ true → IsWithin (total_of held) wanted.new }
 
-    // The span has 1,024 bytes at most. Unless the type is a text format, it has 132 at most, and past the first 18 bytes it ends where
-    // a read ends that the result depends on.
+    // The span has 1,024 bytes at most. Unless the type is a text format, it has 132 at most. Past the first 18 bytes, it then ends
+    // where a read ends that the result depends on.
     ensures short { is_wanted result ≡ true → (wanted.new.len ≤ 1024) × EndsEarly held wanted.new }
     ensures shorter { (d : List ℕ) → MayBe held d → is_wanted result ≡ true → texts_of d ≡ false → wanted.new.len ≤ 132 }
 

@@ -8,6 +8,7 @@ ghost use Rattle.imagesize_io.specs.Answers.{IsLast};
 ghost use Rattle.imagesize_io.specs.Telling.{SeekTells, account};
 ghost use Rattle.imagesize_source.specs.Halts.{error_by};
 ghost use Rattle.imagesize_io.specs.StopOf.{kept_error};
+ghost use Rattle.imagesize_source.specs.State.{rejoined};
 
 mod filling;
 mod held;
@@ -138,8 +139,19 @@ impl<R: Told> Source for ReaderSource<'_, R> {
         Some(HeldSource::new(self, bytes, offset, progress.told, progress.budget, counts))
     }
 
+    // A caller may pass any count, and the budget bounds it.
     #[inline(always)]
-    fn pass(&mut self, counts: Counts) {
+    fn pass(&mut self, counts: Counts)
+        ensures passes { R.count self.old.reader.now ≡ None → self.old.ledger.progress.taken ≤ counts.taken
+            → counts.taken ≤ self.old.ledger.progress.budget
+            → reader_state (account R.telling R.count R.failure self.new.reader.now) self.new.reader.ghost_name
+            self.new.ledger.progress self.new.ledger.window.items
+            ≡ rejoined (reader_state (account R.telling R.count R.failure self.old.reader.now) self.old.reader.ghost_name
+            self.old.ledger.progress self.old.ledger.window.items) counts.taken counts.position }
+
+        // A read past the reported length goes on only from here.
+        ensures present { self.new.ledger.present ≡ counts.position }
+    {
         let Counts { taken, position } = counts;
         let Ledger {
             progress,

@@ -133,7 +133,7 @@ latest_by (Footer size) start told = told
 latest_by (Done size) start told = told
 
 -- The result depends on a byte before this end, after those that came, and in the next record or footer, where that is read. If no
--- text is read, a read that it depends on ends at this end. Of the first bytes at least 18 are requested, so there a read ends among
+-- text is read, a read that it depends on ends at this end. At least the first 18 bytes are requested, so there a read ends among
 -- them. Of the bytes 12 to 17 this is not known, if they may be the header of a TGA.
 abbrev pub MarkedBy : Bool → Stage → ℕ → ℕ → ℕ → List Span → Type 0
 MarkedBy texts First start passed end marks =

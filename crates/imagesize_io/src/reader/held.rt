@@ -2,15 +2,47 @@
 ghost use Rattle.std.specs.Prelude.{◌≡◌, ◌+◌, ◌-◌, ◌^◌, ◌<◌, ◌≤◌, min, true, false, None, Ok, IfSome, length, take};
 ghost use Rattle.imagesize_source.specs.Text.{is_ended};
 ghost use Rattle.imagesize_io.specs.Held.{HoldsFrom, IsWhole, is_line};
-ghost use Rattle.imagesize_io.specs.ReaderState.{ReadsAt};
+ghost use Rattle.imagesize_io.specs.ReaderState.{ReadsAt, ReadsOn};
 ghost use Rattle.imagesize_io.specs.Telling.{account};
 
 use super::Ledger;
 use crate::Told;
 use crate::held::{copy_text, is_line};
-use crate::window::keep;
+use crate::window::{WINDOW, keep};
 use imagesize_source::Text;
 use imagesize_source::text::ended_length;
+
+/// Fills the buffer from an offset on, if the reader holds all of these bytes. Returns whether it did.
+///
+/// A buffered reader holds the bytes of most reads. This saves the search of the first bytes, a seek and a read.
+#[inline(always)]
+pub(super) fn read_held<R: Told>(
+    reader: &R,
+    ledger: &mut Ledger,
+    offset: u64,
+    buffer: &mut [u8],
+) -> bool
+    ensures none { result ≡ false → ledger.new ≡ ledger.old }
+    ensures reads { result ≡ true → ReadsOn reader.now reader.now ledger.old ledger.new
+        (account R.telling R.count R.failure reader.now) (account R.telling R.count R.failure reader.now) offset buffer.new
+        (Ok (length buffer.new)) }
+{
+    // The window has no byte past its capacity, and keeps none. The proof needs that it is not longer.
+    let _length = ledger.window.len();
+    if offset < WINDOW as u64 || buffer.is_empty() {
+        return false;
+    }
+    let Some(bytes) = held_from(reader, ledger, offset) else {
+        return false;
+    };
+    let count = buffer.len();
+    if count > bytes.len() {
+        return false;
+    }
+    buffer.copy_from_slice(&bytes[..count]);
+    pass(ledger, offset, buffer.len());
+    true
+}
 
 /// Reads the text from an offset on, if the reader holds all of it, and returns how many bytes it has. Otherwise nothing is read.
 #[inline(always)]

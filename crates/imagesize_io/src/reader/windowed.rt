@@ -6,6 +6,7 @@ ghost use Rattle.imagesize_io.specs.Telling.{account};
 
 use super::Ledger;
 use super::filling::read_from;
+use super::held::read_held;
 use crate::Told;
 use crate::progress::Progress;
 use crate::window::{copy_kept, keep, keep_front};
@@ -83,6 +84,9 @@ pub(super) fn read_on<R: Told>(
     ensures { ReadsOn reader.old reader.new ledger.old ledger.new (account R.telling R.count R.failure reader.old)
         (account R.telling R.count R.failure reader.new) offset buffer.new result }
 {
+    if read_held(reader, ledger, offset, buffer) {
+        return Ok(buffer.len());
+    }
     if ledger.progress.told < offset {
         return read_beyond(reader, ledger, offset, buffer);
     }
