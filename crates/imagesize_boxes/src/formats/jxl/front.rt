@@ -81,16 +81,11 @@ impl Front {
         &self.bytes[..self.len]
     }
 
-    /// Appends bytes, which must fit. Most boxes have none: this saves a copy by a call.
-    #[inline]
-    #[tactic(auto, using(imagesize_source::proofs::Runs::steps))]
+    /// Appends bytes, which must fit.
     pub fn extend(&mut self, more: &[u8])
         requires { length self.old + length more.now ≤ 16 }
         ensures { self.new ≡ self.old ++ more.now }
     {
-        if more.is_empty() {
-            return;
-        }
         let end = self.len + more.len();
         self.bytes[self.len..end].copy_from_slice(more);
         self.len = end;
