@@ -105,6 +105,8 @@ impl<R: Told> Source for ReaderSource<'_, R> {
     // A reader that counts the bytes that it gives shows none.
     ghost shows = { λ s. R.count s.reader.now ≡ None };
 
+    const SHOWS: bool = true;
+
     #[inline]
     fn told(&self) -> u64 {
         self.ledger.progress.told

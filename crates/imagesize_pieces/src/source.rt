@@ -105,6 +105,7 @@ impl<'a> StreamSource<'a> {
     }
 
     // Records a read whose first `count` bytes are known and whose next byte is missing.
+    #[inline(always)]
     fn miss(&mut self, start: u64, count: usize, sure: usize, most: usize)
         requires known { (i : ℕ) → i < count → is_some (byte_at self.old.told self.old.start self.old.kept.now self.old.chunk.now (start + i)) ≡ true }
         requires some { 0 < sure }

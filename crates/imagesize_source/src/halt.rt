@@ -10,7 +10,7 @@ use crate::{ImageError, ImageResult, Reason};
 /// The source keeps the reader's own error and the budget until `with_error` fetches them.
 #[derive(Clone, Copy, Debug)]
 pub enum Halt {
-    /// A call of the reader failed, or a requested byte is not known.
+    /// A call of the reader failed, or a requested byte is not known or not held.
     Failed,
     /// The budget is spent.
     Spent,

@@ -22,6 +22,9 @@ pub trait Source: Claims {
     /// What holds for a source that shows bytes by `held`.
     ghost shows: { Self → Type 0 } = { λ _. ⊥ };
 
+    /// Whether `held` may return bytes. A walk over any other source does not call it, so its loop has no code for them.
+    const SHOWS: bool = false;
+
     /// The length of the input in bytes, as it was reported.
     fn told(&self) -> u64
         ensures told { result ≡ (state self.now).frame.told }
@@ -40,6 +43,7 @@ pub trait Source: Claims {
     #[inline(always)]
     fn held(&self, _offset: u64) -> Option<HeldSource<'_, Self>>
         ensures shows { IfSome result (λ held. shows self.now) }
+        ensures start { IfSome result (λ held. held.start ≡ _offset) }
         ensures told { IfSome result (λ held. shown_state held.told held.budget (Self.kept held.of.now) (Self.claim held.of.now) held.counts.taken
             held.counts.position ≡ shown_by (state self.now)) }
         ensures counts { IfSome result (λ held. ((state self.now).frame.counts ≡ true) × ((state self.now).recorded ≡ None)) }
@@ -47,8 +51,7 @@ pub trait Source: Claims {
         None
     }
 
-    /// Counts what was read of the bytes that `held` returned. No other read was made since. Only a source that shows bytes does
-    /// anything.
+    /// Counts what was read of the bytes that `held` returned. No other read was made since.
     fn pass(&mut self, counts: Counts)
         ensures { shows self.old → (state self.old).taken ≤ counts.taken → counts.taken ≤ (state self.old).frame.budget
             → state self.new ≡ rejoined (state self.old) counts.taken counts.position };

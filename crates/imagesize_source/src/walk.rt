@@ -139,6 +139,9 @@ fn walk_held<S: Source, R: Records>(
         → Strides (chain_of first (R.said records.old)) (λ held. R.keeps records.old held offset.old) a (S.state source.old) t offset.old
         → Runs a (S.state source.new) r (chain_from (chain_of first (R.said records.old)) a.held.input t)) }
 {
+    if !S::SHOWS {
+        return None;
+    }
     let mut held = source.held(*offset)?;
     let mut here = *offset;
     loop {

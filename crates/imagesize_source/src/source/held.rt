@@ -26,7 +26,7 @@ pub trait Claims {
 }
 
 /// The bytes that another source holds from an offset on, as a source. A read of any other byte fails, and so does a read that
-/// the budget does not have. A read is two comparisons, a copy and a count, and makes no call of a reader.
+/// the budget does not have. A read is a few comparisons, a copy and a count, and makes no call of a reader.
 #[derive(Drop)]
 pub struct HeldSource<'a, S: Claims> {
     bytes: &'a [u8],
@@ -58,6 +58,7 @@ impl<'a, S: Claims> HeldSource<'a, S> {
         requires shown { AreShown (S.claim of.now) start bytes.now told }
         requires within { AreWithin (S.kept of.now) start (length bytes.now) told }
         requires paid { counts.taken ≤ budget }
+        ensures start { result.start ≡ start }
         ensures told { result.told ≡ told }
         ensures budget { result.budget ≡ budget }
         ensures counts { result.counts ≡ counts }
@@ -143,6 +144,7 @@ impl<S: Claims> Source for HeldSource<'_, S> {
         halt.error(Reason::EndOfInput, self.budget)
     }
 
+    // It shows no bytes.
     #[inline(always)]
     fn pass(&mut self, _counts: Counts) {}
 

@@ -21,7 +21,8 @@ use crate::{Halt, ImageError, Reason, Span, Text};
 pub struct Missing {
     /// The offset of that byte.
     pub start: u64,
-    /// How many bytes from there on are certain to be read: 1 for a text, else all that the read requests.
+    /// How many bytes from there on are certain to be read: 1 for a text whose end may be among them, else all that the read
+    /// requests.
     pub sure: u64,
     /// How many bytes the read requests from there on.
     pub most: u64,
