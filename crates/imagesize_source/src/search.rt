@@ -1,6 +1,6 @@
 //! Searches a slice for a byte, sixteen bytes at a time.
 ghost use Rattle.std.specs.Prelude.{◌≡◌, ◌+◌, ◌≤◌, ◌==◌, length, take, drop, IsTrue, Some};
-ghost use Rattle.std.specs.List.{position, position_or_len};
+ghost use Rattle.std.specs.List.{position};
 
 use std::simd::prelude::*;
 
@@ -20,8 +20,7 @@ pub(crate) fn first_of(wanted: u8, bytes: &[u8]) -> Option<usize>
     }
     let mut index = 0;
     while bytes.len() - index >= LANES {
-        let count = count_before(wanted, bytes, index);
-        if count < LANES {
+        if let Some(count) = first_among(wanted, bytes, index) {
             return Some(index + count);
         }
         index += LANES;
@@ -38,18 +37,18 @@ fn begins_with(wanted: u8, bytes: &[u8]) -> bool
     matches!(bytes, [first, ..] if *first == wanted)
 }
 
-// How many of the sixteen bytes from an index on come before the first that equals the wanted one; all of them if none does.
+// The index of the first byte with this value among the sixteen from `index` on. The first of them has the index 0.
 #[inline(always)]
-fn count_before(wanted: u8, bytes: &[u8], index: usize) -> usize
+fn first_among(wanted: u8, bytes: &[u8], index: usize) -> Option<usize>
     requires { index + 16 ≤ length bytes.now }
-    ensures { result ≡ position_or_len (λ b. b == wanted) (take 16 (drop index bytes.now)) }
+    ensures { result ≡ position (λ b. b == wanted) (take 16 (drop index bytes.now)) }
 {
     let lanes = u8x16::from_slice(&bytes[index..]);
     let marks = lanes.simd_eq(u8x16::splat(wanted)).to_bitmask();
     if marks == 0 {
-        return LANES;
+        return None;
     }
-    marks.trailing_zeros() as usize
+    Some(marks.trailing_zeros() as usize)
 }
 
 // Searches fewer than sixteen bytes, one at a time.

@@ -1,4 +1,4 @@
-use Rattle.std.proofs.Common.{◌≡◌, ℕ, ◌+◌, ◌-◌, ◌≤◌, ◌==◌, Bool, not, List, length, drop, take, None, Some, sym, ap, ◌∙◌, arith}
+use Rattle.std.proofs.Common.{◌≡◌, ℕ, ◌+◌, ◌-◌, ◌≤◌, ◌==◌, Bool, not, List, length, drop, take, None, Some, refl, sym, ap, ◌∙◌, arith}
 use Rattle.std.proofs.lemmas.List.{length-drop, length-take, take_all, drop-drop}
 use Rattle.std.proofs.lemmas.List.Sums.{prefix_len-le-length}
 use Rattle.std.specs.List.{position, position_or_len}
@@ -6,17 +6,19 @@ use Rattle.imagesize_source.proofs.Places.{goes_on, stops, position_some, positi
 use Rattle.imagesize_source.proofs.Texts.{found, not_found}
 use Rattle.imagesize_source.proofs.search.first_of.Goals as goal
 
-pub returns-then-count-lt-LANES : goal.returns-then-count-lt-LANES
-returns-then-count-lt-LANES c =
+pub returns-in-Some : goal.returns-in-Some
+returns-in-Some c =
     let p : ℕ → Bool = λ b. b == c.args.wanted in
     let bs : List ℕ = c.args.bytes.now in
     let rest : List ℕ = drop c.loop-index.index bs in
     let there : 16 ≤ length rest = omega (arith, length-drop c.loop-index.index bs, c.loop-index-test.true) in
-    let at : position_or_len p rest ≡ c.count_before-count.result =
-    stops p rest 16 c.count_before-count.result there c.count_before-count.ensures c.if-count-lt-LANES.true in
-    sym (position_some p bs (c.loop-index.index + c.count_before-count.result)
+    let few : length (take 16 rest) ≡ 16 = omega (arith, length-take 16 rest, there) in
+    let is = found p (take 16 rest) c.in-Some.count (sym c.in-Some.ensures) in
+    let at : position_or_len p rest ≡ c.in-Some.count =
+    stops p rest 16 c.in-Some.count there (sym is.0) (omega (arith, is.1, few)) in
+    sym (position_some p bs (c.loop-index.index + c.in-Some.count)
     (c.loop-index.invariant.1 ∙ ap (λ k. c.loop-index.index + k) at)
-    (omega (arith, c.loop-index-test.true, c.if-count-lt-LANES.true)))
+    (omega (arith, c.loop-index-test.true, is.1, few)))
 
 pub loop-index-preserved : goal.loop-index-preserved
 loop-index-preserved c =
@@ -25,10 +27,10 @@ loop-index-preserved c =
     let rest : List ℕ = drop c.loop-index.index bs in
     let there : 16 ≤ length rest = omega (arith, length-drop c.loop-index.index bs, c.loop-index-test.true) in
     let few : length (take 16 rest) ≡ 16 = omega (arith, length-take 16 rest, there) in
-    let all : c.count_before-count.result ≡ 16 =
-    omega (arith, few, prefix_len-le-length (λ b. not (p b)) (take 16 rest), c.count_before-count.ensures, c.if-count-lt-LANES.false) in
+    let none : length (take 16 rest) ≤ position_or_len p (take 16 rest) = not_found p (take 16 rest) (sym c.in_default.ensures) in
+    let all : position_or_len p (take 16 rest) ≡ 16 = omega (arith, few, none, prefix_len-le-length (λ b. not (p b)) (take 16 rest)) in
     let on : position_or_len p rest ≡ 16 + position_or_len p (drop 16 rest) =
-    goes_on p rest 16 c.count_before-count.result there c.count_before-count.ensures all in
+    goes_on p rest 16 (position_or_len p (take 16 rest)) there refl all in
     let same : drop 16 rest ≡ drop (c.loop-index.index + 16) bs = drop-drop 16 c.loop-index.index bs in
     (omega (arith, c.loop-index-test.true), omega (arith, c.loop-index.invariant.1, on, ap (position_or_len p) same))
 
