@@ -51,6 +51,9 @@ pub struct PartsSource<'a> {
     ghost later: { ForSome rest (λ r. LeavesOut told spans.now bytes.now r.floor r.spans.now r.bytes.now) },
 }
 
+// A list of at most so many parts is searched from its first part.
+const FEW: usize = 4;
+
 // The last parts of a list, and their bytes. The parts before them have no byte from `floor` on.
 #[derive(Clone, Copy, Debug)]
 struct Rest<'a> {
@@ -161,17 +164,57 @@ impl<'a> PartsSource<'a> {
         ensures missing { result.0 < result.1 → is_some (byte_in_parts self.old.told self.old.spans.now self.old.bytes.now (offset + result.0)) ≡ false }
     {
         let wanted = count_there(self.told, offset, buffer.len());
-        // A read past the end needs no part.
-        if wanted > 0 {
-            self.pass_over(offset);
-        }
         let found = self.gather(offset, &mut buffer[..wanted]);
         (found, wanted)
     }
 
-    // Copies the known bytes of a read into the buffer, up to the first missing byte, and returns how many it copied.
-    fn gather(&self, offset: u64, buffer: &mut [u8]) -> usize
-        requires { length buffer.old ≤ self.now.told - offset }
+    // Copies the known bytes of a read into the buffer, up to the first missing byte, and returns how many it copied. A read past
+    // the end needs no part. A search among a few parts costs less than to pass over some of them.
+    #[inline(always)]
+    fn gather(&mut self, offset: u64, buffer: &mut [u8]) -> usize
+        requires { length buffer.old ≤ self.old.told - offset }
+        ensures spans { self.new.spans.now ≡ self.old.spans.now }
+        ensures bytes { self.new.bytes.now ≡ self.old.bytes.now }
+        ensures told { self.new.told ≡ self.old.told }
+        ensures seen { self.new.log.spans ≡ self.old.log.spans }
+        ensures missed { self.new.missed ≡ self.old.missed }
+        ensures within { result ≤ length buffer.old }
+        ensures copied { take result buffer.new ≡ part (filled_input self.old.told self.old.spans.now self.old.bytes.now) offset result }
+        ensures known { (i : ℕ) → i < result → is_some (byte_in_parts self.old.told self.old.spans.now self.old.bytes.now (offset + i)) ≡ true }
+        ensures missing { result < length buffer.old → is_some (byte_in_parts self.old.told self.old.spans.now self.old.bytes.now (offset + result)) ≡ false }
+    {
+        if buffer.is_empty() || self.spans.len() <= FEW {
+            return self.gather_among(&self.all(), offset, buffer);
+        }
+        self.gather_on(offset, buffer)
+    }
+
+    // Copies the known bytes of a read as `gather` does. The search begins after the parts that were passed over.
+    #[inline(never)]
+    fn gather_on(&mut self, offset: u64, buffer: &mut [u8]) -> usize
+        requires { length buffer.old ≤ self.old.told - offset }
+        ensures spans { self.new.spans.now ≡ self.old.spans.now }
+        ensures bytes { self.new.bytes.now ≡ self.old.bytes.now }
+        ensures told { self.new.told ≡ self.old.told }
+        ensures seen { self.new.log.spans ≡ self.old.log.spans }
+        ensures missed { self.new.missed ≡ self.old.missed }
+        ensures within { result ≤ length buffer.old }
+        ensures copied { take result buffer.new ≡ part (filled_input self.old.told self.old.spans.now self.old.bytes.now) offset result }
+        ensures known { (i : ℕ) → i < result → is_some (byte_in_parts self.old.told self.old.spans.now self.old.bytes.now (offset + i)) ≡ true }
+        ensures missing { result < length buffer.old → is_some (byte_in_parts self.old.told self.old.spans.now self.old.bytes.now (offset + result)) ≡ false }
+    {
+        self.pass_over(offset);
+        let rest = self.rest_at(offset);
+        self.gather_among(&rest, offset, buffer)
+    }
+
+    // Copies the known bytes of a read into the buffer, up to the first missing byte, and returns how many it copied. Every search
+    // begins at the same parts.
+    #[inline(always)]
+    fn gather_among(&self, rest: &Rest<'a>, offset: u64, buffer: &mut [u8]) -> usize
+        requires fits { length buffer.old ≤ self.now.told - offset }
+        requires later { LeavesOut self.now.told self.now.spans.now self.now.bytes.now rest.now.floor rest.now.spans.now rest.now.bytes.now }
+        requires floor { rest.now.floor ≤ offset }
         ensures within { result ≤ length buffer.old }
         ensures copied { take result buffer.new ≡ part (filled_input self.now.told self.now.spans.now self.now.bytes.now) offset result }
         ensures known { (i : ℕ) → i < result → is_some (byte_in_parts self.now.told self.now.spans.now self.now.bytes.now (offset + i)) ≡ true }
@@ -179,7 +222,7 @@ impl<'a> PartsSource<'a> {
     {
         let mut count = 0;
         while count < buffer.len() {
-            let run = self.known_at(offset + count as u64);
+            let run = self.known_at(rest, offset + count as u64);
             if run.is_empty() {
                 return count;
             }
@@ -188,13 +231,15 @@ impl<'a> PartsSource<'a> {
         count
     }
 
-    // The known bytes from an offset on, from the first part that contains it.
+    // The known bytes from an offset on, from the first part that contains it. The parts at which the search begins are those of
+    // this offset or of an earlier one.
     #[inline(always)]
-    fn known_at(&self, offset: u64) -> &'a [u8]
+    fn known_at(&self, rest: &Rest<'a>, offset: u64) -> &'a [u8]
+        requires later { LeavesOut self.now.told self.now.spans.now self.now.bytes.now rest.now.floor rest.now.spans.now rest.now.bytes.now }
+        requires floor { rest.now.floor ≤ offset }
         ensures known { (i : ℕ) → i < length result.now → byte_in_parts self.now.told self.now.spans.now self.now.bytes.now (offset + i) ≡ Some (slice_index result.now i) }
         ensures none { length result.now ≡ 0 → is_some (byte_in_parts self.now.told self.now.spans.now self.now.bytes.now offset) ≡ false }
     {
-        let rest = self.rest_at(offset);
         known_from(rest.spans, rest.bytes, self.told, offset)
     }
 
@@ -206,11 +251,20 @@ impl<'a> PartsSource<'a> {
     {
         match self.rest {
             Some(rest) if rest.floor <= offset => rest,
-            _ => Rest {
-                spans: self.spans,
-                bytes: self.bytes,
-                floor: 0,
-            },
+            _ => self.all(),
+        }
+    }
+
+    // All parts, to begin a search at the first one.
+    #[inline(always)]
+    fn all(&self) -> Rest<'a>
+        ensures later { LeavesOut self.now.told self.now.spans.now self.now.bytes.now result.floor result.spans.now result.bytes.now }
+        ensures floor { result.floor ≡ 0 }
+    {
+        Rest {
+            spans: self.spans,
+            bytes: self.bytes,
+            floor: 0,
         }
     }
 

@@ -2,7 +2,7 @@ use Rattle.std.proofs.Common.{arith, refl, sym, ◌∙◌, length, ◌+◌, ◌�
 use Rattle.imagesize_source.specs.Known.{filled_input}
 use Rattle.imagesize_source.proofs.Gathering.{gathered_run, known_run}
 use Rattle.imagesize_source.proofs.Parts.{part_none}
-use Rattle.imagesize_source.proofs.source.parts.PartsSource.gather.Goals as goal
+use Rattle.imagesize_source.proofs.source.parts.PartsSource.gather_among.Goals as goal
 
 pub loop-count-init : goal.loop-count-init
 loop-count-init c = (
@@ -18,7 +18,7 @@ loop-count-preserved c =
     let long : length c.put-count.new.buffer ≡ length c.loop-count.buffer = c.put-count.auto.buffer in
     let few : c.put-count.result ≤ length c.known_at-run.result.now = omega (arith, c.put-count.ensures.count) in
     let fits : c.args.offset + c.loop-count.count + c.put-count.result ≤ c.args.self.now.told =
-    omega (arith, c.put-count.ensures.count, c.loop-count-test.true, c.requires, so_far.0) in (
+    omega (arith, c.put-count.ensures.count, c.loop-count-test.true, c.requires.fits, so_far.0) in (
       long ∙ so_far.0,
       gathered_run c.args.self.now.told c.args.self.now.spans.now c.args.self.now.bytes.now c.known_at-run.result.now c.loop-count.buffer
           c.put-count.new.buffer c.args.offset

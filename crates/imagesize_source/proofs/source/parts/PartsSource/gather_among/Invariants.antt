@@ -1,7 +1,7 @@
 use Rattle.std.proofs.Common.{◌≡◌, ◌+◌, ◌-◌, ◌<◌, ◌≤◌, ℕ, true, is_some, length, take}
 use Rattle.imagesize_source.specs.Input.{part}
 use Rattle.imagesize_source.specs.Known.{filled_input, byte_in_parts}
-use Rattle.imagesize_source.proofs.source.parts.PartsSource.gather.Given as goal
+use Rattle.imagesize_source.proofs.source.parts.PartsSource.gather_among.Given as goal
 
 -- the bytes so far are known, and stand in the buffer
 abbrev pub invariant-loop-count : goal.invariant-loop-count
