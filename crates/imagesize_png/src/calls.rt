@@ -1,17 +1,20 @@
 //! The calls: the size of the PNG in a slice, or in a reader's bytes.
-ghost use Rattle.std.specs.Prelude.{◌≡◌, ℕ, ◌≤◌, List, ◌++◌, IfOk, IfErr, IfSome, Option, Ok, Err, true, false};
+ghost use Rattle.std.specs.Prelude.{◌≡◌, ℕ, ◌≤◌, List, ◌++◌, length, IfOk, IfErr, IfSome, Option, Ok, Err, true, false};
 ghost use Rattle.imagesize.specs.Probed.{SpentAll};
-ghost use Rattle.imagesize_io.specs.Answers.{Answers, CountsWithin, IsLast, Leaves, LeavesAt};
+ghost use Rattle.imagesize_io.specs.Answers.{Answers, CountsWithin, IsLast, Leaves, LeavesAt, PlacedAt};
+ghost use Rattle.imagesize_io.specs.Memory.{IsMemory};
 ghost use Rattle.imagesize_io.specs.ReaderState.{Opens};
 ghost use Rattle.imagesize_io.specs.Telling.{Telling};
 ghost use Rattle.imagesize_png.specs.Png.{png_of};
 ghost use Rattle.imagesize_source.specs.Agreement.{Agrees};
 ghost use Rattle.imagesize_source.specs.declared.error.ImageError.TheVariants.{NotSupported};
 ghost use Rattle.imagesize_source.specs.Errors.{budget_spent, is_fault, is_memory, is_stopped};
+ghost use Rattle.imagesize_source.specs.Limits.{allowance};
 ghost use Rattle.imagesize_source.specs.State.{total};
 
 use crate::Told;
 use crate::format::size;
+use imagesize_io::counting::{CountingSource, leave};
 use imagesize_io::reader::{Opened, Origin, ReaderSource, open, settle};
 use imagesize_source::ImageResult;
 use imagesize_source::halt::with_error;
@@ -85,7 +88,30 @@ pub fn reader_size<R: Told>(reader: &mut R) -> ImageResult<ImageSize>
     ensures offset { LeavesAt (R.telling reader.old) (R.telling reader.new) png_of }
 {
     let opened = open(reader, Origin::Offset)?;
-    size_opened(reader, opened)
+    let Some(bytes) = reader.in_memory() else {
+        return size_opened(reader, opened);
+    };
+    // Bytes in memory are read where they lie, and are counted. No read calls the reader.
+    let (answer, position) = memory_size(bytes, opened);
+    leave(reader, position);
+    answer
+}
+
+// The size of the image in the bytes of a reader in memory, and the offset at which the reader is to be left.
+#[inline(always)]
+fn memory_size(bytes: &[u8], opened: Opened) -> (ImageResult<ImageSize>, u64)
+    ensures answers { (telling mid : Option Telling) → Opens telling mid (Ok opened) → IsMemory mid bytes.now
+        → Answers telling png_of result.0 }
+    ensures spent { IfErr result.0 (λ e. IfSome (budget_spent e) (λ budget. allowance ≤ budget)) }
+    ensures memory { IfErr result.0 (λ e. is_memory e ≡ false) }
+    ensures fault { IfErr result.0 (λ e. is_fault e ≡ false) }
+    ensures there { result.1 ≤ length bytes.now }
+    ensures offset { (telling mid : Option Telling) → Opens telling mid (Ok opened) → IsMemory mid bytes.now
+        → PlacedAt telling png_of result.1 }
+{
+    let mut source = CountingSource::new(bytes);
+    let found = size(&mut source, opened.offset);
+    (with_error(found, &source), source.position())
 }
 
 // The size of the image in the bytes of a reader that was opened.
