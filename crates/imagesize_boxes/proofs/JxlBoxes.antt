@@ -1,5 +1,5 @@
 -- JPEG XL: the ways that a box can go, how a walk along the boxes goes, and the size by what it found.
-use Rattle.std.proofs.Common.{◌≡◌, ℕ, ◌+◌, ◌-◌, ◌*◌, ◌^◌, ◌<◌, ◌≤◌, true, false, cond, eqb, leb, ltb, not, ◌&&◌, ◌||◌, codes, take, drop, min, slice_index, List, [], ◌∷◌, ◌++◌, length, get_or, Result, Ok, Err, refl, sym, ap, ◌∙◌, arith}
+use Rattle.std.proofs.Common.{◌≡◌, ℕ, ◌+◌, ◌-◌, ◌*◌, ◌^◌, ◌<◌, ◌≤◌, true, false, cond, eqb, leb, ltb, not, ◌&&◌, ◌||◌, codes, take, drop, min, slice_index, List, [], ◌∷◌, ◌++◌, length, get_or, None, Some, Result, Ok, Err, refl, sym, ap, ◌∙◌, arith}
 use Rattle.std.proofs.lemmas.Bool.Decides.{nat_tests}
 use Rattle.std.proofs.lemmas.List.{append-nil, length-take, length-take-le, get_or-take}
 use Rattle.std.proofs.lemmas.List.Folds.{concat-append}
@@ -7,13 +7,13 @@ use Rattle.std.specs.List.{concat}
 use Rattle.imagesize_boxes.specs.declared.formats.jxl.boxes.BoxHead.{BoxHead}
 use Rattle.imagesize_boxes.specs.Fields.{Fields, found, bits, binary, bits_of, field_at, with_found, found_by}
 use Rattle.imagesize_boxes.specs.Walks.{field_in, found_in}
-use Rattle.imagesize_boxes.specs.Jxl.{has_signature, jxl_header, jxl_size, piece_at, box_checked, box_head, box_room, said_behind, codestream_box, partial_said, partial_box, box_content, jxl_box, jxl_chain, jxl_codestream, jxl}
+use Rattle.imagesize_boxes.specs.Jxl.{has_signature, jxl_header, jxl_size, piece_at, box_checked, box_head, box_room, said_behind, codestream_box, partial_said, partial_box, box_content, jxl_box, jxl_chain, jxl_start, codestream, jxl_codestream, jxl}
 use Rattle.imagesize_boxes.proofs.Fields.{field_front, found_alike}
 use Rattle.imagesize_types.specs.Head.{begins}
 use Rattle.imagesize_types.specs.declared.size.ImageSize.{ImageSize}
 use Rattle.imagesize_source.specs.declared.halt.Halt.{Halt}
 use Rattle.imagesize_source.specs.declared.halt.Halt.TheVariants.{Corrupted, Ended, InvalidJxlBoxSize, InvalidJxlSignature}
-use Rattle.imagesize_source.specs.Chain.{Said, Decided, Next, Advances}
+use Rattle.imagesize_source.specs.Chain.{Said, Decided, Next, Advances, chain_at}
 use Rattle.imagesize_source.specs.Layout.{Layout, layout_reads, bind, bytes, bytes_there, accept}
 use Rattle.imagesize_source.specs.Layout.Layout.{field, refuse, done}
 use Rattle.imagesize_source.specs.Reading.{is_failure, just, refuses, uncounted}
@@ -21,7 +21,7 @@ use Rattle.imagesize_source.specs.State.{State, Runs, EndedBy, IsSound}
 use Rattle.imagesize_source.proofs.Advances.{Begins, Tells, advances}
 use Rattle.imagesize_source.proofs.Reached.{reads_nothing}
 use Rattle.imagesize_source.proofs.PastTheEnd.{bytes_beyond}
-use Rattle.imagesize_source.proofs.Runs.{runs_then}
+use Rattle.imagesize_source.proofs.Runs.{runs_refused, runs_then}
 use Rattle.imagesize_source.proofs.Tests.{on_test}
 use Rattle.imagesize_source.specs.declared.endian.Endian.TheVariants.{Little, Big}
 use Rattle.imagesize_source.specs.Numbers.{number, little}
@@ -223,3 +223,38 @@ pub sized : {a b : State} (front : List ℕ) → Runs a b (Ok front) (jxl_codest
 sized {a} {b} front run =
     runs_then (jxl_codestream a.held.input) (λ found held. just (jxl_size found) []) run
     (sized_by (jxl_size front) run.sound_after (plain_size front))
+
+-- the size by the first bytes of an input that is a codestream
+pub sized_whole : {a b : State} (front : List ℕ) → Runs a b (Ok (Some front)) (layout_reads a.held.input jxl_start)
+    → Runs a b (jxl_size front)
+    (jxl a.held.input)
+sized_whole {a} {b} front run = sized front
+    (runs_then (layout_reads a.held.input jxl_start) (λ found held. codestream held.input found) run
+    (reads_nothing b (Ok front) run.sound_after refl tt))
+
+-- the first bytes of a codestream in boxes, or why there are none
+boxed : {a m b : State} (answer : Result (List ℕ) Halt) → Runs a m (Ok None) (layout_reads a.held.input jxl_start)
+    → Runs m b answer (chain_at jxl_chain m.held.input)
+    → Runs a b answer (jxl_codestream a.held.input)
+boxed {a} answer run behind =
+    runs_then (layout_reads a.held.input jxl_start) (λ front held. codestream held.input front) run behind
+
+-- the size by these bytes
+pub sized_boxed : {a m b : State} (front : List ℕ) → Runs a m (Ok None) (layout_reads a.held.input jxl_start)
+    → Runs m b (Ok front) (chain_at jxl_chain m.held.input)
+    → Runs a b (jxl_size front) (jxl a.held.input)
+sized_boxed front run behind = sized front (boxed (Ok front) run behind)
+
+-- no size, as the first bytes are missing
+pub refused_start : {a b : State} (e : Halt) → Runs a b (Err e) (layout_reads a.held.input jxl_start)
+    → Runs a b (Err e) (jxl a.held.input)
+refused_start {a} e run =
+    runs_refused (jxl_codestream a.held.input) (λ front. just (jxl_size front) [])
+    (runs_refused (layout_reads a.held.input jxl_start) (codestream a.held.input) run)
+
+-- no size, as no box has the codestream
+pub refused_boxed : {a m b : State} (e : Halt) → Runs a m (Ok None) (layout_reads a.held.input jxl_start)
+    → Runs m b (Err e) (chain_at jxl_chain m.held.input)
+    → Runs a b (Err e) (jxl a.held.input)
+refused_boxed {a} e run behind =
+    runs_refused (jxl_codestream a.held.input) (λ front. just (jxl_size front) []) (boxed (Err e) run behind)

@@ -25,7 +25,7 @@ use imagesize_types::size::{ImageSize, size_if_known};
 use imagesize_walked::formats::ico::Entries as Icons;
 use imagesize_walked::formats::ilbm::Chunks;
 use imagesize_walked::formats::jpeg::Segments;
-use imagesize_walked::formats::tiff::{self, Entries, Header, Version};
+use imagesize_walked::formats::tiff::{self, Header, Version};
 
 /// The next record.
 #[derive(Clone, Copy)]
@@ -505,21 +505,18 @@ fn read_entry_of<S: Source, const HEAD: usize, const VALUE: usize>(
     ensures stays { IfErr result (λ _. listed.new ≡ listed.old) }
     ensures runs { Follows (S.state source.old) (S.state source.new) (map_answer (said_at offset) (leading_to (awaited.Entry listed.new) result)) (step (awaited.Entry listed.old) offset) }
 {
-    let mut entries = Entries::<HEAD, VALUE> {
-        header: listed.header,
-        count: listed.count,
-        seen: listed.seen,
-        width: listed.width,
-        height: listed.height,
-    };
-    match entries.read_next(source, offset)? {
+    let found = tiff::read_next::<S, HEAD, VALUE>(
+        source,
+        offset,
+        &listed.header,
+        listed.count,
+        &mut listed.seen,
+        &mut listed.width,
+        &mut listed.height,
+    )?;
+    match found {
         Found::Answer(size) => Ok(Found::Answer(size)),
-        Found::Other { length, .. } => {
-            listed.seen = entries.seen;
-            listed.width = entries.width;
-            listed.height = entries.height;
-            Ok(Found::Other { held: (), length })
-        }
+        Found::Other { length, .. } => Ok(Found::Other { held: (), length }),
     }
 }
 

@@ -227,7 +227,15 @@ impl<const HEAD: usize, const VALUE: usize> Records for Entries<HEAD, VALUE> {
         source: &mut S,
         offset: u64,
     ) -> Result<Found<Entry, ImageSize>, Halt> {
-        self.read_next(source, offset)
+        read_next::<S, HEAD, VALUE>(
+            source,
+            offset,
+            &self.header,
+            self.count,
+            &mut self.seen,
+            &mut self.width,
+            &mut self.height,
+        )
     }
 
     // No entry is left, or the input ends before the next one.
@@ -240,57 +248,59 @@ impl<const HEAD: usize, const VALUE: usize> Records for Entries<HEAD, VALUE> {
     }
 }
 
-impl<const HEAD: usize, const VALUE: usize> Entries<HEAD, VALUE> {
-    /// Reads the entry at an offset.
-    #[inline(always)]
-    pub fn read_next<S: Source>(
-        &mut self,
-        source: &mut S,
-        offset: u64,
-    ) -> Result<Found<Entry, ImageSize>, Halt>
-        ensures header { self.new.header ≡ self.old.header }
-        ensures count { self.new.count ≡ self.old.count }
-        ensures nears { IfOk result (λ found. Nears (S.state source.old) (S.state source.new) offset (said_at offset found)) }
-        ensures on { IfOk result (λ found. EntriesOn self.old.seen self.old.width self.old.height self.new.seen self.new.width self.new.height (said_at offset found)) }
-        ensures stays { IfErr result (λ _. (self.new.seen ≡ self.old.seen) × (self.new.width ≡ self.old.width) × (self.new.height ≡ self.old.height)) }
-        ensures runs { Follows (S.state source.old) (S.state source.new) (map_answer (said_at offset) result)
-            (entry_behind self.old.header self.old.count self.old.seen self.old.width self.old.height offset) }
-    {
-        if self.seen == self.count {
-            // The proof needs that the length is below 2^63.
-            let _told = source.told();
-            return Err(Halt::NoDimensionsInIfd);
-        }
-        let entry = read_entry::<S, HEAD, VALUE>(source, &self.header, offset)?;
-        self.seen += 1;
-        match self.size_with(&entry) {
-            Some(size) => Ok(Found::Answer(size)),
-            None => Ok(Found::Other {
-                held: entry,
-                length: (HEAD + VALUE) as u64,
-            }),
-        }
+/// Reads the entry at an offset, after `seen` of `count` entries, which tell this width and this height. These are changed where they
+/// are stored. For a stream, this saves 14 of 120 instructions an entry.
+#[inline(always)]
+pub fn read_next<S: Source, const HEAD: usize, const VALUE: usize>(
+    source: &mut S,
+    offset: u64,
+    header: &Header,
+    count: u64,
+    seen: &mut u64,
+    width: &mut Option<u32>,
+    height: &mut Option<u32>,
+) -> Result<Found<Entry, ImageSize>, Halt>
+    requires few { seen.old ≤ count }
+    requires head { HEAD ≡ head_bytes header.now.version }
+    requires value { VALUE ≡ value_bytes header.now.version }
+    ensures few { seen.new ≤ count }
+    ensures nears { IfOk result (λ found. Nears (S.state source.old) (S.state source.new) offset (said_at offset found)) }
+    ensures on { IfOk result (λ found. EntriesOn seen.old width.old height.old seen.new width.new height.new (said_at offset found)) }
+    ensures stays { IfErr result (λ _. (seen.new ≡ seen.old) × (width.new ≡ width.old) × (height.new ≡ height.old)) }
+    ensures runs { Follows (S.state source.old) (S.state source.new) (map_answer (said_at offset) result)
+        (entry_behind header.now count seen.old width.old height.old offset) }
+{
+    if *seen == count {
+        // The proof needs that the length is below 2^63.
+        let _told = source.told();
+        return Err(Halt::NoDimensionsInIfd);
     }
+    let entry = read_entry::<S, HEAD, VALUE>(source, header, offset)?;
+    *seen += 1;
+    match size_with(&entry, width, height) {
+        Some(size) => Ok(Found::Answer(size)),
+        None => Ok(Found::Other {
+            held: entry,
+            length: (HEAD + VALUE) as u64,
+        }),
+    }
+}
 
-    // Keeps the value of an entry that states a side, or `None` if it has none. Returns the size, if both sides are known.
-    #[inline(always)]
-    fn size_with(&mut self, entry: &Entry) -> Option<ImageSize>
-        ensures header { self.new.header ≡ self.old.header }
-        ensures count { self.new.count ≡ self.old.count }
-        ensures seen { self.new.seen ≡ self.old.seen }
-        ensures width { self.new.width ≡ side_with 0x100 self.old.width entry.now }
-        ensures height { self.new.height ≡ side_with 0x101 self.old.height entry.now }
-        ensures size { result ≡ size_if_known self.new.width self.new.height }
-    {
-        match entry.tag {
-            0x100 => self.width = entry.value,
-            0x101 => self.height = entry.value,
-            // Without a width there is no size. In a directory of many other entries, this saves 4 of 70 instructions for each.
-            _ if self.width.is_none() => return None,
-            _ => {}
-        }
-        size_of_sides(self.width, self.height)
+// Keeps the value of an entry that states a side, or `None` if it has none. Returns the size, if both sides are known.
+#[inline(always)]
+fn size_with(entry: &Entry, width: &mut Option<u32>, height: &mut Option<u32>) -> Option<ImageSize>
+    ensures width { width.new ≡ side_with 0x100 width.old entry.now }
+    ensures height { height.new ≡ side_with 0x101 height.old entry.now }
+    ensures size { result ≡ size_if_known width.new height.new }
+{
+    match entry.tag {
+        0x100 => *width = entry.value,
+        0x101 => *height = entry.value,
+        // Without a width there is no size. In a directory of many other entries, this saves 4 of 70 instructions for each.
+        _ if width.is_none() => return None,
+        _ => {}
     }
+    size_of_sides(*width, *height)
 }
 
 // The size, where both sides are known.

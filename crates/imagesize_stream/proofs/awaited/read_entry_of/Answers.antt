@@ -7,11 +7,11 @@ use Rattle.imagesize_stream.specs.declared.awaited.Awaited.TheVariants.{Entry}
 use Rattle.imagesize_walked.specs.Tiff.{entry_behind, side_with}
 use Rattle.imagesize_stream.proofs.awaited.read_entry_of.Goals as goal
 
-pub returns-in_err-size-clause-runs : goal.returns-in_err-size-clause-runs
-returns-in_err-size-clause-runs g c =
+pub returns-in_err-found-clause-runs : goal.returns-in_err-found-clause-runs
+returns-in_err-found-clause-runs g c =
     let l = c.args.listed.now in
     let h = runs_off (entry_behind l.header l.count l.seen l.width l.height c.args.offset)
-    (after (λ entry. Entry (listed_with l entry)) decides) _ c.in_err-size.ensures.runs in
+    (after (λ entry. Entry (listed_with l entry)) decides) _ c.in_err-found.ensures.runs in
     search (rules, h)
 
 pub returns-in-Answer-clause-runs : goal.returns-in-Answer-clause-runs
@@ -19,12 +19,12 @@ returns-in-Answer-clause-runs g c =
     let l = c.args.listed.now in
     runs_on (entry_behind l.header l.count l.seen l.width l.height c.args.offset)
     (after (λ entry. Entry (listed_with l entry)) decides) (Decided c.in-Answer.size) _ refl
-    (rw c.in-Answer.is at c.in_ok-size.ensures.runs)
+    (rw c.in-Answer.is at c.in_ok-found.ensures.runs)
 
 pub returns-in-Other-clause-runs : goal.returns-in-Other-clause-runs
 returns-in-Other-clause-runs g c =
-    let l = c.args.listed.now in let new = c.read_next.new.self in
-    let on = rw c.in-Other.is at c.in_ok-size.ensures.on in
+    let l = c.args.listed.now in let new = c.read_next.new in
+    let on = rw c.in-Other.is at c.in_ok-found.ensures.on in
     runs_on (entry_behind l.header l.count l.seen l.width l.height c.args.offset)
     (after (λ entry. Entry (listed_with l entry)) decides)
     (Next c.in-Other.held (c.args.offset + c.in-Other.length)) _
@@ -45,4 +45,4 @@ returns-in-Other-clause-runs g c =
     ∙ ap (λ h. «done» (Next
     (Entry (record { header = l.header; count = l.count; seen = new.seen; width = new.width; height = h }))
     (c.args.offset + c.in-Other.length))) (sym on.2))
-    (rw c.in-Other.is at c.in_ok-size.ensures.runs)
+    (rw c.in-Other.is at c.in_ok-found.ensures.runs)

@@ -1,5 +1,22 @@
-use Rattle.imagesize_boxes.proofs.JxlBoxes.{sized}
+use Rattle.std.proofs.Common.{rules}
+use Rattle.imagesize_boxes.proofs.JxlBoxes.{refused_boxed, refused_start, sized_boxed, sized_whole}
 use Rattle.imagesize_boxes.proofs.formats.jxl.size.Goals as goal
 
-pub returns : goal.returns
-returns g c = rw c.size.ensures (sized c.in_ok-front.front c.in_ok-front.ensures)
+pub returns-in_err-front : goal.returns-in_err-front
+returns-in_err-front g c =
+    let h = refused_start _ c.in_err-front.ensures in search (rules, h)
+
+pub returns-in-Some : goal.returns-in-Some
+returns-in-Some g c =
+    let run = rw c.in-Some.is at c.in_ok-front.ensures in
+    rw c.size.ensures (sized_whole c.in-Some.front run)
+
+pub returns-in_err-front-in-None : goal.returns-in_err-front-in-None
+returns-in_err-front-in-None g c =
+    let run = rw c.in-None.is at c.in_ok-front.ensures in
+    let h = refused_boxed _ run c.in_err-front-in-None.ensures in search (rules, h)
+
+pub returns-in_ok-front-in-None : goal.returns-in_ok-front-in-None
+returns-in_ok-front-in-None g c =
+    let run = rw c.in-None.is at c.in_ok-front.ensures in
+    rw c.size-in-None.ensures (sized_boxed c.in_ok-front-in-None.front run c.in_ok-front-in-None.ensures)

@@ -3,7 +3,7 @@ use Rattle.imagesize_walked.proofs.formats.tiff.EntriesRecords.read_record.Goals
 
 pub returns-clause-keeps : goal.returns-clause-keeps
 returns-clause-keeps g c = λ entries known.
-    let s = c.args.self.now in let new = c.read_next.new.self in
+    let s = c.args.self.now in let new = c.read_next.new in
     entries_on s.header s.seen new.seen s.width s.height new.width new.height entries c.args.offset c.read_next.result
     known c.read_next.ensures.on
 
