@@ -109,8 +109,9 @@ fn memory_size(bytes: &[u8], opened: Opened) -> (ImageResult<ImageSize>, u64)
     ensures offset { (telling mid : Option Telling) → Opens telling mid (Ok opened) → IsMemory mid bytes.now
         → PlacedAt telling png_of result.1 }
 {
+    let Opened { offset, .. } = opened;
     let mut source = CountingSource::new(bytes);
-    let found = size(&mut source, opened.offset);
+    let found = size(&mut source, offset);
     (with_error(found, &source), source.position())
 }
 
