@@ -1,5 +1,4 @@
-use Rattle.std.proofs.Common.{None, refl, subst, sym, arith, ap}
-use Rattle.imagesize.proofs.Endings.{budget_least, no_memory}
+use Rattle.std.proofs.Common.{length, None, refl, sym, ap, subst, arith}
 use Rattle.imagesize_io.proofs.Counted.{counting_starts}
 use Rattle.imagesize_io.proofs.Leaving.{opened_at}
 use Rattle.imagesize_io.specs.Answers.{Answers}
