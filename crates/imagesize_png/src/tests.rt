@@ -64,6 +64,10 @@ fn the_sides_stand_in_the_image_header(rt: HostRuntime) -> Result<(), Fail> {
     for (bytes, width, height) in SIZED {
         assert!(rt; is_png(bytes));
         assert_eq!(rt; blob_size(bytes)?, ImageSize { width, height });
+        assert_eq!(rt;
+            reader_size(&mut Cursor::new(bytes))?,
+            ImageSize { width, height }
+        );
         let mut reader = Cutting::one_byte(Cursor::new(bytes));
         assert_eq!(rt; reader_size(&mut reader)?, ImageSize { width, height });
     }
@@ -76,6 +80,8 @@ fn other_bytes_are_no_png(rt: HostRuntime) {
         assert!(rt; !is_png(bytes));
         assert!(rt; is_unsupported(&blob_size(bytes)));
         assert!(rt; is_unsupported(&reader_size(&mut Cursor::new(bytes))));
+        let mut reader = Cutting::one_byte(Cursor::new(bytes));
+        assert!(rt; is_unsupported(&reader_size(&mut reader)));
     }
 }
 
@@ -86,6 +92,8 @@ fn what_is_cut_ends(rt: HostRuntime) {
         assert_eq!(rt; is_png(cut), length >= 8);
         assert!(rt; is_end(&blob_size(cut)));
         assert!(rt; is_end(&reader_size(&mut Cursor::new(cut))));
+        let mut reader = Cutting::one_byte(Cursor::new(cut));
+        assert!(rt; is_end(&reader_size(&mut reader)));
     }
 }
 
@@ -101,6 +109,25 @@ fn a_reader_gives_no_more_than_24_bytes(rt: HostRuntime) -> Result<(), Fail> {
     assert_eq!(rt; reader_size(&mut reader)?.height, 480);
     assert!(rt; count <= 24);
     Ok(())
+}
+
+// Both kinds of reader, in memory and not, are left after the last byte that was read.
+#[test]
+fn a_reader_is_left_after_the_last_byte(rt: HostRuntime) {
+    for (bytes, left) in [
+        (PNG, 24),
+        (&PNG[..20], 20),
+        (&PNG[..5], 5),
+        (OTHERS[6], 8),
+        (&PNG[..0], 0),
+    ] {
+        let mut cursor = Cursor::new(bytes);
+        let _answer = reader_size(&mut cursor);
+        assert_eq!(rt; cursor.position(), left);
+        let mut pieces = Cutting::one_byte(Cursor::new(bytes));
+        let _answer = reader_size(&mut pieces);
+        assert_eq!(rt; pieces.reader.position(), left);
+    }
 }
 
 #[test]
