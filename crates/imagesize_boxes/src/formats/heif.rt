@@ -229,6 +229,8 @@ fn is_named(head: &[u8; 8], name: &[u8; 4]) -> bool
 }
 
 /// The first `N` bytes of a box's content, after its size and its name.
+// Few properties reach it, so it is `inline` alone. Always inlined, it would make the walk along the properties so large that the
+// `inline(always)` of that walk is dropped. In a slice, a property would take 25 instructions for 19.
 #[inline]
 pub fn read_content<S: Source, const N: usize>(source: &mut S, offset: u64) -> Result<[u8; N], Halt>
     requires { 0 < N }
@@ -299,8 +301,7 @@ impl Records for Properties {
 
     ghost keeps = { λ list held offset. Amounts list.all list.gathered held };
 
-    // Reads the property at an offset. The functions that few properties reach are `inline` alone. With them, the walk would grow so large
-    // that its own `inline(always)` is dropped. In a slice, a property would take 25 instructions for 19.
+    // Reads the property at an offset.
     #[inline(always)]
     fn read_record<S: Source>(
         &mut self,
@@ -377,7 +378,7 @@ pub fn property_bytes(property: Property) -> u64
 }
 
 /// Adds one more property.
-#[inline]
+#[inline(always)]
 pub fn gather(gathered: Gathered, property: Property) -> Gathered
     requires { skipped_bytes property ≤ gathered.left }
     ensures { result ≡ gathered_with gathered property }
@@ -399,7 +400,7 @@ pub fn gather(gathered: Gathered, property: Property) -> Gathered
 }
 
 // The width and the height in pixels, from the content of an `ispe` box.
-#[inline]
+#[inline(always)]
 #[tactic(auto, using(crate::proofs::Heif::big_four), unfolding(crate::specs::Heif::extents_size))]
 fn extents_size(content: &[u8; 12]) -> ImageSize
     ensures { result ≡ extents_size content.now }
@@ -411,7 +412,7 @@ fn extents_size(content: &[u8; 12]) -> ImageSize
 }
 
 // The size of greater area, or the first of two equal ones. A size without pixels is never greater.
-#[inline]
+#[inline(always)]
 fn larger(best: Option<ImageSize>, size: ImageSize) -> ImageSize
     ensures { result ≡ earlier_largest best size }
 {
@@ -427,7 +428,7 @@ fn larger(best: Option<ImageSize>, size: ImageSize) -> ImageSize
 }
 
 /// The result at the end of the list.
-#[inline]
+#[inline(always)]
 pub fn answer(gathered: Gathered) -> Result<ImageSize, Halt>
     ensures { result ≡ gathered_answer gathered }
 {
@@ -438,7 +439,7 @@ pub fn answer(gathered: Gathered) -> Result<ImageSize, Halt>
 }
 
 // Exchanges the width and the height for a quarter turn or three quarters.
-#[inline]
+#[inline(always)]
 fn turn_by(size: ImageSize, turn: Option<u8>) -> ImageSize
     ensures { result ≡ turn_by turn size }
 {
