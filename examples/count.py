@@ -96,21 +96,26 @@ def written():
     return head[len("# "):], {(name, call): int(number) for name, *numbers in lines for call, number in zip(calls[1:], numbers)}
 
 
+def beyond(found, before, is_here):
+    """A line for each count that is too high for a table, and for each one that shows that the table is old."""
+    for (name, call), count in found.items():
+        known = before.get((name, call))
+        said = f"{call} of {name}: {count} instructions, and {known} in the table"
+        if known is None:
+            yield f"{call} of {name}: not in the table; write it again"
+        elif count > known * (MOST if is_here else MOST_ELSEWHERE):
+            yield said
+        elif is_here and count < LEAST * known:
+            yield f"{said}; write it again"
+
+
 def wrong(found):
-    """A line for each count that is too high, and for each one that shows that the table is old."""
+    """A line for each count that is too high beside the crate's or the table's, and for each one that shows that the table is old."""
     where, before = written()
-    is_here = where == machine()
     for name, crate, _ in rows():
         if found[name, "size"] > crate + MOST_OVER_THE_CRATE:
             yield f"size of {name}: {found[name, 'size']}, and the crate's {crate}"
-    for (name, call), count in found.items():
-        known = before.get((name, call))
-        if known is None:
-            yield f"{call} of {name}: not in the table, which is to be written anew"
-        elif count > known * (MOST if is_here else MOST_ELSEWHERE):
-            yield f"{call} of {name}: {count}, and {known} before"
-        elif is_here and count < LEAST * known:
-            yield f"{call} of {name}: {count}, and {known} before: the table is to be written anew"
+    yield from beyond(found, before, where == machine())
 
 
 def main(library, *options):
