@@ -9,18 +9,17 @@ ghost use Rattle.imagesize_source.specs.declared.error.ImageError.TheVariants as
 ghost use Rattle.imagesize_source.specs.declared.error.Reason.TheVariants as reason;
 
 use crate::{ImageError, ImageResult, Reason, reader_size};
-use imagesize_io::sized::length_of;
-use imagesize_io::{SizedReader, Told};
+use imagesize_io::file::length_of;
+use imagesize_io::{FileReader, Told};
 use imagesize_types::size::ImageSize;
 use std::alloc::Global;
 use std::fs;
-use std::io::BufReader;
 use std::path::AsPath;
 use std::rt::Files;
 
-/// Reads the size in pixels of the image in the file at a path, through one buffer.
+/// Reads the size in pixels of the image in the file at a path, in blocks of 4,096 bytes.
 ///
-/// Errors: those of `reader_size`, `Fault` if the file cannot be opened, and `Memory` if the buffer cannot be allocated.
+/// Errors: those of `reader_size`, `Fault` if the file cannot be opened, and `Memory` if the block cannot be allocated.
 ///
 /// ```
 /// use imagesize::size;
@@ -34,11 +33,10 @@ pub fn size<F: Files, P: AsPath + Drop>(rt: &F, alloc: Global, path: P) -> Image
 {
     let file = fs::open(rt, path)?;
     let length = length_of(&file);
-    let made = BufReader::new(alloc, file).map(|reader| SizedReader::new(reader, length));
-    size_over(made)
+    size_over(FileReader::new(alloc, file, length))
 }
 
-// The size of the image in a reader's bytes, or `Memory` if the reader's buffer could not be allocated. It is generic, so that its
+// The size of the image in a reader's bytes, or `Memory` if the reader's block could not be allocated. It is generic, so that its
 // clauses speak of readers with a model. A file has none.
 fn size_over<R: Told, E: Drop>(made: Result<R, E>) -> ImageResult<ImageSize>
     ensures answers { IfOk made (λ reader. Answers (R.telling reader) meaning result) }

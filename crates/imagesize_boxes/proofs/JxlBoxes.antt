@@ -217,7 +217,7 @@ sized_by {b} (Ok size) sound plain = reads_nothing b (Ok size) sound refl tt
 sized_by {b} (Err e) sound plain = reads_nothing b (Err e) sound plain.0 (plain.1 b)
 
 -- the size by a codestream that was found
-pub sized : {a b : State} (front : List ℕ) → Runs a b (Ok front) (jxl_codestream a.held.input)
+sized : {a b : State} (front : List ℕ) → Runs a b (Ok front) (jxl_codestream a.held.input)
     → Runs a b (jxl_size front)
     (jxl a.held.input)
 sized {a} {b} front run =
@@ -239,20 +239,20 @@ boxed : {a m b : State} (answer : Result (List ℕ) Halt) → Runs a m (Ok None)
 boxed {a} answer run behind =
     runs_then (layout_reads a.held.input jxl_start) (λ front held. codestream held.input front) run behind
 
--- the size by these bytes
+-- the size by the first bytes of a codestream in boxes
 pub sized_boxed : {a m b : State} (front : List ℕ) → Runs a m (Ok None) (layout_reads a.held.input jxl_start)
     → Runs m b (Ok front) (chain_at jxl_chain m.held.input)
     → Runs a b (jxl_size front) (jxl a.held.input)
 sized_boxed front run behind = sized front (boxed (Ok front) run behind)
 
--- no size, as the first bytes are missing
+-- no size, since the first read failed
 pub refused_start : {a b : State} (e : Halt) → Runs a b (Err e) (layout_reads a.held.input jxl_start)
     → Runs a b (Err e) (jxl a.held.input)
 refused_start {a} e run =
     runs_refused (jxl_codestream a.held.input) (λ front. just (jxl_size front) [])
     (runs_refused (layout_reads a.held.input jxl_start) (codestream a.held.input) run)
 
--- no size, as no box has the codestream
+-- no size, since the boxes have no codestream
 pub refused_boxed : {a m b : State} (e : Halt) → Runs a m (Ok None) (layout_reads a.held.input jxl_start)
     → Runs m b (Err e) (chain_at jxl_chain m.held.input)
     → Runs a b (Err e) (jxl a.held.input)

@@ -1,8 +1,8 @@
+pub mod Blocks
 mod Buffered
 pub mod Counted
 mod Cursors
 pub mod Filling
-pub mod Fronts
 pub mod HeldReads
 pub mod Layers
 pub mod Leaving

@@ -1,6 +1,7 @@
 pub mod Answers
+pub mod Block
+pub mod File
 pub mod Held
-pub mod Kept
 pub mod Memory
 pub mod ReaderState
 pub mod Standing

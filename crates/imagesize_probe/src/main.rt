@@ -13,10 +13,10 @@ mod report;
 mod run;
 
 use imagesize::{ImageError, ImageResult, Reason};
-use imagesize_io::SizedReader;
-use imagesize_io::sized::length_of;
+use imagesize_io::FileReader;
+use imagesize_io::file::length_of;
 use run::{Open, WHOLE, exit_code, run};
-use std::io::{self, BufReader, BufWriter, ErrorKind, Printer, Read};
+use std::io::{self, BufWriter, ErrorKind, Printer, Read};
 use std::process::ExitCode;
 use std::rt::Files;
 use std::{env, fs};
@@ -52,18 +52,6 @@ fn buffered<R: Print + AllocGlobal>(rt: &R, capacity: usize) -> BufWriter<Printe
     }
 }
 
-// The buffered reader, if its buffer could be allocated.
-//
-// Errors: `Memory`, since nothing else can make a buffer fail.
-fn buffered_reader<R>(made: io::Result<BufReader<R>>) -> ImageResult<BufReader<R>>
-    ensures { MatchResult made (λ reader. result ≡ Ok reader) (λ _. result ≡ Err (IoError Memory)) }
-{
-    match made {
-        Ok(reader) => Ok(reader),
-        Err(_) => Err(ImageError::IoError(Reason::Memory)),
-    }
-}
-
 // Opens files.
 #[derive(Drop)]
 struct Disk<'a, R> {
@@ -71,19 +59,21 @@ struct Disk<'a, R> {
 }
 
 impl<R: Files + AllocGlobal> Open for Disk<'_, R> {
-    type Reader = SizedReader<R::File>;
+    type Reader = FileReader<R::File>;
 
     ghost known = { λ _. None };
 
-    fn open(&mut self, name: &str) -> ImageResult<SizedReader<R::File>>
+    fn open(&mut self, name: &str) -> ImageResult<FileReader<R::File>>
         ensures opens { Unit {0} }
         ensures keeps { ◌≡◌ {A = Option Files} None None }
         ensures refuses { IfErr result (λ e. IsTrue (is_fault e || is_memory e)) }
     {
         let file = fs::open(self.rt, name)?;
         let length = length_of(&file);
-        let reader = buffered_reader(BufReader::new(self.rt.alloc(), file))?;
-        Ok(SizedReader::new(reader, length))
+        match FileReader::new(self.rt.alloc(), file, length) {
+            Ok(reader) => Ok(reader),
+            Err(_) => Err(ImageError::IoError(Reason::Memory)),
+        }
     }
 
     fn load(&mut self, name: &str) -> ImageResult<Vec<u8>>

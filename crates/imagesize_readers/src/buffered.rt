@@ -1,8 +1,7 @@
-//! Buffered readers keep their block if it has the offset of a seek. One that keeps track of its offset calls the inner
-//! reader no more than needed.
+//! Buffered readers keep their block if it has the offset of a seek. A reader of a file calls the file no more than needed.
 
 use imagesize_io::reader::{Origin, ReaderSource, open, settle};
-use imagesize_io::{KeptReader, SizedReader, Stop, Told};
+use imagesize_io::{FileReader, Stop, Told};
 use imagesize_source::Text;
 use imagesize_source::source::Source;
 use std::io::{self, BufReader, Cursor, ErrorKind, Read, Seek, SeekFrom};
@@ -69,45 +68,31 @@ fn a_walk_in_a_block_fetches_it_once(rt: HostRuntime) -> Result<(), Fail> {
     Ok(())
 }
 
-// The calls of the inner reader while a reader that keeps track of its offset makes this walk.
-fn made_on_walk<H: AllocGlobal + Abort>(rt: &H, length: usize, step: u64) -> Result<Made, Fail> {
-    let bytes = Vec::from_elem(rt.alloc(), 7u8, length)?;
+// The calls of a file of this length on this walk, if the reader is told the length or not.
+fn made_on_walk<H: AllocGlobal + Abort>(
+    rt: &H,
+    length: u64,
+    told: Option<u64>,
+    step: u64,
+) -> Result<Made, Fail> {
+    let bytes = Vec::from_elem(rt.alloc(), 7u8, length as usize)?;
     let mut made = NONE;
     let counted = Counted {
         inner: Cursor::new(bytes.as_slice()),
         made: &mut made,
     };
-    let mut reader = KeptReader::new(BufReader::new(rt.alloc(), counted)?);
-    walk(rt, &mut reader, length as u64, step)?;
-    drop(reader);
-    Ok(made)
-}
-
-#[test]
-fn a_walk_in_a_block_makes_four_calls(rt: HostRuntime) -> Result<(), Fail> {
-    let made = made_on_walk(&rt, 4096, 40)?;
-    assert_eq!(rt; made, Made { reads: 1, seeks: 3 });
-    Ok(())
-}
-
-// The calls of the inner reader on this walk in a block, if the reader is told this length.
-fn made_if_told<H: AllocGlobal + Abort>(rt: &H, length: Option<u64>) -> Result<Made, Fail> {
-    let bytes = [7u8; 4096];
-    let mut made = NONE;
-    let counted = Counted {
-        inner: Cursor::new(bytes.as_slice()),
-        made: &mut made,
-    };
-    let mut reader = SizedReader::new(BufReader::new(rt.alloc(), counted)?, length);
-    walk(rt, &mut reader, 4096, 40)?;
+    let mut reader = FileReader::new(rt.alloc(), counted, told)?;
+    walk(rt, &mut reader, length, step)?;
     drop(reader);
     Ok(made)
 }
 
 #[test]
 fn a_reader_of_known_length_makes_no_seek(rt: HostRuntime) -> Result<(), Fail> {
-    assert_eq!(rt; made_if_told(&rt, Some(4096))?, Made { reads: 1, seeks: 0 });
-    assert_eq!(rt; made_if_told(&rt, None)?, Made { reads: 1, seeks: 2 });
+    let made = made_on_walk(&rt, 4096, Some(4096), 40)?;
+    assert_eq!(rt; made, Made { reads: 1, seeks: 0 });
+    let made = made_on_walk(&rt, 4096, None, 40)?;
+    assert_eq!(rt; made, Made { reads: 1, seeks: 2 });
     Ok(())
 }
 
@@ -122,7 +107,7 @@ fn the_first_bytes_are_given_again_from_far_behind(rt: HostRuntime) -> Result<()
         inner: Cursor::new(bytes.as_slice()),
         made: &mut made,
     };
-    let mut reader = SizedReader::new(BufReader::new(rt.alloc(), counted)?, Some(20_000));
+    let mut reader = FileReader::new(rt.alloc(), counted, Some(20_000))?;
     assert!(rt; matches!(reader.read_told(&mut [0u8; 12]), Ok(12)));
     assert_eq!(rt; reader.seek_told(SeekFrom::Start(19_982))?, 19_982);
     assert!(rt; matches!(reader.read_told(&mut [0u8; 18]), Ok(18)));
@@ -145,10 +130,7 @@ fn the_first_bytes_are_given_again_from_far_behind(rt: HostRuntime) -> Result<()
 #[test]
 fn a_reader_of_known_length_reads_nothing_at_its_end(rt: HostRuntime) -> Result<(), Fail> {
     let bytes = [1u8, 2, 3];
-    let mut reader = SizedReader::new(
-        BufReader::new(rt.alloc(), Cursor::new(bytes.as_slice()))?,
-        Some(3),
-    );
+    let mut reader = FileReader::new(rt.alloc(), Cursor::new(bytes.as_slice()), Some(3))?;
     let mut buffer = [0u8; 2];
     assert_eq!(rt; reader.seek_told(SeekFrom::End(0))?, 3);
     assert_eq!(rt; reader.seek_told(SeekFrom::Current(0))?, 3);
@@ -161,27 +143,27 @@ fn a_reader_of_known_length_reads_nothing_at_its_end(rt: HostRuntime) -> Result<
 }
 
 #[test]
-fn a_walk_over_blocks_makes_two_calls_a_offset(rt: HostRuntime) -> Result<(), Fail> {
-    let made = made_on_walk(&rt, 1_000_000, 10_000)?;
+fn a_walk_over_blocks_makes_two_calls_an_offset(rt: HostRuntime) -> Result<(), Fail> {
+    let made = made_on_walk(&rt, 1_000_000, Some(1_000_000), 10_000)?;
     assert_eq!(rt;
         made,
         Made {
             reads: 100,
-            seeks: 102
+            seeks: 99
         }
     );
     Ok(())
 }
 
 #[test]
-fn a_offset_behind_in_the_block_is_reached_with_no_call(rt: HostRuntime) -> Result<(), Fail> {
+fn an_offset_behind_in_the_block_is_reached_with_no_call(rt: HostRuntime) -> Result<(), Fail> {
     let bytes = [1u8, 2, 3, 4, 5, 6, 7, 8];
     let mut made = NONE;
     let counted = Counted {
         inner: Cursor::new(bytes.as_slice()),
         made: &mut made,
     };
-    let mut reader = KeptReader::new(BufReader::new(rt.alloc(), counted)?);
+    let mut reader = FileReader::new(rt.alloc(), counted, None)?;
     assert_eq!(rt; reader.seek_told(SeekFrom::Start(2))?, 2);
     let mut buffer = [0u8; 4];
     assert!(rt; matches!(reader.read_told(&mut buffer), Ok(4)));

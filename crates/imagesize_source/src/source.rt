@@ -22,7 +22,8 @@ pub trait Source: Claims {
     /// What holds for a source that shows bytes by `held`.
     ghost shows: { Self → Type 0 } = { λ _. ⊥ };
 
-    /// Whether `held` may return bytes. A walk over any other source does not call it, so its loop has no code for them.
+    /// Whether `held` may return bytes. A walk asks only such a source for them. One that leaves this false is walked more slowly, with
+    /// the same results.
     const SHOWS: bool = false;
 
     /// The length of the input in bytes, as it was reported.

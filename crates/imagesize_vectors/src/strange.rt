@@ -5,7 +5,7 @@ use imagesize::{
     ImageError, ImageResult, ImageSize, ImageType, Reason, Told, reader_probe, reader_size,
     reader_type,
 };
-use imagesize_io::SizedReader;
+use imagesize_io::FileReader;
 use imagesize_readers::readers::{Calls, Claiming, Counting, Endless};
 use std::io::{self, BufReader, Cursor, Read, Seek, SeekFrom};
 use std::test::Fail;
@@ -240,8 +240,8 @@ fn a_buffered_reader_that_has_grown_is_read_until_the_budget_is_spent(
         assert_eq!(rt; probed.taken, 164);
         assert!(rt; is_spent(&kind.reader_size(&mut reader)), "{kind:?}");
         let inner = Cursor::new(bytes.as_slice());
-        let sized = SizedReader::new(BufReader::new(rt.alloc(), inner)?, Some(100));
-        assert!(rt; is_spent(&reader_size(sized)), "{kind:?}");
+        let file = FileReader::new(rt.alloc(), inner, Some(100))?;
+        assert!(rt; is_spent(&reader_size(file)), "{kind:?}");
     }
     Ok(())
 }

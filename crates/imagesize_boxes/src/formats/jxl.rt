@@ -42,8 +42,8 @@ pub fn size<S: Source>(source: &mut S) -> Result<ImageSize, Halt>
     ensures { Runs (S.state source.old) (S.state source.new) result
         (jxl (S.state source.old).held.input) }
 {
-    // `read_start` tested the signature of a codestream that is the whole input. By a call of its own, its size is told without a
-    // second test. This saves 8 of 312 instructions.
+    // A codestream that is the whole input has its own call of `size`. `read_codestream` would test its signature again, which costs
+    // 8 of 312 instructions.
     match read_start(source)? {
         Some(front) => front.size(),
         None => {

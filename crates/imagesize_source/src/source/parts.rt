@@ -43,7 +43,7 @@ pub struct PartsSource<'a> {
     pub missed: Option<Missing>,
     /// The spans of the reads.
     pub log: SpanLog,
-    // The parts at which a search begins, once some were passed over. An input of one part passes over none, and `None` is cheap.
+    // The last parts, at which a search begins, once the parts before them were passed over.
     rest: Option<Rest<'a>>,
     ghost front_known: { (i : ℕ) → i < length front.now → byte_in_parts told spans.now bytes.now i ≡ Some (slice_index front.now i) },
     ghost seen: { AllKnown told spans.now bytes.now log.spans },
@@ -51,7 +51,7 @@ pub struct PartsSource<'a> {
     ghost later: { ForSome rest (λ r. LeavesOut told spans.now bytes.now r.floor r.spans.now r.bytes.now) },
 }
 
-// A list of at most so many parts is searched from its first part.
+// A list of at most so many parts is searched from its first part. That costs less than to pass over some of them.
 const FEW: usize = 4;
 
 // The last parts of a list, and their bytes. The parts before them have no byte from `floor` on.
@@ -168,8 +168,8 @@ impl<'a> PartsSource<'a> {
         (found, wanted)
     }
 
-    // Copies the known bytes of a read into the buffer, up to the first missing byte, and returns how many it copied. A read past
-    // the end needs no part. A search among a few parts costs less than to pass over some of them.
+    // Copies the known bytes of a read into the buffer, up to the first missing byte, and returns how many it copied. An empty read,
+    // such as one past the end, needs no part.
     #[inline(always)]
     fn gather(&mut self, offset: u64, buffer: &mut [u8]) -> usize
         requires { length buffer.old ≤ self.old.told - offset }
@@ -189,7 +189,7 @@ impl<'a> PartsSource<'a> {
         self.gather_on(offset, buffer)
     }
 
-    // Copies the known bytes of a read as `gather` does. The search begins after the parts that were passed over.
+    // Copies what `gather` copies. The search begins after the parts that were passed over.
     #[inline(never)]
     fn gather_on(&mut self, offset: u64, buffer: &mut [u8]) -> usize
         requires { length buffer.old ≤ self.old.told - offset }
@@ -208,8 +208,7 @@ impl<'a> PartsSource<'a> {
         self.gather_among(&rest, offset, buffer)
     }
 
-    // Copies the known bytes of a read into the buffer, up to the first missing byte, and returns how many it copied. Every search
-    // begins at the same parts.
+    // Copies what `gather` copies. Each search for a byte begins at the first part of `rest`.
     #[inline(always)]
     fn gather_among(&self, rest: &Rest<'a>, offset: u64, buffer: &mut [u8]) -> usize
         requires fits { length buffer.old ≤ self.now.told - offset }
@@ -231,8 +230,7 @@ impl<'a> PartsSource<'a> {
         count
     }
 
-    // The known bytes from an offset on, from the first part that contains it. The parts at which the search begins are those of
-    // this offset or of an earlier one.
+    // The known bytes from an offset on, up to the end of the first part of `rest` that contains it.
     #[inline(always)]
     fn known_at(&self, rest: &Rest<'a>, offset: u64) -> &'a [u8]
         requires later { LeavesOut self.now.told self.now.spans.now self.now.bytes.now rest.now.floor rest.now.spans.now rest.now.bytes.now }

@@ -1,0 +1,87 @@
+//! What a reader of a file holds: the last block, and the first bytes.
+ghost use Rattle.std.specs.Prelude.{◌≡◌, ◌+◌, ◌^◌, ◌<◌, ◌≤◌, [], length, take, IfOk, IfErr};
+ghost use Rattle.std.specs.Io.KnownBytes.{Consumes, IsAtEnd, Keeps};
+ghost use Rattle.imagesize_io.specs.Block.{held_from};
+ghost use Rattle.imagesize_io.specs.ReaderState.{kept_window};
+
+use crate::window::{Window, keep};
+use std::alloc::{AllocError, Global};
+use std::io::{self, Read};
+
+/// How many bytes a block has.
+pub(crate) const SIZE: usize = 8192;
+
+// A block of a file, and the first bytes of the file as they were read.
+#[derive(Drop)]
+pub(crate) struct Block {
+    // The first `filled` bytes lie at the offset `start` of the file.
+    bytes: Vec<u8>,
+    filled: usize,
+    start: u64,
+    front: Window,
+    ghost whole: { length bytes.items ≡ 8192 },
+    ghost within: { filled ≤ 8192 },
+    ghost ends: { start + filled < 2 ^ 64 },
+}
+
+impl Block {
+    // An empty block.
+    //
+    // Errors: `AllocError` if it cannot be allocated.
+    pub(crate) fn new(alloc: Global) -> Result<Block, AllocError>
+        ensures empty { IfOk result (λ b. (b.filled ≡ 0) × (b.front.items ≡ [])) }
+    {
+        // This copies zeroes. `resize` would write one after the other.
+        let bytes = Vec::from_slice(alloc, &[0; SIZE])?;
+        Ok(Block {
+            bytes,
+            filled: 0,
+            start: 0,
+            front: Window::new(),
+        })
+    }
+
+    // The bytes from an offset on, as far as they are held.
+    #[inline]
+    pub(crate) fn held(&self, offset: u64) -> &[u8]
+        ensures held { result.now ≡ held_from (take self.now.filled self.now.bytes.items) self.now.start self.now.front.items offset }
+        ensures fits { offset + length result.now < 2 ^ 64 }
+    {
+        match offset.checked_sub(self.start) {
+            Some(ahead) if ahead < self.filled as u64 => {
+                &self.bytes.as_slice()[ahead as usize..self.filled]
+            }
+            _ => &self.front.as_slice()[self.front.len().min(offset as usize)..],
+        }
+    }
+
+    // Reads a block of at most so many bytes from a file, which is at this offset, and returns how many it has.
+    pub(crate) fn fill<R: Read>(&mut self, file: &mut R, offset: u64, most: usize) -> io::Result<usize>
+        requires most { most ≤ 8192 }
+        requires below { offset + 8192 < 2 ^ 64 }
+        ensures reads { IfOk result (λ n. Consumes (R.remaining file.old) (R.remaining file.new) (take n self.new.bytes.items)) }
+        ensures end { IfOk result (λ n. n ≡ 0 → 0 < most → IsAtEnd (R.remaining file.new)) }
+        ensures keeps { IfErr result (λ _. Keeps (R.remaining file.old) (R.remaining file.new)) }
+        ensures block { IfOk result (λ n. (self.new.filled ≡ n) × (self.new.start ≡ offset)
+            × (self.new.front.items ≡ kept_window self.old.front.items offset (take n self.new.bytes.items))) }
+        ensures fails { IfErr result (λ _. (self.new.filled ≡ 0) × (self.new.front ≡ self.old.front)) }
+    {
+        self.filled = 0;
+        let count = read_front(file, self.bytes.as_mut_slice(), most)?;
+        self.filled = count;
+        self.start = offset;
+        keep(&mut self.front, offset, &self.bytes.as_slice()[..count]);
+        Ok(count)
+    }
+}
+
+// Reads into the front of a buffer.
+fn read_front<R: Read>(file: &mut R, buffer: &mut [u8], most: usize) -> io::Result<usize>
+    requires { most ≤ length buffer.old }
+    ensures reads { IfOk result (λ n. Consumes (R.remaining file.old) (R.remaining file.new) (take n buffer.new)) }
+    ensures end { IfOk result (λ n. n ≡ 0 → 0 < most → IsAtEnd (R.remaining file.new)) }
+    ensures keeps { IfErr result (λ _. Keeps (R.remaining file.old) (R.remaining file.new)) }
+    ensures bound { IfOk result (λ n. n ≤ most) }
+{
+    file.read(&mut buffer[..most])
+}

@@ -1,0 +1,210 @@
+//! A file as a reader, which is read block by block.
+ghost use Rattle.std.specs.Prelude.{◌≡◌, ◌≢◌, ℕ, ℤ, ◌+◌, ◌<◌, ◌≤◌, ◌⊎◌, min, [], length, take, Some, None, Ok, pos, IfOk, IfErr, IfSome};
+ghost use Rattle.std.specs.Io.KnownBytes.{Consumes, IsAtEnd, Keeps, ReadConsumes, prepend_known};
+ghost use Rattle.std.specs.Io.Seek.{IsAtOffset, SeekMoves};
+ghost use Rattle.std.specs.declared.io.Error.{Error};
+ghost use Rattle.imagesize_io.specs.File.{GoesTo, held_of, sought_offset};
+ghost use Rattle.imagesize_io.specs.ReaderState.{kept_window};
+ghost use Rattle.imagesize_io.specs.StopOf.{stop_of};
+
+use crate::block::{Block, SIZE};
+use crate::{Stop, Told};
+use imagesize_source::part::copy_front;
+use std::alloc::{AllocError, Global};
+use std::fs::OpenFile;
+use std::io::{self, ErrorKind, Read, Seek, SeekFrom};
+
+/// A file that was just opened, as a reader. Any other reader at its start may take the place of the file.
+///
+/// It reads the file in blocks of 4,096 bytes, or of 8,192 from the end of a block on. It holds the last block and the first 32
+/// bytes, so reading these again needs no call of the file. A seek makes no call either, except to the end of a file of unknown length. The next read seeks where
+/// it must.
+///
+/// It has no model. The length is not checked. If something else moves the file, this reader does not notice.
+#[derive(Drop)]
+pub struct FileReader<R: Read + Seek + Drop> {
+    file: R,
+    // The file's own offset, if it is known.
+    position: Option<u64>,
+    block: Block,
+    offset: u64,
+    length: Option<u64>,
+}
+
+impl<R: Read + Seek + Drop> FileReader<R> {
+    /// Wraps a file at offset 0, with its length in bytes if known. It makes no call of the file.
+    ///
+    /// Errors: `AllocError` if the block cannot be allocated.
+    pub fn new(alloc: Global, file: R, length: Option<u64>) -> Result<Self, AllocError>
+        ensures file { IfOk result (λ r. r.file ≡ file) }
+        ensures start { IfOk result (λ r. (r.position ≡ Some 0) × (r.offset ≡ 0)) }
+        ensures length { IfOk result (λ r. r.length ≡ length) }
+        ensures empty { IfOk result (λ r. held_of r ≡ []) }
+    {
+        let block = Block::new(alloc)?;
+        Ok(FileReader {
+            file,
+            position: Some(0),
+            block,
+            offset: 0,
+            length,
+        })
+    }
+
+    // Reads the block at the reader's offset. The file is sought there first, if it is elsewhere.
+    //
+    // Errors: those of the file, and `InvalidInput` above the offset 2^64 - 8,193, where no block ends below 2^64.
+    fn fetch(&mut self) -> io::Result<usize>
+        ensures reads { IfOk result (λ n. (file : R) × GoesTo R.stream_position R.stream_bytes self.old.file file self.old.position self.old.offset
+            × Consumes (R.remaining file) (R.remaining self.new.file) (take n self.new.block.bytes.items)
+            × (n ≡ 0 → IsAtEnd (R.remaining self.new.file))) }
+        ensures keeps { self.old.position ≡ Some self.old.offset → IfErr result (λ _. Keeps (R.remaining self.old.file) (R.remaining self.new.file)) }
+        ensures block { IfOk result (λ n. (self.new.block.filled ≡ n) × (self.new.block.start ≡ self.old.offset)
+            × (self.new.block.front.items ≡ kept_window self.old.block.front.items self.old.offset (take n self.new.block.bytes.items))) }
+        ensures position { IfOk result (λ n. self.new.position ≡ Some (self.old.offset + n)) }
+        ensures unknown { IfErr result (λ _. self.new.position ≡ None) }
+        ensures offset { self.new.offset ≡ self.old.offset }
+        ensures length { self.new.length ≡ self.old.length }
+    {
+        let position = self.position.take();
+        if self.offset > u64::MAX - SIZE as u64 {
+            return Err(io::Error::from(ErrorKind::InvalidInput));
+        }
+        let is_there = position == Some(self.offset);
+        if !is_there {
+            self.file.seek(SeekFrom::Start(self.offset))?;
+        }
+        // At the start, and after a seek, half a block mostly has the bytes that are read next. It costs less.
+        let most = if is_there && self.offset > 0 { SIZE } else { SIZE / 2 };
+        let count = self.block.fill(&mut self.file, self.offset, most)?;
+        self.position = Some(self.offset + count as u64);
+        Ok(count)
+    }
+
+    // Fills the buffer with held bytes, as far as there are any, and returns how many.
+    fn give(&mut self, buffer: &mut [u8]) -> usize
+        ensures count { result ≡ min (length buffer.old) (length (held_of self.old)) }
+        ensures gives { take result buffer.new ≡ take result (held_of self.old) }
+        ensures bound { result ≤ length buffer.new }
+        ensures moves { self.new.offset ≡ self.old.offset + result }
+        ensures file { (self.new.file ≡ self.old.file) × (self.new.position ≡ self.old.position) }
+        ensures block { self.new.block ≡ self.old.block }
+        ensures length { self.new.length ≡ self.old.length }
+    {
+        let held = self.block.held(self.offset);
+        let count = held.len().min(buffer.len());
+        copy_front(held, count, buffer);
+        self.offset += count as u64;
+        count
+    }
+
+    // The offset at a distance from the end. A file of known length is asked for no other than that.
+    fn from_end(&mut self, distance: i64) -> io::Result<u64>
+        ensures known { (n : ℕ) → self.old.length ≡ Some n → distance ≡ pos 0 → (result ≡ Ok n) × (self.new ≡ self.old) }
+        ensures seeks { (self.old.length ≡ None) ⊎ (distance ≢ pos 0) → SeekMoves (R.stream_position self.old.file) (R.stream_position self.new.file)
+            (R.stream_bytes self.old.file) (SeekFrom.End distance) result × (self.new.position ≡ sought_offset result) }
+        ensures block { self.new.block ≡ self.old.block }
+        ensures offset { self.new.offset ≡ self.old.offset }
+        ensures length { self.new.length ≡ self.old.length }
+    {
+        if let Some(length) = self.length
+            && distance == 0
+        {
+            return Ok(length);
+        }
+        self.position = None;
+        let offset = self.file.seek(SeekFrom::End(distance))?;
+        self.position = Some(offset);
+        Ok(offset)
+    }
+}
+
+// The offset at a distance from another.
+fn offset_by(offset: u64, distance: i64) -> io::Result<u64>
+    ensures stays { distance ≡ pos 0 → result ≡ Ok offset }
+    ensures there { IfOk result (IsAtOffset offset distance) }
+{
+    match offset.checked_add_signed(distance) {
+        Some(target) => Ok(target),
+        None => Err(io::Error::from(ErrorKind::InvalidInput)),
+    }
+}
+
+impl<R: Read + Seek + Drop> Told for FileReader<R> {
+    ghost telling = { λ _. None };
+
+    ghost count = { λ _. None };
+
+    ghost failure = { λ _. None };
+
+    fn read_told(&mut self, buffer: &mut [u8]) -> Result<usize, Stop>
+        ensures bound { IfOk result (λ n. n ≤ length buffer.new) }
+        ensures stops { IfErr result (λ stop. (e : Error) × (stop ≡ stop_of e)) }
+        ensures length { self.new.length ≡ self.old.length }
+        ensures moves { IfOk result (λ n. self.new.offset ≡ self.old.offset + n) }
+
+        // Held bytes are given with no call of the file.
+        ensures holds { 0 < length (held_of self.old) → (n : ℕ) × (result ≡ Ok n) × (n ≡ min (length buffer.old) (length (held_of self.old)))
+            × (take n buffer.new ≡ take n (held_of self.old)) × (self.new.file ≡ self.old.file) × (self.new.position ≡ self.old.position)
+            × (self.new.block ≡ self.old.block) }
+
+        // Else the file is read at the reader's offset, after a seek if it is elsewhere. It is then at the end of the held bytes.
+        ensures reads { held_of self.old ≡ [] → IfOk result (λ n. (file : R)
+            × GoesTo R.stream_position R.stream_bytes self.old.file file self.old.position self.old.offset
+            × ReadConsumes {E = Stop} (R.remaining file) (prepend_known (held_of self.new) (R.remaining self.new.file)) (Ok n) buffer.new
+            × (self.new.position ≡ Some (self.new.offset + length (held_of self.new)))) }
+        ensures keeps { self.old.position ≡ Some self.old.offset → IfErr result (λ _. Keeps (R.remaining self.old.file) (R.remaining self.new.file)) }
+        ensures unknown { IfErr result (λ _. self.new.position ≡ None) }
+    {
+        if self.held().is_empty() {
+            self.fetch()?;
+        }
+        Ok(self.give(buffer))
+    }
+
+    #[inline]
+    fn held(&self) -> &[u8]
+        ensures { result.now ≡ held_of self.now }
+    {
+        self.block.held(self.offset)
+    }
+
+    fn seek_told(&mut self, to: SeekFrom) -> io::Result<u64>
+        ensures length { self.new.length ≡ self.old.length }
+        ensures block { self.new.block ≡ self.old.block }
+        ensures moves { IfOk result (λ n. self.new.offset ≡ n) }
+
+        // A seek to an offset, or by a distance, makes no call. Nor does one to the end of a file of known length.
+        ensures start { (n : ℕ) → to ≡ SeekFrom.Start n → (result ≡ Ok n) × (self.new.file ≡ self.old.file) × (self.new.position ≡ self.old.position) }
+        ensures stays { to ≡ SeekFrom.Current (pos 0) → (result ≡ Ok self.old.offset) × (self.new ≡ self.old) }
+        ensures by { (d : ℤ) → to ≡ SeekFrom.Current d → IfOk result (IsAtOffset self.old.offset d) × (self.new.file ≡ self.old.file)
+            × (self.new.position ≡ self.old.position) }
+        ensures end { (n : ℕ) → self.old.length ≡ Some n → to ≡ SeekFrom.End (pos 0)
+            → (result ≡ Ok n) × (self.new.file ≡ self.old.file) × (self.new.position ≡ self.old.position) }
+        ensures seeks { (d : ℤ) → to ≡ SeekFrom.End d → (self.old.length ≡ None) ⊎ (d ≢ pos 0)
+            → SeekMoves (R.stream_position self.old.file) (R.stream_position self.new.file) (R.stream_bytes self.old.file) to result
+            × (self.new.position ≡ sought_offset result) }
+    {
+        let target = match to {
+            SeekFrom::Start(offset) => offset,
+            SeekFrom::Current(distance) => offset_by(self.offset, distance)?,
+            SeekFrom::End(distance) => self.from_end(distance)?,
+        };
+        self.offset = target;
+        Ok(target)
+    }
+}
+
+/// The length of a regular file in bytes. `None` for any other file, and for one that is empty or does not tell: a file of the
+/// system may have bytes and the length 0.
+pub fn length_of<F: OpenFile>(file: &F) -> Option<u64>
+    ensures { IfSome result (λ n. 0 < n) }
+{
+    let metadata = file.metadata().ok()?;
+    let length = metadata.len();
+    if metadata.is_file() && length > 0 {
+        Some(length)
+    } else {
+        None
+    }
+}
