@@ -1,5 +1,5 @@
 //! The bytes of a reader in memory, as a source that counts them.
-ghost use Rattle.std.specs.Prelude.{◌≡◌, ℕ, ◌+◌, ◌<◌, ◌≤◌, true, false, List, None, length, option_map};
+ghost use Rattle.std.specs.Prelude.{◌≡◌, ℕ, ◌+◌, ◌-◌, ◌<◌, ◌≤◌, min, true, false, List, None, length, option_map};
 ghost use Rattle.imagesize_source.specs.Limits.{allowance, most_held};
 ghost use Rattle.imagesize_io.specs.Memory.{IsMemory, IsPaid, IsSpent, counting_state};
 ghost use Rattle.imagesize_io.specs.Telling.{at_offset};
@@ -67,43 +67,46 @@ impl<'a> CountingSource<'a> {
         ensures paid { result ≡ true → IsPaid self.old.front self.old.left self.old.position self.new.front self.new.left self.new.position offset count }
         ensures spent { result ≡ false → IsSpent self.old.front self.old.left self.new.left offset count }
     {
-        if offset <= self.front || self.left < count as u64 || count == 0 {
+        if offset <= self.front {
+            let end = offset + count as u64;
             // A read within the front costs nothing, and moves nothing. Most reads of a size at fixed offsets are such.
-            if offset + count as u64 <= self.free {
+            if end <= self.free {
                 return true;
             }
-            return self.pays_front(offset, count);
+            return self.pays_on(end);
         }
-        // Most reads lie past the front, and cost two tests and two stores here.
-        self.left -= count as u64;
-        self.position = offset + count as u64;
-        true
-    }
-
-    // Counts the bytes of any read. A byte of the front is not counted again, and a read of the front alone does not move the
-    // reader. Not inlined, since most reads lie past the front.
-    #[inline(never)]
-    fn pays_front(&mut self, offset: u64, count: usize) -> bool
-        requires there { 0 < count → offset + count ≤ length self.old.bytes.now }
-        ensures bytes { self.new.bytes.now ≡ self.old.bytes.now }
-        ensures paid { result ≡ true → IsPaid self.old.front self.old.left self.old.position self.new.front self.new.left self.new.position offset count }
-        ensures spent { result ≡ false → IsSpent self.old.front self.old.left self.new.left offset count }
-    {
-        let end = offset + count as u64;
-        let start = offset.max(self.front);
-        if end <= start {
-            return true;
-        }
-        if self.left < end - start {
+        if self.left < count as u64 {
             self.left = 0;
             return false;
         }
-        self.left -= end - start;
-        self.position = end;
-        if offset <= self.front {
-            self.front = end.min(WINDOW as u64);
-            self.free = self.front;
+        // Most reads lie past the front, and cost three tests and two stores here.
+        if count > 0 {
+            self.left -= count as u64;
+            self.position = offset + count as u64;
         }
+        true
+    }
+
+    // Counts the bytes after the front up to an offset, and adds them to the front as far as they fit. Returns whether the budget
+    // has them. Not inlined, since most reads lie within the front or past it.
+    #[inline(never)]
+    fn pays_on(&mut self, end: u64) -> bool
+        requires ahead { self.old.front < end }
+        requires there { end ≤ length self.old.bytes.now }
+        ensures bytes { self.new.bytes.now ≡ self.old.bytes.now }
+        ensures paid { result ≡ true → (self.new.left + (end - self.old.front) ≡ self.old.left) × (self.new.front ≡ min end most_held)
+            × (self.new.position ≡ end) }
+        ensures spent { result ≡ false → (self.new.left ≡ 0) × (self.old.left < end - self.old.front) }
+    {
+        let count = end - self.front;
+        if self.left < count {
+            self.left = 0;
+            return false;
+        }
+        self.left -= count;
+        self.position = end;
+        self.front = end.min(WINDOW as u64);
+        self.free = self.front;
         true
     }
 }
