@@ -17,7 +17,7 @@ use std::fs;
 use std::path::AsPath;
 use std::rt::Files;
 
-/// Reads the size in pixels of the image in the file at a path, in blocks of 4,096 bytes.
+/// Reads the size in pixels of the image in the file at a path, block by block.
 ///
 /// Errors: those of `reader_size`, `Fault` if the file cannot be opened, and `Memory` if the block cannot be allocated.
 ///

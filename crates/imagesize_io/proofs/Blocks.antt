@@ -1,10 +1,9 @@
 -- What a block of a file gives after it was read.
 use Rattle.std.specs.Prelude.{nat_le, nat_lt, ◌&&◌}
-use Rattle.std.proofs.Common.{◌≡◌, ℕ, ◌+◌, ◌-◌, ◌<◌, ◌≤◌, min, Bool, true, false, cond, List, [], ◌++◌, length, take, drop, eqb, Option, Some, None, Ok, refl, sym, ap, subst, ◌∙◌, arith}
+use Rattle.std.proofs.Common.{◌≡◌, ℕ, ◌+◌, ◌-◌, ◌≤◌, min, Bool, true, false, cond, List, [], ◌++◌, length, take, drop, eqb, Option, Some, None, Ok, refl, sym, ap, ◌∙◌, arith}
 use Rattle.std.proofs.lemmas.Bool.Decides.{nat_tests}
-use Rattle.std.proofs.lemmas.List.{length-append, length-take, length-drop, take-append-drop, append_assoc, append-nil, drop_all, take_all}
+use Rattle.std.proofs.lemmas.List.{length-append, length-take, length-drop, take-append-drop, append_assoc, drop_all}
 use Rattle.std.specs.Io.KnownBytes.{Consumes, IsAtEnd, ReadConsumes, prepend_known}
-use Rattle.std.specs.declared.io.Error.{Error}
 use Rattle.imagesize_io.specs.Block.{held_from}
 use Rattle.imagesize_io.specs.File.{held_of}
 use Rattle.imagesize_io.specs.declared.file.FileReader.{FileReader}

@@ -8,7 +8,7 @@ use crate::window::{Window, keep};
 use std::alloc::{AllocError, Global};
 use std::io::{self, Read};
 
-/// How many bytes a block has.
+/// How many bytes a block has at most.
 pub(crate) const SIZE: usize = 8192;
 
 // A block of a file, and the first bytes of the file as they were read.
@@ -75,7 +75,7 @@ impl Block {
     }
 }
 
-// Reads into the front of a buffer.
+// Reads into the first `most` bytes of a buffer.
 fn read_front<R: Read>(file: &mut R, buffer: &mut [u8], most: usize) -> io::Result<usize>
     requires { most ≤ length buffer.old }
     ensures reads { IfOk result (λ n. Consumes (R.remaining file.old) (R.remaining file.new) (take n buffer.new)) }

@@ -1,5 +1,5 @@
 //! A file as a reader, which is read block by block.
-ghost use Rattle.std.specs.Prelude.{◌≡◌, ◌≢◌, ℕ, ℤ, ◌+◌, ◌<◌, ◌≤◌, ◌⊎◌, min, [], length, take, Some, None, Ok, pos, IfOk, IfErr, IfSome};
+ghost use Rattle.std.specs.Prelude.{◌≡◌, ◌≢◌, ℕ, ℤ, ◌+◌, ◌^◌, ◌<◌, ◌≤◌, ◌⊎◌, min, [], length, take, Some, None, Ok, pos, IfOk, IfErr, IfSome};
 ghost use Rattle.std.specs.Io.KnownBytes.{Consumes, IsAtEnd, Keeps, ReadConsumes, prepend_known};
 ghost use Rattle.std.specs.Io.Seek.{IsAtOffset, SeekMoves};
 ghost use Rattle.std.specs.declared.io.Error.{Error};
@@ -16,11 +16,21 @@ use std::io::{self, ErrorKind, Read, Seek, SeekFrom};
 
 /// A file that was just opened, as a reader. Any other reader at its start may take the place of the file.
 ///
-/// It reads the file in blocks of 4,096 bytes, or of 8,192 from the end of a block on. It holds the last block and the first 32
-/// bytes, so reading these again needs no call of the file. A seek makes no call either, except to the end of a file of unknown length. The next read seeks where
-/// it must.
+/// It reads blocks of 4,096 bytes, and of 8,192 where it reads on from the end of a block. The last block and the first 32 bytes
+/// are held: reading these again makes no call of the file. A seek makes a call only if it goes to the end of a file of unknown
+/// length. Otherwise the next read seeks, if the file is elsewhere.
 ///
 /// It has no model. The length is not checked. If something else moves the file, this reader does not notice.
+///
+/// ```
+/// use imagesize::reader_size;
+/// use imagesize_io::FileReader;
+/// use imagesize_io::file::length_of;
+///
+/// let file = fs::open(&rt, "tiny.gif")?;
+/// let length = length_of(&file);
+/// let size = reader_size(FileReader::new(rt.alloc(), file, length)?)?;
+/// ```
 #[derive(Drop)]
 pub struct FileReader<R: Read + Seek + Drop> {
     file: R,
@@ -120,9 +130,12 @@ impl<R: Read + Seek + Drop> FileReader<R> {
 }
 
 // The offset at a distance from another.
+//
+// Errors: `InvalidInput` if it is negative or above 2^64 - 1.
 fn offset_by(offset: u64, distance: i64) -> io::Result<u64>
     ensures stays { distance ≡ pos 0 → result ≡ Ok offset }
     ensures there { IfOk result (IsAtOffset offset distance) }
+    ensures finds { (n : ℕ) → n < 2 ^ 64 → IsAtOffset offset distance n → result ≡ Ok n }
 {
     match offset.checked_add_signed(distance) {
         Some(target) => Ok(target),

@@ -43,7 +43,8 @@ impl Source for MemorySource<'_> {
         self.slice.read_at(offset, buffer)
     }
 
-    #[inline]
+    // Inlined, so that the compiler knows whether the text is a line or a word.
+    #[inline(always)]
     fn read_text(&mut self, offset: u64, text: Text, buffer: &mut [u8]) -> Result<usize, Halt> {
         self.slice.read_text(offset, text, buffer)
     }
