@@ -14,7 +14,7 @@ use std::alloc::{AllocError, Global};
 use std::fs::OpenFile;
 use std::io::{self, ErrorKind, Read, Seek, SeekFrom};
 
-/// A file that was just opened, as a reader. Any other reader at its start may take the place of the file.
+/// A file that was just opened, as a reader. It may be any other reader at its start.
 ///
 /// It reads blocks of 4,096 bytes, and of 8,192 where it reads on from the end of a block. The last block and the first 32 bytes
 /// are held: reading these again makes no call of the file. A seek makes a call only if it goes to the end of a file of unknown

@@ -248,8 +248,8 @@ impl<const HEAD: usize, const VALUE: usize> Records for Entries<HEAD, VALUE> {
     }
 }
 
-/// Reads the entry at an offset of a directory of `count` entries, of which `seen` come before it and state this width and height. It
-/// changes all three in place: for a stream, this saves 14 of 120 instructions an entry.
+/// Reads the entry at an offset, in a directory of `count` entries. `seen` entries were read before it, and stated this width and
+/// height. All three are changed where they are stored. For a stream, this saves 14 of 120 instructions an entry.
 #[inline(always)]
 pub fn read_next<S: Source, const HEAD: usize, const VALUE: usize>(
     source: &mut S,
