@@ -36,8 +36,8 @@ whole block front offset ends = by_place (is_inside offset (length block) offset
   by_place : (b : Bool) → is_inside offset (length block) offset ≡ b → cond b (drop (offset - offset) block) (drop offset front) ≡ block
   by_place true is = grind (arith, nat_tests)
   by_place false is =
-    let none : length block ≡ 0 = grind (arith, nat_tests) in
-    drop_all offset front (omega (arith, ends, none)) ∙ sym (drop_all 0 block (omega (arith, none)))
+      let none : length block ≡ 0 = grind (arith, nat_tests) in
+      drop_all offset front (omega (arith, ends, none)) ∙ sym (drop_all 0 block (omega (arith, none)))
 
 -- what is left of a block after some of its bytes
 pub rest : (block front : List ℕ) (offset n : ℕ) → length front ≤ offset + length block → n ≤ length block
@@ -47,24 +47,27 @@ rest block front offset n ends few = by_place (is_inside offset (length block) (
       → cond b (drop (offset + n - offset) block) (drop (offset + n) front) ≡ drop n block
   by_place true is = ap (λ k. drop k block) (omega arith)
   by_place false is =
-    let all : n ≡ length block = grind (arith, nat_tests) in
-    drop_all (offset + n) front (omega (arith, ends, all)) ∙ sym (drop_all n block (omega (arith, all)))
+      let all : n ≡ length block = grind (arith, nat_tests) in
+      drop_all (offset + n) front (omega (arith, ends, all)) ∙ sym (drop_all n block (omega (arith, all)))
 
 -- the first bytes of what a block gives, and the rest of it
 given : (known more : Option (List ℕ)) (held buffer : List ℕ) (n : ℕ) → Consumes known more held → (length held ≡ 0 → IsAtEnd more)
     → n ≡ min (length buffer) (length held) → take n buffer ≡ take n held
     → ReadConsumes {E = Stop} known (prepend_known (drop n held) more) (Ok n) buffer
 given None None held buffer n reads end few gives = (tt, λ _ _. tt)
-given None (Some ys) held buffer n reads end few gives = (tt, λ zero room.
-    let none : length held ≡ 0 = omega (arith, few, zero, room) in
-    ap (λ xs. xs ++ ys) (drop_all n held (omega (arith, none))) ∙ end none)
+given None (Some ys) held buffer n reads end few gives = (
+  tt,
+  λ zero room.
+      let none : length held ≡ 0 = omega (arith, few, zero, room) in
+      ap (λ xs. xs ++ ys) (drop_all n held (omega (arith, none))) ∙ end none,
+)
 given (Some xs) None held buffer n reads end few gives = absurd reads
 given (Some xs) (Some ys) held buffer n reads end few gives = (
   reads ∙ ap (λ h. h ++ ys) (sym (take-append-drop n held)) ∙ append_assoc (take n held) (drop n held) ys
-  ∙ ap (λ h. h ++ (drop n held ++ ys)) (sym gives),
+      ∙ ap (λ h. h ++ (drop n held ++ ys)) (sym gives),
   λ zero room.
-    let none : length held ≡ 0 = omega (arith, few, zero, room) in
-    ap (λ xs. xs ++ ys) (drop_all n held (omega (arith, none))) ∙ end none,
+      let none : length held ≡ 0 = omega (arith, few, zero, room) in
+      ap (λ xs. xs ++ ys) (drop_all n held (omega (arith, none))) ∙ end none,
 )
 
 -- a reader that held no byte, read a block, and gave some bytes of it
@@ -81,17 +84,16 @@ fetched remaining known old read left buffer count n none reads at_end filled st
     let bytes = take count read.block.bytes.items in
     let behind = behind_front (take old.block.filled old.block.bytes.items) old.block.front.items old.block.start old.offset none in
     let ends : length read.block.front.items ≤ old.offset + length bytes =
-        rw front (front_ends old.block.front.items bytes old.offset behind) in
+    rw front (front_ends old.block.front.items bytes old.offset behind) in
     let held : held_of read ≡ bytes = rw (filled, start, at) (whole bytes read.block.front.items old.offset ends) in
     let size : length bytes ≡ count =
-        omega (arith, length-take count read.block.bytes.items, read.block.whole, read.block.within, filled) in
+    omega (arith, length-take count read.block.bytes.items, read.block.whole, read.block.within, filled) in
     let least : n ≡ min (length buffer) (length bytes) = few ∙ ap (λ h. min (length buffer) (length h)) held in
     let there : left.offset ≡ old.offset + n = moves ∙ ap (λ k. k + n) at in
     let left_is : held_of left ≡ drop n bytes =
-        rw (block, there, filled, start) (rest bytes read.block.front.items old.offset n ends (omega (arith, least))) in
+    rw (block, there, filled, start) (rest bytes read.block.front.items old.offset n ends (omega (arith, least))) in
     let end : length bytes ≡ 0 → IsAtEnd (remaining read.file) =
-        λ zero. at_end (omega (arith, size, zero)) in
-    (
+    λ zero. at_end (omega (arith, size, zero)) in (
       rw (left_is, file) (given known (remaining read.file) bytes buffer n reads end least (gives ∙ ap (take n) held)),
       rw left_is (omega (arith, there, size, least, length-drop n bytes)),
     )

@@ -56,7 +56,12 @@ impl Block {
     }
 
     // Reads a block of at most so many bytes from a file, which is at this offset, and returns how many it has.
-    pub(crate) fn fill<R: Read>(&mut self, file: &mut R, offset: u64, most: usize) -> io::Result<usize>
+    pub(crate) fn fill<R: Read>(
+        &mut self,
+        file: &mut R,
+        offset: u64,
+        most: usize,
+    ) -> io::Result<usize>
         requires most { most ≤ 8192 }
         requires below { offset + 8192 < 2 ^ 64 }
         ensures reads { IfOk result (λ n. Consumes (R.remaining file.old) (R.remaining file.new) (take n self.new.bytes.items)) }

@@ -85,7 +85,11 @@ impl<R: Read + Seek + Drop> FileReader<R> {
             self.file.seek(SeekFrom::Start(self.offset))?;
         }
         // At the start, and after a seek, half a block mostly has the bytes that are read next. It costs less.
-        let most = if is_there && self.offset > 0 { SIZE } else { SIZE / 2 };
+        let most = if is_there && self.offset > 0 {
+            SIZE
+        } else {
+            SIZE / 2
+        };
         let count = self.block.fill(&mut self.file, self.offset, most)?;
         self.position = Some(self.offset + count as u64);
         Ok(count)

@@ -6,14 +6,14 @@ use Rattle.imagesize_io.proofs.file.FileReaderTold.read_told.Goals.{then-is_empt
 
 pub returns-clause-reads : goal.returns-clause-reads
 returns-clause-reads g c = λ none. elim c.if-is_empty.branch [
-  then-is_empty+in_ok-fetch w ↦
-    let f = w.in_ok-fetch.ensures in
-    let is = w.self-is in
-    let e = c.give.ensures in
-    let gave = fetched g.R.Read.remaining (g.R.Read.remaining f.reads.0) c.args.self.now w.fetch.new.self c.give.new.self c.give.new.buffer
-          w.in_ok-fetch.field-0 c.give.result none f.reads.2 f.reads.3 f.block.0 f.block.1 f.block.2 f.offset
-          (rw (sym is, c.give.auto.buffer) e.count) (rw (sym is) e.gives) (rw (sym is) e.file.0) (rw (sym is) e.block)
-          (rw (sym is) e.moves) in
-    (f.reads.0, f.reads.1, gave.0, e.file.1 ∙ ap (λ r. r.position) is ∙ f.position ∙ ap Some gave.1)
+  | then-is_empty+in_ok-fetch w ↦
+      let f = w.in_ok-fetch.ensures in
+      let is = w.self-is in
+      let e = c.give.ensures in
+      let gave = fetched g.R.Read.remaining (g.R.Read.remaining f.reads.0) c.args.self.now w.fetch.new.self c.give.new.self c.give.new.buffer
+      w.in_ok-fetch.field-0 c.give.result none f.reads.2 f.reads.3 f.block.0 f.block.1 f.block.2 f.offset
+      (rw (sym is, c.give.auto.buffer) e.count) (rw (sym is) e.gives) (rw (sym is) e.file.0) (rw (sym is) e.block)
+      (rw (sym is) e.moves) in
+      (f.reads.0, f.reads.1, gave.0, e.file.1 ∙ ap (λ r. r.position) is ∙ f.position ∙ ap Some gave.1)
   | else-is_empty w ↦ absurd (grind (arith, nat_tests, ap length (c.held.ensures ∙ none), w.if-is_empty.ensures))
 ]
