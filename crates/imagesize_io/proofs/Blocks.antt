@@ -1,6 +1,6 @@
 -- What a block of a file gives after it was read.
 use Rattle.std.specs.Prelude.{nat_le, nat_lt, ◌&&◌}
-use Rattle.std.proofs.Common.{◌≡◌, ℕ, ◌+◌, ◌-◌, ◌≤◌, min, Bool, true, false, cond, List, [], ◌++◌, length, take, drop, eqb, Option, Some, None, Ok, refl, sym, ap, ◌∙◌, arith}
+use Rattle.std.proofs.Common.{◌≡◌, ℕ, ◌+◌, ◌-◌, ◌≤◌, min, Bool, true, false, cond, ◌⊎◌, inl, inr, List, [], ◌++◌, length, take, drop, eqb, Option, Some, None, Ok, refl, sym, ap, ◌∙◌, arith}
 use Rattle.std.proofs.lemmas.Bool.Decides.{nat_tests}
 use Rattle.std.proofs.lemmas.List.{length-append, length-take, length-drop, take-append-drop, append_assoc, drop_all}
 use Rattle.std.specs.Io.KnownBytes.{Consumes, IsAtEnd, ReadConsumes, prepend_known}
@@ -97,3 +97,17 @@ fetched remaining known old read left buffer count n none reads at_end filled st
       rw (left_is, file) (given known (remaining read.file) bytes buffer n reads end least (gives ∙ ap (take n) held)),
       rw left_is (omega (arith, there, size, least, length-drop n bytes)),
     )
+
+-- a reader that held no byte, after a read that failed
+pub lost : {R : Type 0} (old new : FileReader R) → length (held_of old) ≡ 0 → new.offset ≡ old.offset → new.block.front ≡ old.block.front
+    → (new.block ≡ old.block) ⊎ (new.block.filled ≡ 0) → held_of new ≡ []
+lost old new few at front (inl same) = rw (same, at) (drop_all 0 (held_of old) (omega (arith, few)))
+lost old new few at front (inr zero) =
+    by_place (is_inside new.block.start (length (take new.block.filled new.block.bytes.items)) new.offset) refl where
+      by_place : (b : Bool) → is_inside new.block.start (length (take new.block.filled new.block.bytes.items)) new.offset ≡ b
+          → cond b (drop (new.offset - new.block.start) (take new.block.filled new.block.bytes.items)) (drop new.offset new.block.front.items) ≡ []
+      by_place true is = absurd (grind (arith, nat_tests, length-take new.block.filled new.block.bytes.items, zero))
+      by_place false is =
+          let none = drop_all 0 (held_of old) (omega (arith, few)) in
+          let behind = behind_front (take old.block.filled old.block.bytes.items) old.block.front.items old.block.start old.offset none in
+          rw (at, front) (drop_all old.offset old.block.front.items behind)

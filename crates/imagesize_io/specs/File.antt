@@ -1,5 +1,6 @@
 -- What a reader of a file holds, and where it goes.
 use Rattle.std.specs.Prelude.{◌≡◌, ◌≢◌, ℕ, List, take, Option, None, Some, Result, Ok, Err}
+use Rattle.std.specs.Io.KnownBytes.{Keeps}
 use Rattle.std.specs.Io.Seek.{SeekMoves}
 use Rattle.std.specs.declared.io.Error.{Error}
 use Rattle.std.specs.declared.io.traits.SeekFrom.TheVariants.{Start}
@@ -11,10 +12,11 @@ abbrev pub held_of : {R : Type 0} → FileReader R → List ℕ
 held_of r = held_from (take r.block.filled r.block.bytes.items) r.block.start r.block.front.items r.offset
 
 -- a file stays if it is at an offset, and is sought there if not
-abbrev pub GoesTo : {R : Type 0} → (R → Option ℕ) → (R → Option (List ℕ)) → R → R → Option ℕ → ℕ → Type 0
-GoesTo position bytes old new at offset =
+abbrev pub IsSoughtTo : {R : Type 0} → (R → Option ℕ) → (R → Option (List ℕ)) → R → R → Option ℕ → ℕ → Type 0
+IsSoughtTo position bytes old new at offset =
     (at ≡ Some offset → new ≡ old)
-    × (at ≢ Some offset → (there : ℕ) × SeekMoves {E = Error} (position old) (position new) (bytes old) (Start offset) (Ok there))
+    × (at ≢ Some offset → Keeps (bytes old) (bytes new)
+    × ((there : ℕ) × SeekMoves {E = Error} (position old) (position new) (bytes old) (Start offset) (Ok there)))
 
 -- the offset after a seek is the one that it returned
 abbrev pub sought_offset : {E : Type 0} → Result ℕ E → Option ℕ

@@ -55,7 +55,9 @@ impl Block {
         }
     }
 
-    // Reads a block of at most so many bytes from a file, which is at this offset, and returns how many it has.
+    // Reads at most `most` bytes from a file that is at `offset`, and returns how many it read.
+    //
+    // Errors: those of the file.
     pub(crate) fn fill<R: Read>(
         &mut self,
         file: &mut R,

@@ -3,7 +3,7 @@ ghost use Rattle.std.specs.Prelude.{◌≡◌, ◌≢◌, ℕ, ℤ, ◌+◌, ◌
 ghost use Rattle.std.specs.Io.KnownBytes.{Consumes, IsAtEnd, Keeps, ReadConsumes, prepend_known};
 ghost use Rattle.std.specs.Io.Seek.{IsAtOffset, SeekMoves};
 ghost use Rattle.std.specs.declared.io.Error.{Error};
-ghost use Rattle.imagesize_io.specs.File.{GoesTo, held_of, sought_offset};
+ghost use Rattle.imagesize_io.specs.File.{IsSoughtTo, held_of, sought_offset};
 ghost use Rattle.imagesize_io.specs.ReaderState.{kept_window};
 ghost use Rattle.imagesize_io.specs.StopOf.{stop_of};
 
@@ -14,11 +14,12 @@ use std::alloc::{AllocError, Global};
 use std::fs::OpenFile;
 use std::io::{self, ErrorKind, Read, Seek, SeekFrom};
 
-/// A file that was just opened, as a reader. It may be any other reader at its start.
+/// Reads a file that was just opened, or any other reader at offset 0.
 ///
-/// It reads blocks of 4,096 bytes, and of 8,192 where it reads on from the end of a block. The last block and the first 32 bytes
-/// are held: reading these again makes no call of the file. A seek makes a call only if it goes to the end of a file of unknown
-/// length. Otherwise the next read seeks, if the file is elsewhere.
+/// It reads blocks of at most 4,096 bytes, and of 8,192 where it reads on from the end of a block. The last block and the first 32
+/// bytes are held: reading these again makes no call of the file. Only a seek from the end calls the file, and not if it goes to the
+/// end and the length is known. After any other seek, the next read seeks if it needs to, and its error may be that of a seek.
+/// A read at an offset above 2^64 - 8,193 fails with `InvalidInput`.
 ///
 /// It has no model. The length is not checked. If something else moves the file, this reader does not notice.
 ///
@@ -26,10 +27,12 @@ use std::io::{self, ErrorKind, Read, Seek, SeekFrom};
 /// use imagesize::reader_size;
 /// use imagesize_io::FileReader;
 /// use imagesize_io::file::length_of;
+/// use std::fs;
 ///
 /// let file = fs::open(&rt, "tiny.gif")?;
 /// let length = length_of(&file);
 /// let size = reader_size(FileReader::new(rt.alloc(), file, length)?)?;
+/// assert_eq!((size.width, size.height), (100, 100));
 /// ```
 #[derive(Drop)]
 pub struct FileReader<R: Read + Seek + Drop> {
@@ -42,7 +45,8 @@ pub struct FileReader<R: Read + Seek + Drop> {
 }
 
 impl<R: Read + Seek + Drop> FileReader<R> {
-    /// Wraps a file at offset 0, with its length in bytes if known. It makes no call of the file.
+    /// Wraps a file at offset 0, with its length in bytes if known. It makes no call of the file. A file at another offset gives wrong
+    /// bytes.
     ///
     /// Errors: `AllocError` if the block cannot be allocated.
     pub fn new(alloc: Global, file: R, length: Option<u64>) -> Result<Self, AllocError>
@@ -63,9 +67,9 @@ impl<R: Read + Seek + Drop> FileReader<R> {
 
     // Reads the block at the reader's offset. The file is sought there first, if it is elsewhere.
     //
-    // Errors: those of the file, and `InvalidInput` above the offset 2^64 - 8,193, where no block ends below 2^64.
+    // Errors: those of the file, and `InvalidInput` above the offset 2^64 - 8,193, since a block might end past 2^64 - 1.
     fn fetch(&mut self) -> io::Result<usize>
-        ensures reads { IfOk result (λ n. (file : R) × GoesTo R.stream_position R.stream_bytes self.old.file file self.old.position self.old.offset
+        ensures reads { IfOk result (λ n. (file : R) × IsSoughtTo R.stream_position R.stream_bytes self.old.file file self.old.position self.old.offset
             × Consumes (R.remaining file) (R.remaining self.new.file) (take n self.new.block.bytes.items)
             × (n ≡ 0 → IsAtEnd (R.remaining self.new.file))) }
         ensures keeps { self.old.position ≡ Some self.old.offset → IfErr result (λ _. Keeps (R.remaining self.old.file) (R.remaining self.new.file)) }
@@ -73,6 +77,8 @@ impl<R: Read + Seek + Drop> FileReader<R> {
             × (self.new.block.front.items ≡ kept_window self.old.block.front.items self.old.offset (take n self.new.block.bytes.items))) }
         ensures position { IfOk result (λ n. self.new.position ≡ Some (self.old.offset + n)) }
         ensures unknown { IfErr result (λ _. self.new.position ≡ None) }
+        ensures fails { IfErr result (λ _. (self.new.block.front ≡ self.old.block.front)
+            × ((self.new.block ≡ self.old.block) ⊎ (self.new.block.filled ≡ 0))) }
         ensures offset { self.new.offset ≡ self.old.offset }
         ensures length { self.new.length ≡ self.old.length }
     {
@@ -80,12 +86,9 @@ impl<R: Read + Seek + Drop> FileReader<R> {
         if self.offset > u64::MAX - SIZE as u64 {
             return Err(io::Error::from(ErrorKind::InvalidInput));
         }
-        let is_there = position == Some(self.offset);
-        if !is_there {
-            self.file.seek(SeekFrom::Start(self.offset))?;
-        }
+        go(&mut self.file, position, self.offset)?;
         // At the start, and after a seek, half a block mostly has the bytes that are read next. It costs less.
-        let most = if is_there && self.offset > 0 {
+        let most = if self.offset > 0 && position == Some(self.offset) {
             SIZE
         } else {
             SIZE / 2
@@ -112,7 +115,7 @@ impl<R: Read + Seek + Drop> FileReader<R> {
         count
     }
 
-    // The offset at a distance from the end. A file of known length is asked for no other than that.
+    // The offset at a distance from the end. If the length is known, the end itself needs no call.
     fn from_end(&mut self, distance: i64) -> io::Result<u64>
         ensures known { (n : ℕ) → self.old.length ≡ Some n → distance ≡ pos 0 → (result ≡ Ok n) × (self.new ≡ self.old) }
         ensures seeks { (self.old.length ≡ None) ⊎ (distance ≢ pos 0) → SeekMoves (R.stream_position self.old.file) (R.stream_position self.new.file)
@@ -131,6 +134,18 @@ impl<R: Read + Seek + Drop> FileReader<R> {
         self.position = Some(offset);
         Ok(offset)
     }
+}
+
+// Seeks a file to an offset, if it is elsewhere.
+fn go<R: Seek>(file: &mut R, position: Option<u64>, offset: u64) -> io::Result<()>
+    ensures stays { position ≡ Some offset → (result ≡ Ok tt) × (file.new ≡ file.old) }
+    ensures goes { IfOk result (λ _. IsSoughtTo R.stream_position R.stream_bytes file.old file.new position offset) }
+{
+    if position == Some(offset) {
+        return Ok(());
+    }
+    file.seek(SeekFrom::Start(offset))?;
+    Ok(())
 }
 
 // The offset at a distance from another.
@@ -165,13 +180,21 @@ impl<R: Read + Seek + Drop> Told for FileReader<R> {
             × (take n buffer.new ≡ take n (held_of self.old)) × (self.new.file ≡ self.old.file) × (self.new.position ≡ self.old.position)
             × (self.new.block ≡ self.old.block) }
 
-        // Else the file is read at the reader's offset, after a seek if it is elsewhere. It is then at the end of the held bytes.
+        // Else the file is read at the reader's offset, after a seek if it is elsewhere. The file is then at the end of the held bytes,
+        // which are the rest of the new block, and the first bytes are kept.
         ensures reads { held_of self.old ≡ [] → IfOk result (λ n. (file : R)
-            × GoesTo R.stream_position R.stream_bytes self.old.file file self.old.position self.old.offset
+            × IsSoughtTo R.stream_position R.stream_bytes self.old.file file self.old.position self.old.offset
             × ReadConsumes {E = Stop} (R.remaining file) (prepend_known (held_of self.new) (R.remaining self.new.file)) (Ok n) buffer.new
-            × (self.new.position ≡ Some (self.new.offset + length (held_of self.new)))) }
+            × (self.new.position ≡ Some (self.new.offset + length (held_of self.new)))
+            × (self.new.block.start ≡ self.old.offset)
+            × (self.new.block.front.items ≡ kept_window self.old.block.front.items self.old.offset
+            (take self.new.block.filled self.new.block.bytes.items))) }
         ensures keeps { self.old.position ≡ Some self.old.offset → IfErr result (λ _. Keeps (R.remaining self.old.file) (R.remaining self.new.file)) }
         ensures unknown { IfErr result (λ _. self.new.position ≡ None) }
+
+        // A read that fails moves no offset, and leaves the first bytes. The block is gone.
+        ensures fails { IfErr result (λ _. (self.new.offset ≡ self.old.offset) × (self.new.block.front ≡ self.old.block.front)
+            × (held_of self.new ≡ [])) }
     {
         if self.held().is_empty() {
             self.fetch()?;
@@ -190,12 +213,14 @@ impl<R: Read + Seek + Drop> Told for FileReader<R> {
         ensures length { self.new.length ≡ self.old.length }
         ensures block { self.new.block ≡ self.old.block }
         ensures moves { IfOk result (λ n. self.new.offset ≡ n) }
+        ensures fails { IfErr result (λ _. self.new.offset ≡ self.old.offset) }
 
-        // A seek to an offset, or by a distance, makes no call. Nor does one to the end of a file of known length.
+        // A seek to an offset, or by a distance, makes no call. A seek to the end makes none if the length is known.
         ensures start { (n : ℕ) → to ≡ SeekFrom.Start n → (result ≡ Ok n) × (self.new.file ≡ self.old.file) × (self.new.position ≡ self.old.position) }
         ensures stays { to ≡ SeekFrom.Current (pos 0) → (result ≡ Ok self.old.offset) × (self.new ≡ self.old) }
         ensures by { (d : ℤ) → to ≡ SeekFrom.Current d → IfOk result (IsAtOffset self.old.offset d) × (self.new.file ≡ self.old.file)
             × (self.new.position ≡ self.old.position) }
+        ensures finds { (d : ℤ) (n : ℕ) → n < 2 ^ 64 → to ≡ SeekFrom.Current d → IsAtOffset self.old.offset d n → result ≡ Ok n }
         ensures end { (n : ℕ) → self.old.length ≡ Some n → to ≡ SeekFrom.End (pos 0)
             → (result ≡ Ok n) × (self.new.file ≡ self.old.file) × (self.new.position ≡ self.old.position) }
         ensures seeks { (d : ℤ) → to ≡ SeekFrom.End d → (self.old.length ≡ None) ⊎ (d ≢ pos 0)

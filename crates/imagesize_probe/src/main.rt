@@ -52,6 +52,16 @@ fn buffered<R: Print + AllocGlobal>(rt: &R, capacity: usize) -> BufWriter<Printe
     }
 }
 
+// What was made, or `Memory`, if it could not be allocated.
+fn or_memory<T, E: Drop>(made: Result<T, E>) -> ImageResult<T>
+    ensures { MatchResult made (λ value. result ≡ Ok value) (λ _. result ≡ Err (IoError Memory)) }
+{
+    match made {
+        Ok(value) => Ok(value),
+        Err(_) => Err(ImageError::IoError(Reason::Memory)),
+    }
+}
+
 // Opens files.
 #[derive(Drop)]
 struct Disk<'a, R> {
@@ -70,10 +80,7 @@ impl<R: Files + AllocGlobal> Open for Disk<'_, R> {
     {
         let file = fs::open(self.rt, name)?;
         let length = length_of(&file);
-        match FileReader::new(self.rt.alloc(), file, length) {
-            Ok(reader) => Ok(reader),
-            Err(_) => Err(ImageError::IoError(Reason::Memory)),
-        }
+        or_memory(FileReader::new(self.rt.alloc(), file, length))
     }
 
     fn load(&mut self, name: &str) -> ImageResult<Vec<u8>>

@@ -68,7 +68,7 @@ fn a_walk_in_a_block_fetches_it_once(rt: HostRuntime) -> Result<(), Fail> {
     Ok(())
 }
 
-// The calls of a file of this length on this walk, if the reader is told the length or not.
+// Counts the calls of a file on this walk. `told` is the length that the reader is given.
 fn made_on_walk<H: AllocGlobal + Abort>(
     rt: &H,
     length: u64,
@@ -145,13 +145,11 @@ fn a_reader_of_known_length_reads_nothing_at_its_end(rt: HostRuntime) -> Result<
 #[test]
 fn a_walk_over_blocks_makes_two_calls_an_offset(rt: HostRuntime) -> Result<(), Fail> {
     let made = made_on_walk(&rt, 1_000_000, Some(1_000_000), 10_000)?;
-    assert_eq!(rt;
-        made,
-        Made {
-            reads: 100,
-            seeks: 99
-        }
-    );
+    let (reads, seeks) = (100, 99);
+    assert_eq!(rt; made, Made { reads, seeks });
+    let made = made_on_walk(&rt, 1_000_000, None, 10_000)?;
+    let (reads, seeks) = (100, 101);
+    assert_eq!(rt; made, Made { reads, seeks });
     Ok(())
 }
 
@@ -173,6 +171,82 @@ fn an_offset_behind_in_the_block_is_reached_with_no_call(rt: HostRuntime) -> Res
     assert_eq!(rt; reader.seek_told(SeekFrom::Current(0))?, 7);
     drop(reader);
     assert_eq!(rt; made, Made { reads: 1, seeks: 1 });
+    Ok(())
+}
+
+#[test]
+fn a_block_is_small_at_the_start_and_after_a_seek(rt: HostRuntime) -> Result<(), Fail> {
+    let bytes = Vec::from_elem(rt.alloc(), 7u8, 40_000)?;
+    let inner = Cursor::new(bytes.as_slice());
+    let mut reader = FileReader::new(rt.alloc(), inner, Some(40_000))?;
+    assert!(rt; matches!(reader.read_told(&mut [0u8; 1]), Ok(1)));
+    assert_eq!(rt; reader.held().len(), 4095);
+    assert_eq!(rt; reader.seek_told(SeekFrom::Start(4096))?, 4096);
+    assert!(rt; matches!(reader.read_told(&mut [0u8; 1]), Ok(1)));
+    assert_eq!(rt; reader.held().len(), 8191);
+    assert_eq!(rt; reader.seek_told(SeekFrom::Start(20_000))?, 20_000);
+    assert!(rt; matches!(reader.read_told(&mut [0u8; 1]), Ok(1)));
+    assert_eq!(rt; reader.held().len(), 4095);
+    Ok(())
+}
+
+// Gives one byte a read. Each second read is interrupted.
+#[derive(Drop)]
+struct Slow<'a> {
+    inner: Cursor<&'a [u8]>,
+    interrupts: bool,
+}
+
+impl Read for Slow<'_> {
+    fn read(&mut self, buffer: &mut [u8]) -> io::Result<usize> {
+        self.interrupts = !self.interrupts;
+        if self.interrupts {
+            return Err(io::Error::from(ErrorKind::Interrupted));
+        }
+        let most = buffer.len().min(1);
+        self.inner.read(&mut buffer[..most])
+    }
+}
+
+impl Seek for Slow<'_> {
+    fn seek(&mut self, to: SeekFrom) -> io::Result<u64> {
+        self.inner.seek(to)
+    }
+}
+
+#[test]
+fn an_interrupted_read_of_a_file_is_read_again(rt: HostRuntime) -> Result<(), Fail> {
+    let bytes = [1u8, 2, 3];
+    let inner = Cursor::new(bytes.as_slice());
+    let slow = Slow {
+        inner,
+        interrupts: false,
+    };
+    let mut reader = FileReader::new(rt.alloc(), slow, Some(3))?;
+    let mut buffer = [0u8; 4];
+    for byte in bytes {
+        assert!(rt; matches!(reader.read_told(&mut buffer), Err(Stop::Interrupted(_))));
+        assert!(rt; matches!(reader.read_told(&mut buffer), Ok(1)));
+        assert_eq!(rt; buffer, [byte, 0, 0, 0]);
+    }
+    // The first bytes are kept, though each came by a read of its own.
+    assert_eq!(rt; reader.seek_told(SeekFrom::Start(0))?, 0);
+    assert!(rt; matches!(reader.read_told(&mut buffer), Ok(3)));
+    assert_eq!(rt; buffer, [1, 2, 3, 0]);
+    Ok(())
+}
+
+#[test]
+fn an_offset_that_no_file_has_is_refused(rt: HostRuntime) -> Result<(), Fail> {
+    let bytes = [1u8, 2, 3];
+    let inner = Cursor::new(bytes.as_slice());
+    let mut reader = FileReader::new(rt.alloc(), inner, Some(3))?;
+    assert_eq!(rt; reader.seek_told(SeekFrom::Start(1))?, 1);
+    assert!(rt; reader.seek_told(SeekFrom::Current(i64::MIN)).is_err());
+    assert_eq!(rt; reader.seek_told(SeekFrom::Current(0))?, 1);
+    assert_eq!(rt; reader.seek_told(SeekFrom::Start(u64::MAX))?, u64::MAX);
+    assert!(rt; matches!(reader.read_told(&mut [0u8; 1]), Err(Stop::Fault(_))));
+    assert_eq!(rt; reader.seek_told(SeekFrom::Current(0))?, u64::MAX);
     Ok(())
 }
 
