@@ -18,8 +18,8 @@ use std::io::{self, ErrorKind, Read, Seek, SeekFrom};
 ///
 /// It reads blocks of at most 4,096 bytes, and of 8,192 where it reads on from the end of a block. The last block and the first 32
 /// bytes are held: reading these again makes no call of the file. Only a seek from the end calls the file, and not if it goes to the
-/// end and the length is known. After any other seek, the next read seeks if it needs to, and its error may be that of a seek.
-/// A read at an offset above 2^64 - 8,193 fails with `InvalidInput`.
+/// end and the length is known. After any other seek, the next read seeks if it needs to, and returns the seek's error. A read at an
+/// offset above 2^64 - 8,193 fails with `InvalidInput`.
 ///
 /// It has no model. The length is not checked. If something else moves the file, this reader does not notice.
 ///
