@@ -194,7 +194,7 @@ fn find_size_of<S: Source, const HEAD: usize, const VALUE: usize>(
 
 /// The entries of the directory: their stated number, how many were read, and the width and the height from these.
 #[derive(Drop)]
-struct Entries<const HEAD: usize, const VALUE: usize> {
+pub struct Entries<const HEAD: usize, const VALUE: usize> {
     /// The header.
     pub header: Header,
     /// How many there are.
