@@ -32,6 +32,7 @@ CALLS = {
     "stream": STREAM,
     "chunks": STREAM,
     "bytes": STREAM,
+    "again": ("passed_again",),
 }
 MOST, MOST_ELSEWHERE, LEAST = 1.05, 1.25, 0.9
 MOST_OVER_THE_CRATE = 10

@@ -8,6 +8,7 @@
  *     many                  the same with 63 parts more, which lie past the end and have no bytes
  *     stream                a push parser that gets all bytes at once
  *     chunks, bytes         one that gets chunks of 4,096 bytes, or the first 4,096 bytes one by one
+ *     again                 a push parser and a probe over spans that get all bytes again after their result
  *     none                  nothing
  */
 #include "imagesize.h"
@@ -99,13 +100,36 @@ static uint32_t by_bytes(const uint8_t *bytes, size_t length, struct told *told)
     return pushed(bytes, length < CHUNK ? length : CHUNK, 1, length, told);
 }
 
+/* Passes all bytes to a push parser and to a probe over spans that have their result. count.py counts only this function. */
+__attribute__((noinline)) static uint32_t passed_again(imagesize_stream *stream, imagesize_parts *parts, const uint8_t *bytes,
+                                                       size_t length, struct told *told)
+{
+    imagesize_parts_supply(parts, 0, bytes, length);
+    return imagesize_stream_push(stream, bytes, length, &told->type, &told->compression, &told->width, &told->height);
+}
+
+static uint32_t again(const uint8_t *bytes, size_t length, struct told *told)
+{
+    imagesize_stream stream;
+    imagesize_parts state;
+    imagesize_span wanted;
+    imagesize_stream_new(&stream, length);
+    imagesize_stream_push(&stream, bytes, length, &told->type, &told->compression, &told->width, &told->height);
+    imagesize_parts_new(&state, length);
+    while (imagesize_parts_answer(&state, &told->type, &told->compression, &told->width, &told->height, &wanted) ==
+           IMAGESIZE_BYTES_WANTED) {
+        imagesize_parts_supply(&state, wanted.start, bytes + wanted.start, length - wanted.start);
+    }
+    return passed_again(&stream, &state, bytes, length, told);
+}
+
 static call *called(const char *name)
 {
     static const struct {
         const char *name;
         call *called;
     } calls[] = {{"size", size}, {"probe", probe}, {"spans", spans}, {"parts", parts}, {"many", many}, {"stream", stream},
-                 {"chunks", chunks}, {"bytes", by_bytes}};
+                 {"chunks", chunks}, {"bytes", by_bytes}, {"again", again}};
     for (size_t i = 0; i < sizeof calls / sizeof *calls; i++) {
         if (strcmp(name, calls[i].name) == 0) {
             return calls[i].called;
