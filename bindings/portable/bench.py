@@ -41,9 +41,10 @@ def measured(program, call, files):
     return [each - nothing for each in once(call, files)]
 
 
-def least(program, call, files):
-    """The least of some rounds."""
-    return [min(each) for each in zip(*(measured(program, call, files) for _ in range(ROUNDS)))]
+def least(programs, call, files):
+    """The least of some rounds of each program. They run by turns, so that other work slows both."""
+    rounds = [[measured(program, call, files) for program in programs] for _ in range(ROUNDS)]
+    return [[min(each) for each in zip(*turns)] for turns in zip(*rounds)]
 
 
 def main(call):
@@ -58,7 +59,7 @@ def main(call):
         portable = built(folder, "portable", SOURCE / "imagesize_portable.c")
         well = True
         for each in CALLS if call == "all" else [call]:
-            ours, theirs = least(portable, each, files), least(native, each, files)
+            ours, theirs = least((portable, native), each, files)
             times = sum(ours) / sum(theirs)
             well &= times <= MOST_TIMES and max(ours) <= MOST_NANOSECONDS
             if call != "all":
