@@ -87,7 +87,7 @@ fetched remaining known old read left buffer count n none reads at_end filled st
     rw front (front_ends old.block.front.items bytes old.offset behind) in
     let held : held_of read ≡ bytes = rw (filled, start, at) (whole bytes read.block.front.items old.offset ends) in
     let size : length bytes ≡ count =
-    omega (arith, length-take count read.block.bytes.items, read.block.whole, read.block.within, filled) in
+    omega (arith, length-take count read.block.bytes.items, read.block.within, filled) in
     let least : n ≡ min (length buffer) (length bytes) = few ∙ ap (λ h. min (length buffer) (length h)) held in
     let there : left.offset ≡ old.offset + n = moves ∙ ap (λ k. k + n) at in
     let left_is : held_of left ≡ drop n bytes =

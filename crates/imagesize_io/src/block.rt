@@ -11,7 +11,11 @@ use std::io::{self, Read};
 /// How many bytes a block has at most.
 pub(crate) const SIZE: usize = 8192;
 
-// A block of a file, and the first bytes of the file as they were read.
+// Half a block of zeroes. They are copied: an array of zeroes would be written to the stack first.
+static ZEROES: [u8; SIZE / 2] = [0; SIZE / 2];
+
+// A block of a file, and the first bytes of the file as they were read. It has memory for a whole block from the start, and writes
+// zeroes to the second half only if a whole block is read. Most files need no whole block.
 #[derive(Drop)]
 pub(crate) struct Block {
     // The first `filled` bytes lie at the offset `start` of the file.
@@ -19,8 +23,8 @@ pub(crate) struct Block {
     filled: usize,
     start: u64,
     front: Window,
-    ghost whole: { length bytes.items ≡ 8192 },
-    ghost within: { filled ≤ 8192 },
+    ghost half: { 0 < length bytes.items },
+    ghost within: { filled ≤ length bytes.items },
     ghost ends: { start + filled < 2 ^ 64 },
 }
 
@@ -31,8 +35,8 @@ impl Block {
     pub(crate) fn new(alloc: Global) -> Result<Block, AllocError>
         ensures empty { IfOk result (λ b. (b.filled ≡ 0) × (b.front.items ≡ [])) }
     {
-        // This copies zeroes. `resize` would write one after the other.
-        let bytes = Vec::from_slice(alloc, &[0; SIZE])?;
+        let mut bytes = Vec::with_capacity(alloc, SIZE)?;
+        bytes.extend_from_slice(&ZEROES)?;
         Ok(Block {
             bytes,
             filled: 0,
@@ -55,6 +59,22 @@ impl Block {
         }
     }
 
+    // How many of `most` bytes the block has room for, once a second half is added where they need it.
+    fn room(&mut self, most: usize) -> usize
+        requires { self.old.filled ≡ 0 }
+        ensures most { result ≤ most }
+        ensures some { 0 < most → 0 < result }
+        ensures fits { result ≤ length self.new.bytes.items }
+        ensures filled { self.new.filled ≡ 0 }
+        ensures start { self.new.start ≡ self.old.start }
+        ensures front { self.new.front ≡ self.old.front }
+    {
+        if most > self.bytes.len() && self.bytes.extend_from_slice(&ZEROES).is_err() {
+            return self.bytes.len();
+        }
+        most.min(self.bytes.len())
+    }
+
     // Reads at most `most` bytes from a file that is at `offset`, and returns how many it read.
     //
     // Errors: those of the file.
@@ -74,6 +94,7 @@ impl Block {
         ensures fails { IfErr result (λ _. (self.new.filled ≡ 0) × (self.new.front ≡ self.old.front)) }
     {
         self.filled = 0;
+        let most = self.room(most);
         let count = read_front(file, self.bytes.as_mut_slice(), most)?;
         self.filled = count;
         self.start = offset;

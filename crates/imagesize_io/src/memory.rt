@@ -34,6 +34,11 @@ impl Source for MemorySource<'_> {
         self.slice.refusal(halt)
     }
 
+    #[inline(always)]
+    fn glance(&self, offset: u64) -> Option<[u8; 4]> {
+        self.slice.glance(offset)
+    }
+
     // It shows no bytes.
     #[inline(always)]
     fn pass(&mut self, _counts: Counts) {}

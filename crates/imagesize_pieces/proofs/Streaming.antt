@@ -4,7 +4,7 @@ use Rattle.std.proofs.lemmas.Bool.Decides.{nat_tests}
 use Rattle.std.proofs.lemmas.List.{length-append, length-drop, get_or-drop, get_or-take}
 use Rattle.imagesize_source.specs.Input.{part}
 use Rattle.imagesize_source.specs.Known.{byte_in_parts, reaches}
-use Rattle.imagesize_pieces.specs.Stream.{byte_at, came, run_of, stream_input}
+use Rattle.imagesize_pieces.specs.Stream.{byte_at, came, run_at, run_of, stream_input}
 use Rattle.imagesize_source.proofs.Known.{known_below}
 use Rattle.imagesize_source.proofs.Gathering.{run_part}
 use Rattle.imagesize_source.proofs.Parts.{part_none}
@@ -92,6 +92,18 @@ module _ (n start : ℕ) (kept chunk : List ℕ) where
       ∙ length-drop (offset - start - length kept) chunk in
       ap is_some (as_one offset)
       ∙ not_behind n start (kept ++ chunk) offset (omega (arith, above, behind, long, none, length-append kept chunk))
+
+  -- behind the last bytes of the chunk none is known
+  pub last_none : (run : List ℕ) (offset : ℕ) → start ≤ offset → length kept ≤ offset - start → run ≡ run_at start kept chunk offset
+      → is_some (byte_at n start kept chunk (offset + length run)) ≡ false
+  last_none run offset above behind is =
+      let begun : leb (suc offset) start ≡ false = grind (arith, nat_tests) in
+      let past : leb (suc (offset - start)) (length kept) ≡ false = grind (arith, nat_tests) in
+      let rest : run_at start kept chunk offset ≡ drop (offset - start - length kept) chunk = rw (begun, past) refl in
+      let long : length run ≡ length chunk - (offset - start - length kept) = ap length (is ∙ rest)
+      ∙ length-drop (offset - start - length kept) chunk in
+      ap is_some (as_one (offset + length run))
+      ∙ not_behind n start (kept ++ chunk) (offset + length run) (omega (arith, above, behind, long, length-append kept chunk))
 
 -- the first of some known bytes
 pub first_known : (n start : ℕ) (kept chunk run found : List ℕ) (offset count i : ℕ)

@@ -1,5 +1,5 @@
 //! The bytes of an input that arrived so far, from an offset on, as a source. A read of a missing byte fails.
-ghost use Rattle.std.specs.Prelude.{◌≡◌, ℕ, ◌+◌, ◌-◌, ◌<◌, ◌≤◌, ◌++◌, [], ◌∷◌, min, take, length, slice_index, is_some, true, false, None, Some, IfSome, ok_or};
+ghost use Rattle.std.specs.Prelude.{◌≡◌, ℕ, List, ◌+◌, ◌-◌, ◌<◌, ◌≤◌, ◌++◌, [], ◌∷◌, min, take, length, slice_index, is_some, true, false, None, Some, Err, IfSome, ok_or};
 ghost use Rattle.std.specs.Option.{ForSome};
 ghost use Rattle.imagesize_source.specs.Agreement.{has_offset};
 ghost use Rattle.imagesize_source.specs.Input.{part, span_at};
@@ -230,22 +230,61 @@ impl<'a> StreamSource<'a> {
             (map_answer (λ n. take n buffer.new) (ok_or result Halt.Failed))
             (text_read (stream_input self.old.told self.old.start self.old.kept.now self.old.chunk.now) text offset (length buffer.new)) }
     {
-        let run = self.known_from(offset).len();
+        let most = buffer.len();
+        let run = self.known_from(offset);
+        // Most such texts lie at the end of the chunk. For them this saves a copy.
+        if self.ends_within(offset, run, most) {
+            self.miss_text(offset, text, run, most);
+            return None;
+        }
         let (found, wanted) = self.fill_known(offset, buffer);
-        let searched = run.min(found);
+        let searched = run.len().min(found);
         let Some(count) = uncut_length(text, &buffer[..found], searched, wanted) else {
-            let left = wanted - found;
-            if ends_with_filler(text) {
-                self.miss(offset, found, 1, 1);
-            } else if offset < self.start {
-                self.miss(offset, found, 1, left);
-            } else {
-                self.miss(offset, found, left, left);
-            }
+            self.miss_text(offset, text, &buffer[..found], most);
             return None;
         };
         self.see(offset, count);
         Some(count)
+    }
+
+    // Whether these bytes from an offset on are the last of the chunk, and a read of at most `most` bytes requests more.
+    #[inline(always)]
+    fn ends_within(&self, offset: u64, run: &[u8], most: usize) -> bool
+        requires { run.now ≡ run_at self.now.start self.now.kept.now self.now.chunk.now offset }
+        ensures short { result ≡ true → length run.now < min most (self.now.told - offset) }
+        ensures unknown { result ≡ true → is_some (byte_at self.now.told self.now.start self.now.kept.now self.now.chunk.now (offset + length run.now)) ≡ false }
+    {
+        if offset < self.start {
+            return false;
+        }
+        if offset - self.start < self.kept.len() as u64 {
+            return false;
+        }
+        run.len() < count_there(self.told, offset, most)
+    }
+
+    // Records a read of a text of at most `most` bytes that misses a byte. `known` are its bytes up to that one. They do not end it.
+    #[inline(always)]
+    fn miss_text(&mut self, offset: u64, text: Text, known: &[u8], most: usize)
+        requires there { (i : ℕ) → i < length known.now → is_some (byte_at self.old.told self.old.start self.old.kept.now self.old.chunk.now (offset + i)) ≡ true }
+        requires copied { known.now ≡ part (stream_input self.old.told self.old.start self.old.kept.now self.old.chunk.now) offset (length known.now) }
+        requires unknown { is_some (byte_at self.old.told self.old.start self.old.kept.now self.old.chunk.now (offset + length known.now)) ≡ false }
+        requires short { length known.now < min most (self.old.told - offset) }
+        requires open { is_ended text known.now ≡ false }
+        ensures { Runs {X = List ℕ} (stream_state self.old.told self.old.start self.old.kept.now self.old.chunk.now self.old.log.spans self.old.missed)
+            (stream_state self.new.told self.new.start self.new.kept.now self.new.chunk.now self.new.log.spans self.new.missed)
+            (Err Halt.Failed)
+            (text_read (stream_input self.old.told self.old.start self.old.kept.now self.old.chunk.now) text offset most) }
+    {
+        let found = known.len();
+        let left = count_there(self.told, offset, most) - found;
+        if ends_with_filler(text) {
+            self.miss(offset, found, 1, 1);
+        } else if offset < self.start {
+            self.miss(offset, found, 1, left);
+        } else {
+            self.miss(offset, found, left, left);
+        }
     }
 }
 

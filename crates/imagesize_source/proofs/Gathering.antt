@@ -3,7 +3,7 @@ use Rattle.std.proofs.Common.{◌≡◌, ℕ, zero, suc, ◌+◌, ◌-◌, ◌<�
 use Rattle.std.specs.Prelude.{unwrap_or}
 use Rattle.std.proofs.lemmas.Bool.{cases_lt}
 use Rattle.std.proofs.lemmas.Bool.Decides.{nat_tests}
-use Rattle.std.proofs.lemmas.List.{length-append, length-take, get_or-take, drop-drop, ext_get_or, take-take}
+use Rattle.std.proofs.lemmas.List.{length-append, length-drop, length-take, get_or-drop, get_or-take, drop-drop, ext_get_or, take-take}
 use Rattle.std.proofs.Math.Seq.{drop-cons, take-add, take-append_seam}
 use Rattle.imagesize_source.specs.declared.span.Span.{Span}
 use Rattle.imagesize_source.specs.Input.{part}
@@ -260,3 +260,47 @@ pub again : (n : ℕ) (bs : List ℕ) → n ≤ length bs → take (length (take
 again n bs there =
     let long : length (take n bs) ≡ n = omega (arith, length-take n bs, there) in
     ap (λ k. take k (take n bs)) long ∙ take-take n n bs (omega arith)
+
+-- ---- parts that each begin where the one before ends, the first of them at offset 0
+
+-- a byte behind the first ones
+byte_behind : (bytes : List ℕ) (end i : ℕ) → end ≤ i → byte_of (drop end bytes) (i - end) ≡ byte_of bytes i
+byte_behind bytes end i late =
+    let at : end + (i - end) ≡ i = omega (arith, late) in
+    let long = length-drop end bytes in
+    let same : leb (suc (i - end)) (length (drop end bytes)) ≡ leb (suc i) (length bytes) = grind (arith, nat_tests) in
+    ap (λ is. cond is (Some (get_or (drop end bytes) (i - end) 0)) None) same
+    ∙ ap (λ b. cond (leb (suc i) (length bytes)) (Some b) None) (get_or-drop end bytes (i - end) 0 ∙ ap (λ j. get_or bytes j 0) at)
+
+abbrev pub Joined : ℕ → List Span → ℕ → ℕ → Type 0
+Joined n spans k end = ((bytes : List ℕ) (i : ℕ) → i < end → byte_in_parts n spans bytes i ≡ byte_of bytes i)
+    × ((bytes : List ℕ) (i : ℕ) → end ≤ i → byte_in_parts n spans bytes i ≡ byte_in_parts n (drop k spans) (drop end bytes) i)
+
+pub joined_none : (n : ℕ) (spans : List Span) → Joined n spans 0 0
+joined_none n spans = (λ bytes i below. absurd (omega (arith, below)), λ bytes i late. refl)
+
+pub joined_more : (n : ℕ) (spans : List Span) (k : ℕ) (other : Span) (end len : ℕ) → k < length spans → Joined n spans k end
+    → len ≡ length_within n (get_or spans k other) → (get_or spans k other).start ≡ end → Joined n spans (k + 1) (end + len)
+joined_more n spans k other end len here so_far is_len begins = (
+  λ bytes i below. elim (cases_lt i end) [
+    | inl early ↦ so_far.0 bytes i early
+    | inr late ↦ (
+        let yes : reaches n (get_or spans k other) i ≡ true = grind (arith, nat_tests) in
+        so_far.1 bytes i late ∙ known_here n spans k other (drop end bytes) i here yes
+        ∙ ap (λ b. byte_of (drop end bytes) (i - b)) begins ∙ byte_behind bytes end i late
+        )
+  ],
+  λ bytes i above.
+      let no : reaches n (get_or spans k other) i ≡ false = grind (arith, nat_tests) in
+      so_far.1 bytes i (omega (arith, above)) ∙ known_later n spans k other (drop end bytes) i here no
+      ∙ ap (λ bs. byte_in_parts n (drop (k + 1) spans) bs i)
+      (ap (λ l. drop l (drop end bytes)) (sym is_len) ∙ drop-drop len end bytes),
+)
+
+-- a byte of the first ones
+pub joined_at : (bytes : List ℕ) (end i : ℕ) → i < length (part bytes 0 end) → byte_of bytes i ≡ Some (slice_index (part bytes 0 end) i)
+joined_at bytes end i below =
+    let long = part_length bytes 0 end in
+    let from : i ≡ 0 + i = omega arith in
+    let there : leb (suc i) (length bytes) ≡ true = grind (arith, nat_tests) in
+    ap (λ is. cond is (Some (get_or bytes i 0)) None) there ∙ ap Some (ap (λ j. get_or bytes j 0) from ∙ sym (part_at bytes 0 end i (omega (arith, long, below))))

@@ -1,6 +1,6 @@
 -- Parts of an input.
 use Rattle.std.proofs.Common.{◌≡◌, ℕ, ◌+◌, ◌-◌, ◌<◌, ◌≤◌, min, List, [], length, take, drop, get_or, slice_index, refl, sym, ap, ◌∙◌}
-use Rattle.std.proofs.lemmas.List.{length-take, length-drop, get_or-take, get_or-drop, take_min, take-take}
+use Rattle.std.proofs.lemmas.List.{length-take, length-drop, drop-drop, drop-take, get_or-take, get_or-drop, take_min, take-take}
 use Rattle.imagesize_source.specs.Input.{part}
 
 -- how many of k bytes there are
@@ -25,6 +25,11 @@ part_at d offset k i below = get_or-take k (drop offset d) i 0 below ∙ get_or-
 pub part_front : (d : List ℕ) (offset j k : ℕ) → j ≤ k → take j (part d offset k) ≡ part d offset j
 unfolding part
 part_front d offset j k few = take-take j k (drop offset d) few
+
+-- the last bytes of a part
+pub part_behind : (d : List ℕ) (offset j k : ℕ) → drop j (part d offset (j + k)) ≡ part d (offset + j) k
+unfolding part
+part_behind d offset j k = drop-take j k (drop offset d) ∙ ap (take k) (drop-drop j offset d)
 
 -- no more of a part is there than its input has
 pub part_whole : (d : List ℕ) (offset k m : ℕ) → m ≡ min k (length d - offset) → part d offset k ≡ part d offset m

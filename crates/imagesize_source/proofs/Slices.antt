@@ -9,7 +9,7 @@ use Rattle.imagesize_source.specs.Text.{text_front}
 use Rattle.imagesize_source.proofs.Texts.{front_take}
 use Rattle.imagesize_source.specs.declared.text.Text.{Text}
 use Rattle.std.proofs.lemmas.Bool.{cases_lt}
-use Rattle.imagesize_source.specs.State.{State, Runs, IsSound, state_after, slice_state}
+use Rattle.imagesize_source.specs.State.{State, Runs, IsSlice, IsSound, state_after, slice_state}
 use Rattle.imagesize_source.proofs.Parts.{part_length}
 
 past-slice : (d : List ℕ) (spans : List Span) → state_after (slice_state d) spans ≡ slice_state d
@@ -48,6 +48,13 @@ slice_runs : {reads : Reads (List ℕ)} (d got : List ℕ) → length d < 2 ^ 63
     (Ok got) reads
 slice_runs {reads} d got short is = given_runs got (λ honest. (refl, short)) (λ honest. (refl, short)) refl refl is
     (sym (past-slice d reads.marks))
+
+-- reads of a slice change nothing, and give what is there
+pub slice_gives : {X : Type 0} {reads : Reads X} (a : State) (x : X) → IsSlice a → length a.held.input < 2 ^ 63
+    → reads.answer ≡ Ok x → Runs a a (Ok x) reads
+slice_gives {X} {reads} a x is short got =
+    given_runs x (λ honest. (ap (λ s. s.frame.told) is, short)) (λ honest. (ap (λ s. s.frame.told) is, short)) refl refl got
+    (is ∙ sym (past-slice a.held.input reads.marks) ∙ ap (λ s. state_after s reads.marks) (sym is))
 
 -- a reading of a slice, from an offset that is the one asked for
 pub slice_reads : (d buffer old : List ℕ) (offset from n : ℕ) → length d < 2 ^ 63 → n ≡ min (length old) (length d - from)

@@ -175,6 +175,10 @@ slice_state d = record {
   failed = None;
 }
 
+-- a source that is a slice: no read changes it
+abbrev pub IsSlice : State → Type 0
+IsSlice a = a ≡ slice_state a.held.input
+
 -- A slice whose spans are recorded after these. `home` names the borrow of the buffer.
 abbrev pub recording_state : List ℕ → List Span → ℕ → State
 recording_state d spans home = record {

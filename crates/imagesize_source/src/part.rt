@@ -1,5 +1,6 @@
 //! Parts of a slice from an offset on, as far as the slice goes.
 ghost use Rattle.std.specs.Prelude.{◌≡◌, ◌+◌, ◌<◌, ◌≤◌, min, ◌-◌, ◌++◌, take, drop, length, true, false, None, IfSome};
+ghost use Rattle.std.specs.Int.{w64, from_le_bytes};
 ghost use Rattle.imagesize_source.specs.Input.{part};
 ghost use Rattle.imagesize_source.specs.Reading.{text_part};
 ghost use Rattle.imagesize_source.specs.Text.{is_ended, text_front};
@@ -37,6 +38,18 @@ pub(crate) fn part_of(bytes: &[u8], offset: u64, most: u64) -> &[u8]
     let start = (offset as usize).min(bytes.len());
     let rest = &bytes[start..];
     &rest[..rest.len().min(most as usize)]
+}
+
+/// The number that the eight bytes from an index on encode, the lowest byte first.
+#[inline(always)]
+pub fn eight_at(bytes: &[u8], index: usize) -> u64
+    requires { index + 8 ≤ length bytes.now }
+    ensures { result ≡ from_le_bytes w64 (take 8 (drop index bytes.now)) }
+{
+    let rest = &bytes[index..];
+    u64::from_le_bytes([
+        rest[0], rest[1], rest[2], rest[3], rest[4], rest[5], rest[6], rest[7],
+    ])
 }
 
 /// Copies the text from an offset on into the buffer, as far as it fits, and returns how many bytes it has. The buffer after the

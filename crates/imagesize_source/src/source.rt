@@ -1,9 +1,10 @@
 //! A source: the bytes of an input, read at offsets.
-ghost use Rattle.std.specs.Prelude.{◌≡◌, ◌<◌, ◌≤◌, true, None, take, length, IfOk, IfSome};
+ghost use Rattle.std.specs.Prelude.{◌≡◌, ◌+◌, ◌^◌, ◌<◌, ◌≤◌, true, None, take, length, IfOk, IfSome};
+ghost use Rattle.imagesize_source.specs.Input.{part};
 ghost use Rattle.imagesize_source.specs.Halts.{error_by};
 ghost use Rattle.imagesize_source.specs.Paying.{Paid};
 ghost use Rattle.imagesize_source.specs.Reading.{map_answer, part_read, text_read};
-ghost use Rattle.imagesize_source.specs.State.{State, Runs, IsSound, rejoined, shown_by, shown_state};
+ghost use Rattle.imagesize_source.specs.State.{State, Runs, IsSlice, IsSound, rejoined, shown_by, shown_state};
 
 use crate::{Halt, ImageError, Text};
 use held::{Claims, Counts, HeldSource};
@@ -38,6 +39,18 @@ pub trait Source: Claims {
     /// The error that the call returns after a read failed with this `Halt`.
     fn refusal(&self, halt: Halt) -> ImageError
         ensures { result ≡ error_by (state self.now).failure (state self.now).frame.budget halt };
+
+    /// The four bytes from an offset on, if this is a slice that has them. A read of a slice changes nothing, so more bytes may be
+    /// looked at than are read. This call may always return `None`.
+    #[inline(always)]
+    fn glance(&self, _offset: u64) -> Option<[u8; 4]>
+        ensures slice { IfSome result (λ _. IsSlice (state self.now)) }
+        ensures short { IfSome result (λ _. length (state self.now).held.input < 2 ^ 63) }
+        ensures fits { IfSome result (λ _. _offset + 4 ≤ length (state self.now).held.input) }
+        ensures there { IfSome result (λ four. four ≡ part (state self.now).held.input _offset 4) }
+    {
+        None
+    }
 
     /// The bytes from an offset on that the source holds, as a source of their own. A read of them makes no call of a reader.
     /// `pass` counts these reads afterwards. This call may always return `None`.

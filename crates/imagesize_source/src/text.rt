@@ -1,10 +1,14 @@
 //! Texts within an input: bytes up to one that ends them.
-ghost use Rattle.std.specs.Prelude.{◌≡◌, ◌+◌, ◌++◌, ◌≤◌, not, true, false, None, length, IfSome};
-ghost use Rattle.std.specs.List.{list_any, position};
+ghost use Rattle.std.specs.Prelude.{◌≡◌, ◌+◌, ◌++◌, ◌≤◌, not, true, false, None, length, take, drop, IfSome, IsTrue};
+ghost use Rattle.std.specs.List.{list_any, position, position_or_len};
 ghost use Rattle.std.specs.Char.{is_ascii_whitespace};
 ghost use Rattle.imagesize_source.specs.Text.{ends, front_through, has_begun, is_ended, text_front};
 
+use crate::part::eight_at;
 use crate::search::first_of;
+
+// Eight spaces as a number.
+const SPACES: u64 = 0x2020_2020_2020_2020;
 
 /// A text, by what ends it. If nothing ends it, it goes on to the end of the input or of the buffer.
 #[derive(Clone, Copy, Debug, PartialEq, Eq)]
@@ -113,8 +117,42 @@ fn word_length(bytes: &[u8]) -> Option<usize>
     }
 }
 
-#[inline]
+// The index of the first byte that is not white space. Most words begin with the first byte.
+#[inline(always)]
 fn first_of_word(bytes: &[u8]) -> Option<usize>
+    ensures { result ≡ position (λ b. not (is_ascii_whitespace b)) bytes.now }
+{
+    match bytes {
+        [first, ..] if !first.is_ascii_whitespace() => Some(0),
+        _ => first_behind_white(bytes),
+    }
+}
+
+// The same, for a word that comes after white space. Spaces are passed over eight at a time: byte by byte, each takes twelve
+// instructions. Not inlined, since the words that begin at once are then read faster.
+#[inline(never)]
+fn first_behind_white(bytes: &[u8]) -> Option<usize>
+    ensures { result ≡ position (λ b. not (is_ascii_whitespace b)) bytes.now }
+{
+    let mut index = 0;
+    while bytes.len() - index >= 8 && are_spaces(bytes, index) {
+        index += 8;
+    }
+    let count = first_not_white(&bytes[index..])?;
+    Some(index + count)
+}
+
+// Whether the eight bytes from an index on are spaces.
+#[inline(always)]
+fn are_spaces(bytes: &[u8], index: usize) -> bool
+    requires { index + 8 ≤ length bytes.now }
+    ensures { IsTrue result → position_or_len (λ b. not (is_ascii_whitespace b)) (take 8 (drop index bytes.now)) ≡ 8 }
+{
+    eight_at(bytes, index) == SPACES
+}
+
+#[inline(always)]
+fn first_not_white(bytes: &[u8]) -> Option<usize>
     ensures { result ≡ position (λ b. not (is_ascii_whitespace b)) bytes.now }
 {
     bytes.iter().position(|byte| !byte.is_ascii_whitespace())

@@ -1,7 +1,9 @@
 //! Tests whether bytes are UTF-8.
 ghost use Rattle.std.specs.Prelude.{◌≡◌, ◌+◌, ◌≤◌, IsAscii, IsTrue, length, take, drop};
-ghost use Rattle.std.specs.Int.{w32, w64, from_le_bytes};
+ghost use Rattle.std.specs.Int.{w32, from_le_bytes};
 ghost use Rattle.std.specs.Str.{is_utf8};
+
+use imagesize_source::part::eight_at;
 
 // How many bytes of a long text are tested at once.
 const LANES: usize = 16;
@@ -82,18 +84,6 @@ fn are_four_ascii(bytes: &[u8], index: usize) -> bool
     ensures { IsTrue result → IsAscii (take 4 (drop index bytes.now)) }
 {
     four_at(bytes, index) & 0x8080_8080 == 0
-}
-
-// The number that the eight bytes from an index on encode, the lowest byte first.
-#[inline(always)]
-fn eight_at(bytes: &[u8], index: usize) -> u64
-    requires { index + 8 ≤ length bytes.now }
-    ensures { result ≡ from_le_bytes w64 (take 8 (drop index bytes.now)) }
-{
-    let rest = &bytes[index..];
-    u64::from_le_bytes([
-        rest[0], rest[1], rest[2], rest[3], rest[4], rest[5], rest[6], rest[7],
-    ])
 }
 
 // The number that the four bytes from an index on encode, the lowest byte first.

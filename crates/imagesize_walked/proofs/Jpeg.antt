@@ -1,23 +1,25 @@
 -- JPEG: how a walk along its segments goes, how many bytes they are read from, and what it sees of an input.
-use Rattle.std.proofs.Common.{false, zero-add, ◌≡◌, ℕ, ◌+◌, ◌-◌, ◌*◌, ◌^◌, ◌<◌, ◌≤◌, Bool, true, cond, eqb, List, [], ◌∷◌, ◌++◌, length, Result, Ok, Err, IfOk, refl, sym, ap, ◌∙◌, subst, arith, slice_index, IfErr}
+use Rattle.std.proofs.Common.{false, zero-add, ◌≡◌, ℕ, ◌+◌, ◌-◌, ◌*◌, ◌^◌, ◌<◌, ◌≤◌, Bool, true, cond, eqb, leb, List, [], ◌∷◌, ◌++◌, length, take, drop, Result, Ok, Err, IfOk, refl, sym, ap, ◌∙◌, subst, arith, slice_index, IfErr}
 use Rattle.std.proofs.lemmas.Bool.Decides.{nat_tests}
 use Rattle.std.proofs.lemmas.List.Sums.{sum_by-append}
 use Rattle.std.specs.Prelude.{count_by}
 use Rattle.imagesize_walked.specs.Jpeg.{jpeg, jpeg_segments, jpeg_segment, jpeg_marked, jpeg_frame, jpeg_other, is_own_frame, is_own_end, depth}
-use Rattle.imagesize_walked.specs.Walks.{depth_behind, LeadsTo, LeadsOn, Nested, Stands}
+use Rattle.imagesize_walked.specs.Walks.{depth_behind, is_plain, LeadsTo, LeadsOn, Nested, Stands}
 use Rattle.imagesize_types.specs.declared.size.ImageSize.{ImageSize}
 use Rattle.imagesize_source.specs.declared.halt.Halt.{Halt}
 use Rattle.imagesize_source.specs.declared.halt.Halt.TheVariants.{Corrupted, Ended}
 use Rattle.imagesize_source.specs.Agreement.{IsLocal}
-use Rattle.imagesize_source.specs.Chain.{Said, Decided, Next, Advances, start}
+use Rattle.imagesize_source.specs.Chain.{Along, Said, Decided, Next, Advances, start}
 use Rattle.imagesize_source.specs.Counts.{AtMost}
 use Rattle.imagesize_source.specs.Extension.{Plain, Lasts}
-use Rattle.imagesize_source.specs.Input.{span_of}
+use Rattle.imagesize_source.specs.Input.{part, span_of}
+use Rattle.imagesize_source.specs.Numbers.{number}
+use Rattle.imagesize_source.specs.Strides.{Strides}
 use Rattle.imagesize_source.specs.declared.endian.Endian.TheVariants.{Big}
 use Rattle.imagesize_source.specs.Layout.{Layout, layout_reads, refuse, done}
-use Rattle.imagesize_source.specs.Reading.{Reads, put_behind, bytes_at, number_at, refuses, uncounted}
+use Rattle.imagesize_source.specs.Reading.{Reads, go_on, map_answer, put_behind, bytes_at, number_at, refuses, uncounted}
 use Rattle.imagesize_source.specs.Paying.{Nears}
-use Rattle.imagesize_source.specs.State.{State, Runs, total}
+use Rattle.imagesize_source.specs.State.{State, IsSlice, Runs, total}
 use Rattle.imagesize_source.specs.Walk.{KeepsOn, said_at}
 use Rattle.imagesize_source.specs.declared.walk.Found.{Found}
 use Rattle.imagesize_source.proofs.Advances.{Begins, Tells, advances, tells}
@@ -27,7 +29,10 @@ use Rattle.imagesize_source.proofs.ChainLaws.{local_chain, lasts_chain, chain_co
 use Rattle.imagesize_source.proofs.Counts.{at_most, total-span_of}
 use Rattle.imagesize_source.proofs.Answered.{bytes_is, part_first, big_pair, on_answer}
 use Rattle.imagesize_source.proofs.Extension.{bytes_ok, number_ok}
+use Rattle.imagesize_source.proofs.Parts.{part_behind, part_front, part_length}
 use Rattle.imagesize_source.proofs.Runs.{total-append}
+use Rattle.imagesize_source.proofs.Slices.{slice_gives}
+use Rattle.imagesize_source.proofs.Strides.{strides_on}
 use Rattle.imagesize_source.proofs.Tests.{on_test}
 use Rattle.imagesize_source.proofs.Way.{RecordedLaws, answers_last}
 
@@ -253,3 +258,53 @@ jpeg_laws = record {
   lasts =
       λ _. answers_last jpeg jpeg_lasts;
 }
+
+-- ---- segments that say nothing of the size, by their first four bytes
+
+plain_says : (d head : List ℕ) (offset : ℕ) → length head ≡ 4 → head ≡ part d offset 4 → is_plain head ≡ true
+    → (layout_reads d (jpeg_segment 0 offset)).answer
+    ≡ Ok (Next (slice_index head 1) (offset + (2 + number Big (slice_index head 2 ∷ slice_index head 3 ∷ []))))
+unfolding bytes_at number_at
+plain_says d (a ∷ b ∷ high ∷ low ∷ []) offset long is plain =
+    let there : 4 ≤ length d - offset = omega (arith, ap length is, part_length d offset 4) in
+    let front : part d offset 2 ≡ a ∷ b ∷ [] = sym (part_front d offset 2 4 (omega arith)) ∙ ap (take 2) (sym is) in
+    let back : part d (offset + 2) 2 ≡ high ∷ low ∷ [] = sym (part_behind d offset 2 2) ∙ ap (drop 2) (sym is) in
+    let first : leb 2 (length d - offset) ≡ true = grind (arith, nat_tests) in
+    let second : leb 2 (length d - (offset + 2)) ≡ true = grind (arith, nat_tests) in
+    let head : bytes_at d offset 2 ≡ Ok (a ∷ b ∷ []) = ap (λ t. cond t (Ok (part d offset 2)) (Err Ended)) first ∙ ap Ok front in
+    let size : number_at d Big (offset + 2) 2 ≡ Ok (number Big (high ∷ low ∷ [])) =
+    ap (λ t. map_answer (number Big) (cond t (Ok (part d (offset + 2) 2)) (Err Ended))) second ∙ ap (λ bs. Ok (number Big bs)) back in
+    let ff : eqb a 0xFF ≡ true = grind (arith, nat_tests) in
+    let no_frame : is_own_frame 0 b ≡ false = grind (arith, nat_tests) in
+    let no_end : is_own_end 0 b ≡ false = grind (arith, nat_tests) in
+    ap (λ r. (go_on (span_of d offset 2) r (λ bs. layout_reads d (cond (eqb (slice_index bs 0) 0xFF)
+    (jpeg_marked 0 offset (slice_index bs 1)) (refuse Corrupted)))).answer) head
+    ∙ ap (λ t. (layout_reads d (cond t (jpeg_marked 0 offset b) (refuse Corrupted))).answer) ff
+    ∙ ap (λ t. (layout_reads d (cond t (jpeg_frame offset) (cond (is_own_end 0 b) (refuse Corrupted) (jpeg_other offset b)))).answer) no_frame
+    ∙ ap (λ t. (layout_reads d (cond t (refuse Corrupted) (jpeg_other offset b))).answer) no_end
+    ∙ ap (λ r. (go_on (span_of d (offset + 2) 2) r (λ v. layout_reads d (done (Next b (offset + (2 + v)))))).answer) size
+plain_says d [] offset long is plain = absurd (omega (arith, long))
+plain_says d (a ∷ []) offset long is plain = absurd (omega (arith, long))
+plain_says d (a ∷ b ∷ []) offset long is plain = absurd (omega (arith, long))
+plain_says d (a ∷ b ∷ c ∷ []) offset long is plain = absurd (omega (arith, long))
+plain_says d (a ∷ b ∷ c ∷ e ∷ f ∷ rest) offset long is plain = absurd (omega (arith, long))
+
+-- a walk has come over such a segment
+pub plain_strides : {a s : State} {t : Along ℕ} (head : List ℕ) (offset next : ℕ) → IsSlice s → length s.held.input < 2 ^ 63
+    → offset + 4 ≤ length s.held.input → head ≡ part s.held.input offset 4 → is_plain head ≡ true
+    → next ≡ offset + (2 + number Big (slice_index head 2 ∷ slice_index head 3 ∷ []))
+    → Strides jpeg_segments (λ markers. Stands 0 markers offset) a s t offset
+    → Strides jpeg_segments (λ markers. Stands 0 markers next) a s t next
+plain_strides {a} {s} {t} head offset next slice short fits is plain to w =
+    let long : length head ≡ 4 = omega (arith, ap length is, part_length s.held.input offset 4, fits) in
+    let marker : ℕ = slice_index head 1 in
+    let says = plain_says s.held.input head offset long is plain ∙ ap (λ n. Ok (Next marker n)) (sym to) in
+    let level : depth_behind 0 marker ≡ 0 = grind (arith, nat_tests) in
+    let inner : marker ≡ 0xD9 → 0 < 0 = λ ends. absurd (let no : is_plain head ≡ false = grind (arith, nat_tests) in
+    let both : true ≡ false = sym plain ∙ no in cc) in
+    strides_on jpeg_segments jpeg_advances (λ markers. Stands 0 markers offset) w (λ markers. Stands 0 markers next) marker next
+    (λ markers stands. segment_as 0 offset (slice_gives s (Next marker next) slice short says) markers stands)
+    (λ markers stands. record {
+      nested = subst (λ k. Nested k (markers ++ marker ∷ [])) level (nested_on 0 marker markers inner stands.nested);
+      shallow = omega (arith, to);
+    })

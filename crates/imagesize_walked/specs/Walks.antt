@@ -1,5 +1,5 @@
 -- What the code keeps and returns in its walks, for one record at an offset.
-use Rattle.std.specs.Prelude.{◌≡◌, ℕ, ◌+◌, ◌-◌, ◌<◌, ◌≤◌, ◌==◌, List, length, if◌then◌else◌, Option, None}
+use Rattle.std.specs.Prelude.{◌≡◌, ℕ, ◌+◌, ◌-◌, ◌<◌, ◌≤◌, ◌==◌, Bool, ◌&&◌, not, List, length, slice_index, nat_le, if◌then◌else◌, Option, None}
 use Rattle.std.specs.Option.{ForSome}
 use Rattle.imagesize_source.specs.Layout.{Layout, if_there}
 use Rattle.imagesize_source.specs.Layout.Layout.{done}
@@ -11,6 +11,10 @@ use Rattle.imagesize_walked.specs.declared.formats.tiff.Entry.{Entry}
 use Rattle.imagesize_walked.specs.Jpeg.{depth, count_starts, count_ends}
 use Rattle.imagesize_walked.specs.declared.formats.jpeg.Role.{Role}
 use Rattle.imagesize_walked.specs.declared.formats.jpeg.Role.TheVariants as role
+
+-- whether a segment with these first bytes begins with FF, and its marker is not from C0 to D9
+abbrev pub is_plain : List ℕ → Bool
+is_plain head = slice_index head 0 == 0xFF && not (nat_le 0xC0 (slice_index head 1) && nat_le (slice_index head 1) 0xD9)
 
 -- the depth after a segment with this marker
 abbrev pub depth_behind : ℕ → ℕ → ℕ

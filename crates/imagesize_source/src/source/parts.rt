@@ -4,7 +4,7 @@ ghost use Rattle.std.specs.Prelude.{◌≡◌, ℕ, List, ◌+◌, ◌-◌, ◌<
 ghost use Rattle.std.specs.Option.{ForSome};
 ghost use Rattle.imagesize_source.specs.Agreement.{has_offset};
 ghost use Rattle.imagesize_source.specs.Input.{part, span_at};
-ghost use Rattle.imagesize_source.specs.Known.{AllKnown, Lacks, LeavesOut, filled_input, byte_in_parts, parts_state, length_within};
+ghost use Rattle.imagesize_source.specs.Known.{AllKnown, Lacks, LeavesOut, filled_input, byte_in_parts, byte_of, parts_state, length_within};
 ghost use Rattle.imagesize_source.specs.Reading.{part_read, text_read, map_answer};
 ghost use Rattle.imagesize_source.specs.State.{Runs};
 ghost use Rattle.imagesize_source.specs.Text.{is_ended, text_front};
@@ -37,7 +37,8 @@ pub struct PartsSource<'a> {
     pub bytes: &'a [u8],
     /// The length of the input in bytes.
     pub told: u64,
-    /// The known bytes from offset 0 on, up to the end of the first part that contains it.
+    /// The known bytes from offset 0 on: those of the first parts, as far as each begins where the one before ends. Where the first part
+    /// begins later, those of the first part that contains the offset.
     pub front: &'a [u8],
     /// What the last failed read misses.
     pub missed: Option<Missing>,
@@ -52,7 +53,7 @@ pub struct PartsSource<'a> {
 }
 
 // A list of at most so many parts is searched from its first part. That costs less than to pass over some of them.
-const FEW: usize = 4;
+const FEW: usize = 8;
 
 // The last parts of a list, and their bytes. The parts before them have no byte from `floor` on.
 #[derive(Clone, Copy, Debug)]
@@ -75,7 +76,7 @@ impl<'a> PartsSource<'a> {
             spans,
             bytes,
             told,
-            front: known_from(spans, bytes, told, 0),
+            front: known_front(spans, bytes, told),
             missed: None,
             log: SpanLog::new(),
             rest: None,
@@ -448,6 +449,33 @@ fn known_from<'a>(spans: &[Span], bytes: &'a [u8], told: u64, offset: u64) -> &'
         rest = bytes_behind(rest, len);
     }
     &rest[..0]
+}
+
+// The known bytes from offset 0 on.
+//
+// Texts are requested piece by piece, and each piece begins where the one before ends. So a read of a text mostly needs no search.
+fn known_front<'a>(spans: &[Span], bytes: &'a [u8], told: u64) -> &'a [u8]
+    ensures { (i : ℕ) → i < length result.now → byte_in_parts told spans.now bytes.now i ≡ Some (slice_index result.now i) }
+{
+    let end = joined_end(spans, told);
+    if end == 0 {
+        return known_from(spans, bytes, told, 0);
+    }
+    part_of(bytes, 0, end)
+}
+
+// Where the first parts end, as far as the first begins at offset 0 and each begins where the one before ends.
+fn joined_end(spans: &[Span], told: u64) -> u64
+    ensures { (bytes : List ℕ) (i : ℕ) → i < result → byte_in_parts told spans.now bytes i ≡ byte_of bytes i }
+{
+    let mut end = 0;
+    for span in spans {
+        if span.start != end {
+            return end;
+        }
+        end += length_within(span, told);
+    }
+    end
 }
 
 // The parts from the first one on that does not end before the offset.

@@ -33,6 +33,17 @@ impl Source for SliceSource<'_> {
         halt.error(Reason::EndOfInput, 0)
     }
 
+    #[inline(always)]
+    fn glance(&self, offset: u64) -> Option<[u8; 4]> {
+        // The proof needs that the length is below 2^63.
+        let _length = self.bytes.len();
+        let mut four = [0; 4];
+        if copy_part(self.bytes, offset, &mut four) < 4 {
+            return None;
+        }
+        Some(four)
+    }
+
     // It shows no bytes.
     #[inline(always)]
     fn pass(&mut self, _counts: Counts) {}

@@ -1,15 +1,17 @@
 //! JPEG: ITU-T T.81, annex B. Walks along the segments up to the first frame of the image itself.
-ghost use Rattle.std.specs.Prelude.{◌≡◌, ◌↔◌, ◌<◌, ◌+◌, ◌^◌, IfOk, IfErr, IsTrue};
-ghost use Rattle.imagesize_walked.specs.Jpeg.{depth, is_frame, is_jpeg, is_own_end, is_own_frame, jpeg, jpeg_segment};
-ghost use Rattle.imagesize_walked.specs.Walks.{depth_behind, LeadsOn, RoleLeadsOn, Stands};
+ghost use Rattle.std.specs.Prelude.{◌≡◌, ℕ, ◌↔◌, ◌<◌, ◌+◌, ◌^◌, IfOk, IfErr, IsTrue};
+ghost use Rattle.imagesize_walked.specs.Jpeg.{depth, is_frame, is_jpeg, is_own_end, is_own_frame, jpeg, jpeg_segment, jpeg_segments};
+ghost use Rattle.imagesize_walked.specs.Walks.{depth_behind, is_plain, LeadsOn, RoleLeadsOn, Stands};
 ghost use Rattle.imagesize_source.specs.Walk.{said_at};
 ghost use Rattle.imagesize_source.specs.Paying.{Nears};
 ghost use Rattle.imagesize_source.specs.Reading.{map_answer};
-ghost use Rattle.imagesize_source.specs.State.{Follows, Runs};
+ghost use Rattle.imagesize_source.specs.Chain.{Along};
+ghost use Rattle.imagesize_source.specs.State.{Follows, Runs, State};
+ghost use Rattle.imagesize_source.specs.Strides.{Strides};
 
 use imagesize_source::readings::{read_bytes, read_u16_behind};
 use imagesize_source::source::Source;
-use imagesize_source::walk::{Found, Records, walk};
+use imagesize_source::walk::{Found, Records, walk_on};
 use imagesize_source::{Endian, Halt};
 use imagesize_types::size::ImageSize;
 
@@ -28,7 +30,33 @@ pub fn matches(head: &[u8; 12]) -> bool
 pub fn size<S: Source>(source: &mut S) -> Result<ImageSize, Halt>
     ensures { Runs (S.state source.old) (S.state source.new) result (jpeg (S.state source.old).held.input) }
 {
-    walk(Segments { depth: 0 }, source, 2)
+    let mut offset = pass_plain(source, 2);
+    walk_on(&mut Segments { depth: 0 }, &mut offset, source)
+}
+
+// The offset of the first segment from this one on that may be a frame, or that does not lie whole in a slice. Before a frame, a JPEG
+// mostly has segments with a marker below C0 or above D9. In a slice, this reads the four bytes of each at once.
+#[inline(always)]
+fn pass_plain<S: Source>(source: &S, first: u64) -> u64
+    ensures { (a : State) (t : Along ℕ)
+        → Strides jpeg_segments (λ markers. Stands 0 markers first) a (S.state source.now) t first
+        → Strides jpeg_segments (λ markers. Stands 0 markers result) a (S.state source.now) t result }
+{
+    let mut offset = first;
+    while let Some(head) = source.glance(offset)
+        && is_plain(head)
+    {
+        offset += 2 + Endian::Big.u16([head[2], head[3]]) as u64;
+    }
+    offset
+}
+
+// Whether a segment that begins with these bytes is neither a frame nor a start or an end of an image.
+#[inline(always)]
+fn is_plain(head: [u8; 4]) -> bool
+    ensures { result ≡ is_plain head }
+{
+    head[0] == 0xFF && !matches!(head[1], 0xC0..=0xD9)
 }
 
 /// The segments after the start of the image. `depth` says how many images within the image the next segment is in.

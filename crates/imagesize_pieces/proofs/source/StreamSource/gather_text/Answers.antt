@@ -5,7 +5,7 @@ use Rattle.imagesize_pieces.proofs.Streaming.{before_none, first_known, run_is, 
 use Rattle.imagesize_source.proofs.KnownReadings.{cut_is, parts_text, parts_text_missing, state_is}
 use Rattle.imagesize_source.proofs.Unended.{open_first, open_part}
 use Rattle.imagesize_source.specs.Text.{is_ended}
-use Rattle.std.proofs.lemmas.List.{length-take, take-take}
+use Rattle.std.proofs.lemmas.List.{length-take, take_all, take-take}
 use Rattle.imagesize_pieces.proofs.source.StreamSource.gather_text.Goals as goal
 
 pub uncut_length-requires-clause-unended : goal.uncut_length-requires-clause-unended
@@ -24,64 +24,12 @@ uncut_length-requires-clause-unended c =
     (omega (arith, c.min-searched.ensures, f.ensures.within, f.ensures.wanted, f.auto.buffer)) (omega (arith, c.min-searched.ensures))
     (ap (is_ended c.args.text) (sym whole.1 ∙ take-take n n bs (omega arith)) ∙ open_first c.args.text bs n most (omega arith) open_run)
 
-pub miss-requires-then-offset-self-clause-ends : goal.miss-requires-then-offset-self-clause-ends
-miss-requires-then-offset-self-clause-ends c = λ above.
+pub miss_text-requires-clause-copied : goal.miss_text-requires-clause-copied
+miss_text-requires-clause-copied c =
     let s = c.args.self.now in
-    let f = c.fill_known-found in
-    let some : 0 < f.result.0 = omega (arith, above, c.if-offset-self.true) in
-    let known = f.ensures.known 0 some in
-    absurd (let no : true ≡ false = sym known ∙ before_none s.told s.start s.kept.now s.chunk.now (c.args.offset + 0)
-    (omega (arith, c.if-offset-self.true)) in cc)
-
-pub returns-then-ends_with_filler-clause-runs : goal.returns-then-ends_with_filler-clause-runs
-returns-then-ends_with_filler-clause-runs c =
-    let s = c.args.self.now in
-    let f = c.fill_known-found in
-    let cut = cut_is f.new.buffer f.result.0 f.result.1 c.args.offset s.told _ _
-    f.ensures.wanted f.ensures.within (sym (c.in_default.ensures.cut refl)) in
-    let less = short s.told s.start s.kept.now s.chunk.now s.within c.args.text f.new.buffer c.args.offset (length f.new.buffer)
-    f.result.1 f.result.0 f.ensures.wanted f.ensures.copied cut in
-    let once = goes_once s.told s.start s.kept.now s.chunk.now s.within c.args.text f.new.buffer c.args.offset
-    (length f.new.buffer) f.result.1 f.result.0 f.ensures.wanted f.ensures.copied cut (f.ensures.missing less)
-    (sym (c.if-ends_with_filler.ensures)) in
-    missing_by s.told s.start s.kept.now s.chunk.now s.within _ s.log.spans s.missed c.args.text c.args.offset
-    (length f.new.buffer) f.result.0 (f.result.0 + 1)
-    (record { start = c.args.offset + f.result.0; sure = 1; most = 1 }) once (omega arith) refl (omega arith) (omega arith)
-    (state_is _ _ _ _ _ _ _ _ _ _ c.miss.ensures.told
-    (run_is c.miss.ensures.start c.miss.ensures.kept c.miss.ensures.chunk)
-    (both_bytes c.miss.ensures.kept c.miss.ensures.chunk) c.miss.ensures.seen c.miss.ensures.missed)
-
-pub returns-then-offset-self-clause-runs : goal.returns-then-offset-self-clause-runs
-returns-then-offset-self-clause-runs c =
-    let s = c.args.self.now in
-    let f = c.fill_known-found in
-    let miss = c.miss-then-offset-self.ensures in
-    parts_text_missing s.told (came s.start s.kept.now s.chunk.now) (s.kept.now ++ s.chunk.now) s.log.spans s.missed _
-    c.args.text f.new.buffer c.args.offset _ f.result.1 f.result.0
-    (record { start = c.args.offset + f.result.0; sure = 1; most = f.result.1 - f.result.0 })
-    f.ensures.wanted f.ensures.within f.ensures.copied (cut_is f.new.buffer f.result.0 f.result.1 c.args.offset s.told _ _
-    f.ensures.wanted f.ensures.within (sym (c.in_default.ensures.cut refl))) refl refl refl
-    (state_is _ _ _ _ _ _ _ _ _ _ miss.told (run_is miss.start miss.kept miss.chunk)
-    (both_bytes miss.kept miss.chunk) miss.seen miss.missed)
-
-pub returns-else-offset-self-clause-runs : goal.returns-else-offset-self-clause-runs
-returns-else-offset-self-clause-runs c =
-    let s = c.args.self.now in
-    let f = c.fill_known-found in
-    let miss = c.miss-else-offset-self.ensures in
-    let cut = cut_is f.new.buffer f.result.0 f.result.1 c.args.offset s.told _ _
-    f.ensures.wanted f.ensures.within (sym (c.in_default.ensures.cut refl)) in
-    let less = short s.told s.start s.kept.now s.chunk.now s.within c.args.text f.new.buffer c.args.offset (length f.new.buffer)
-    f.result.1 f.result.0 f.ensures.wanted f.ensures.copied cut in
-    let whole = goes_whole s.told s.start s.kept.now s.chunk.now s.within c.args.text f.new.buffer c.args.offset
-    (length f.new.buffer) f.result.1 f.result.0 f.ensures.wanted f.ensures.copied cut (f.ensures.missing less)
-    (sym (c.if-ends_with_filler.ensures)) (omega (arith, c.if-offset-self.false)) in
-    missing_by s.told s.start s.kept.now s.chunk.now s.within _ s.log.spans s.missed c.args.text c.args.offset
-    (length f.new.buffer) f.result.0 f.result.1
-    (record { start = c.args.offset + f.result.0; sure = f.result.1 - f.result.0; most = f.result.1 - f.result.0 })
-    whole less refl refl refl
-    (state_is _ _ _ _ _ _ _ _ _ _ miss.told (run_is miss.start miss.kept miss.chunk)
-    (both_bytes miss.kept miss.chunk) miss.seen miss.missed)
+    let run : List ℕ = c.known_from-run.result.now in
+    let whole = whole_part s.told s.start s.kept.now s.chunk.now run c.args.offset (length run) refl c.known_from-run.ensures.known in
+    sym (take_all (length run) run (omega arith)) ∙ whole.1
 
 pub returns-clause-runs : goal.returns-clause-runs
 returns-clause-runs c =
