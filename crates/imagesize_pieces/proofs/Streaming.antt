@@ -1,5 +1,6 @@
 -- What came of an input from an offset on, as one part.
-use Rattle.std.proofs.Common.{◌≡◌, ℕ, zero, suc, ◌+◌, ◌-◌, ◌<◌, ◌≤◌, min, true, false, leb, List, [], ◌∷◌, ◌++◌, length, take, drop, get_or, Some, is_some, refl, sym, ap, ◌∙◌, arith}
+use Rattle.std.proofs.Common.{◌≡◌, ℕ, zero, suc, ◌+◌, ◌-◌, ◌<◌, ◌≤◌, min, true, false, leb, List, [], ◌∷◌, ◌++◌, length, take, drop, get_or, Some, is_some, inl, inr, refl, sym, ap, ◌∙◌, arith}
+use Rattle.std.proofs.lemmas.Bool.{cases_lt}
 use Rattle.std.proofs.lemmas.Bool.Decides.{nat_tests}
 use Rattle.std.proofs.lemmas.List.{length-append, length-drop, get_or-drop, get_or-take}
 use Rattle.imagesize_source.specs.Input.{part}
@@ -104,6 +105,27 @@ module _ (n start : ℕ) (kept chunk : List ℕ) where
       ∙ length-drop (offset - start - length kept) chunk in
       ap is_some (as_one (offset + length run))
       ∙ not_behind n start (kept ++ chunk) (offset + length run) (omega (arith, above, behind, long, length-append kept chunk))
+
+  -- known bytes reach at least as far as the kept ones
+  pub run_ends : (run : List ℕ) (offset : ℕ) → run ≡ run_at start kept chunk offset → 0 < length run
+      → (start ≤ offset) × (start + length kept ≤ offset + length run)
+  run_ends run offset is some = elim (cases_lt offset start) [
+    | inl below ↦ absurd (
+        let before : leb (suc offset) start ≡ true = grind (arith, nat_tests) in
+        let none : length run ≡ 0 = ap length is ∙ rw before refl in
+        omega (arith, none, some)
+        )
+    | inr above ↦ elim (cases_lt (offset - start) (length kept)) [
+      | inl within ↦ (
+          let begun : leb (suc offset) start ≡ false = grind (arith, nat_tests) in
+          let there : leb (suc (offset - start)) (length kept) ≡ true = grind (arith, nat_tests) in
+          let rest : run_at start kept chunk offset ≡ drop (offset - start) kept = rw (begun, there) refl in
+          let long : length run ≡ length kept - (offset - start) = ap length (is ∙ rest) ∙ length-drop (offset - start) kept in
+          omega (arith, above, within, long)
+          )
+      | inr behind ↦ omega (arith, above, behind)
+    ]
+  ]
 
 -- the first of some known bytes
 pub first_known : (n start : ℕ) (kept chunk run found : List ℕ) (offset count i : ℕ)

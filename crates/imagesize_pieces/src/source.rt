@@ -151,15 +151,12 @@ impl<'a> StreamSource<'a> {
         ensures known { (i : ℕ) → i < result → is_some (byte_at self.now.told self.now.start self.now.kept.now self.now.chunk.now (offset + i)) ≡ true }
         ensures missing { result < length buffer.old → is_some (byte_at self.now.told self.now.start self.now.kept.now self.now.chunk.now (offset + result)) ≡ false }
     {
-        let mut count = 0;
-        while count < buffer.len() {
-            let run = self.known_from(offset + count as u64);
-            if run.is_empty() {
-                return count;
-            }
-            count += put(run, buffer, count);
+        let count = put(self.known_from(offset), buffer, 0);
+        if count == 0 || count == buffer.len() {
+            return count;
         }
-        count
+        // Known bytes that end here are the kept ones, and go on in the chunk.
+        count + put(self.known_from(offset + count as u64), buffer, count)
     }
 
     // The known bytes from an offset on, up to the end of the slice that contains it.

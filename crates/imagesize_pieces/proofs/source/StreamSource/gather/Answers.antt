@@ -1,34 +1,59 @@
-use Rattle.std.proofs.Common.{arith, refl, sym, ◌∙◌, length, ◌+◌, ◌≤◌, ◌≡◌, ◌++◌}
-use Rattle.imagesize_pieces.specs.Stream.{came, stream_input}
+use Rattle.std.proofs.Common.{arith, sym, ap, ◌∙◌, subst, zero-add, ℕ, zero, suc, List, length, take, drop, get_or, Some, is_some, ◌+◌, ◌-◌, ◌<◌, ◌≤◌, ◌≡◌, ◌++◌}
+use Rattle.imagesize_pieces.specs.Stream.{byte_at, came, stream_input}
+use Rattle.imagesize_pieces.proofs.Streaming.{last_none, run_ends}
+use Rattle.imagesize_source.specs.Input.{part}
 use Rattle.imagesize_source.proofs.Gathering.{gathered_run, known_run}
 use Rattle.imagesize_source.proofs.Parts.{part_none}
 use Rattle.imagesize_pieces.proofs.source.StreamSource.gather.Goals as goal
 
-pub loop-count-init : goal.loop-count-init
-loop-count-init c =
-    let s = c.args.self.now in (
-      refl,
-      sym (part_none (stream_input s.told s.start s.kept.now s.chunk.now) c.args.offset),
-      λ i below. absurd (omega (arith, below)),
-      omega arith,
-    )
+-- the first known bytes of a read, in an empty front of the buffer
+first_copied : (n start : ℕ) (kept chunk run buffer new : List ℕ) (offset count : ℕ) → count ≤ length run → count ≤ n - offset
+    → new ≡ take 0 buffer ++ take count run ++ drop (0 + count) buffer
+    → ((i : ℕ) → i < length run → byte_at n start kept chunk (offset + i) ≡ Some (get_or run i 0))
+    → take count new ≡ part (stream_input n start kept chunk) offset count
+first_copied n start kept chunk run buffer new offset zero few fits is_new is = sym (part_none (stream_input n start kept chunk) offset)
+first_copied n start kept chunk run buffer new offset (suc k) few fits is_new is =
+    subst (λ m. take m new ≡ part (stream_input n start kept chunk) offset m) (zero-add (suc k))
+    (gathered_run n (came start kept chunk) (kept ++ chunk) run buffer new offset 0 (suc k)
+    (sym (part_none (stream_input n start kept chunk) offset)) (omega arith) few (omega (arith, fits)) is_new
+    (λ i below. ap (byte_at n start kept chunk) (omega arith) ∙ is i below))
 
-pub loop-count-preserved : goal.loop-count-preserved
-loop-count-preserved c =
+pub returns-then-count-eq0-clause-copied : goal.returns-then-count-eq0-clause-copied
+returns-then-count-eq0-clause-copied c =
     let s = c.args.self.now in
-    let so_far = c.loop-count.invariant in
-    let long : length c.put-count.new.buffer ≡ length c.loop-count.buffer = c.put-count.auto.buffer in
-    let few : c.put-count.result ≤ length c.known_from-run.result.now = omega (arith, c.put-count.ensures.count) in
-    let fits : c.args.offset + c.loop-count.count + c.put-count.result ≤ s.told =
-    omega (arith, c.put-count.ensures.count, c.loop-count-test.true, c.requires, so_far.0) in (
-      long ∙ so_far.0,
-      gathered_run s.told (came s.start s.kept.now s.chunk.now)
-          (s.kept.now ++ s.chunk.now) c.known_from-run.result.now c.loop-count.buffer
-          c.put-count.new.buffer c.args.offset c.loop-count.count c.put-count.result so_far.1 so_far.3 few fits
-          c.put-count.ensures.copied
-          c.known_from-run.ensures.known,
-      known_run s.told (came s.start s.kept.now s.chunk.now)
-          (s.kept.now ++ s.chunk.now) c.known_from-run.result.now c.args.offset
-          c.loop-count.count c.put-count.result so_far.2 few c.known_from-run.ensures.known,
-      omega (arith, long, c.put-count.ensures.count, so_far.3),
-    )
+    first_copied s.told s.start s.kept.now s.chunk.now c.known_from.result.now c.args.buffer.now c.put-count.new.buffer c.args.offset
+    c.put-count.result (omega (arith, c.put-count.ensures.count)) (omega (arith, c.put-count.ensures.count, c.requires))
+    c.put-count.ensures.copied c.known_from.ensures.known
+
+pub returns-clause-copied : goal.returns-clause-copied
+returns-clause-copied c =
+    let s = c.args.self.now in
+    let first = c.put-count.ensures in
+    let second = c.put.ensures in
+    gathered_run s.told (came s.start s.kept.now s.chunk.now) (s.kept.now ++ s.chunk.now) c.known_from-2.result.now
+    c.put-count.new.buffer c.put.new.buffer c.args.offset c.put-count.result c.put.result
+    (first_copied s.told s.start s.kept.now s.chunk.now c.known_from.result.now c.args.buffer.now c.put-count.new.buffer c.args.offset
+    c.put-count.result (omega (arith, first.count)) (omega (arith, first.count, c.requires)) first.copied c.known_from.ensures.known)
+    (omega (arith, first.count, c.put-count.auto.buffer)) (omega (arith, second.count))
+    (omega (arith, first.count, second.count, c.put-count.auto.buffer, c.requires, c.if-count-eq0.false)) second.copied
+    c.known_from-2.ensures.known
+
+pub returns-clause-known : goal.returns-clause-known
+returns-clause-known c =
+    let s = c.args.self.now in
+    known_run s.told (came s.start s.kept.now s.chunk.now) (s.kept.now ++ s.chunk.now) c.known_from-2.result.now c.args.offset
+    c.put-count.result c.put.result
+    (λ i below. ap is_some (c.known_from.ensures.known i (omega (arith, below, c.put-count.ensures.count))))
+    (omega (arith, c.put.ensures.count)) c.known_from-2.ensures.known
+
+pub returns-clause-missing : goal.returns-clause-missing
+returns-clause-missing c = λ more.
+    let s = c.args.self.now in
+    let count : ℕ = c.put-count.result in
+    let first : count ≡ length c.known_from.result.now = omega (arith, c.put-count.ensures.count, c.if-count-buffer.false, c.put-count.auto.buffer) in
+    let second : c.put.result ≡ length c.known_from-2.result.now = omega (arith, c.put.ensures.count, c.put-count.auto.buffer, more) in
+    let ends = run_ends s.told s.start s.kept.now s.chunk.now c.known_from.result.now c.args.offset c.known_from.ensures.run
+    (omega (arith, first, c.if-count-eq0.false)) in
+    ap (λ p. is_some (byte_at s.told s.start s.kept.now s.chunk.now p)) (omega (arith, second))
+    ∙ last_none s.told s.start s.kept.now s.chunk.now c.known_from-2.result.now (c.args.offset + count)
+    (omega (arith, ends.0)) (omega (arith, ends.1, first)) c.known_from-2.ensures.run

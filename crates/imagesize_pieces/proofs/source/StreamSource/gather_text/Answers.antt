@@ -1,8 +1,7 @@
-use Rattle.std.proofs.Common.{◌-◌, ◌+◌, ◌<◌, arith, refl, sym, ◌++◌, ◌≡◌, ℕ, List, length, take, min, true, false, ap, ◌∙◌}
+use Rattle.std.proofs.Common.{arith, refl, sym, ◌++◌, ◌≡◌, ℕ, List, length, take, min, false, ap, ◌∙◌}
 use Rattle.imagesize_pieces.specs.Stream.{came}
-use Rattle.imagesize_pieces.proofs.Endless.{goes_once, goes_whole, missing_by, short}
-use Rattle.imagesize_pieces.proofs.Streaming.{before_none, first_known, run_is, both_bytes, whole_part}
-use Rattle.imagesize_source.proofs.KnownReadings.{cut_is, parts_text, parts_text_missing, state_is}
+use Rattle.imagesize_pieces.proofs.Streaming.{first_known, run_is, both_bytes, whole_part}
+use Rattle.imagesize_source.proofs.KnownReadings.{cut_is, parts_text, state_is}
 use Rattle.imagesize_source.proofs.Unended.{open_first, open_part}
 use Rattle.imagesize_source.specs.Text.{is_ended}
 use Rattle.std.proofs.lemmas.List.{length-take, take_all, take-take}
