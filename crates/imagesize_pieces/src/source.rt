@@ -151,8 +151,13 @@ impl<'a> StreamSource<'a> {
         ensures known { (i : ℕ) → i < result → is_some (byte_at self.now.told self.now.start self.now.kept.now self.now.chunk.now (offset + i)) ≡ true }
         ensures missing { result < length buffer.old → is_some (byte_at self.now.told self.now.start self.now.kept.now self.now.chunk.now (offset + result)) ≡ false }
     {
-        let count = put(self.known_from(offset), buffer, 0);
-        if count == 0 || count == buffer.len() {
+        let first = self.known_from(offset);
+        // Most records that miss a byte begin after the known ones. This saves a call that copies nothing.
+        if first.is_empty() {
+            return 0;
+        }
+        let count = put(first, buffer, 0);
+        if count == buffer.len() {
             return count;
         }
         // Known bytes that end here are the kept ones, and go on in the chunk.

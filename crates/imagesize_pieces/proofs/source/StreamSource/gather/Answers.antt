@@ -1,4 +1,5 @@
 use Rattle.std.proofs.Common.{arith, sym, ap, ◌∙◌, subst, zero-add, ℕ, zero, suc, List, length, take, drop, get_or, Some, is_some, ◌+◌, ◌-◌, ◌<◌, ◌≤◌, ◌≡◌, ◌++◌}
+use Rattle.std.proofs.lemmas.Bool.Decides.{nat_tests}
 use Rattle.imagesize_pieces.specs.Stream.{byte_at, came, stream_input}
 use Rattle.imagesize_pieces.proofs.Streaming.{last_none, run_ends}
 use Rattle.imagesize_source.specs.Input.{part}
@@ -18,42 +19,48 @@ first_copied n start kept chunk run buffer new offset (suc k) few fits is_new is
     (sym (part_none (stream_input n start kept chunk) offset)) (omega arith) few (omega (arith, fits)) is_new
     (λ i below. ap (byte_at n start kept chunk) (omega arith) ∙ is i below))
 
-pub returns-then-count-eq0-clause-copied : goal.returns-then-count-eq0-clause-copied
-returns-then-count-eq0-clause-copied c =
+pub returns-then-is_empty-clause-copied : goal.returns-then-is_empty-clause-copied
+returns-then-is_empty-clause-copied c =
     let s = c.args.self.now in
-    first_copied s.told s.start s.kept.now s.chunk.now c.known_from.result.now c.args.buffer.now c.put-count.new.buffer c.args.offset
+    sym (part_none (stream_input s.told s.start s.kept.now s.chunk.now) c.args.offset)
+
+pub returns-then-count-buffer-clause-copied : goal.returns-then-count-buffer-clause-copied
+returns-then-count-buffer-clause-copied c =
+    let s = c.args.self.now in
+    first_copied s.told s.start s.kept.now s.chunk.now c.known_from-first.result.now c.args.buffer.now c.put-count.new.buffer c.args.offset
     c.put-count.result (omega (arith, c.put-count.ensures.count)) (omega (arith, c.put-count.ensures.count, c.requires))
-    c.put-count.ensures.copied c.known_from.ensures.known
+    c.put-count.ensures.copied c.known_from-first.ensures.known
 
 pub returns-clause-copied : goal.returns-clause-copied
 returns-clause-copied c =
     let s = c.args.self.now in
     let first = c.put-count.ensures in
     let second = c.put.ensures in
-    gathered_run s.told (came s.start s.kept.now s.chunk.now) (s.kept.now ++ s.chunk.now) c.known_from-2.result.now
+    gathered_run s.told (came s.start s.kept.now s.chunk.now) (s.kept.now ++ s.chunk.now) c.known_from.result.now
     c.put-count.new.buffer c.put.new.buffer c.args.offset c.put-count.result c.put.result
-    (first_copied s.told s.start s.kept.now s.chunk.now c.known_from.result.now c.args.buffer.now c.put-count.new.buffer c.args.offset
-    c.put-count.result (omega (arith, first.count)) (omega (arith, first.count, c.requires)) first.copied c.known_from.ensures.known)
+    (first_copied s.told s.start s.kept.now s.chunk.now c.known_from-first.result.now c.args.buffer.now c.put-count.new.buffer c.args.offset
+    c.put-count.result (omega (arith, first.count)) (omega (arith, first.count, c.requires)) first.copied c.known_from-first.ensures.known)
     (omega (arith, first.count, c.put-count.auto.buffer)) (omega (arith, second.count))
-    (omega (arith, first.count, second.count, c.put-count.auto.buffer, c.requires, c.if-count-eq0.false)) second.copied
-    c.known_from-2.ensures.known
+    (omega (arith, first.count, second.count, c.put-count.auto.buffer, c.requires)) second.copied
+    c.known_from.ensures.known
 
 pub returns-clause-known : goal.returns-clause-known
 returns-clause-known c =
     let s = c.args.self.now in
-    known_run s.told (came s.start s.kept.now s.chunk.now) (s.kept.now ++ s.chunk.now) c.known_from-2.result.now c.args.offset
+    known_run s.told (came s.start s.kept.now s.chunk.now) (s.kept.now ++ s.chunk.now) c.known_from.result.now c.args.offset
     c.put-count.result c.put.result
-    (λ i below. ap is_some (c.known_from.ensures.known i (omega (arith, below, c.put-count.ensures.count))))
-    (omega (arith, c.put.ensures.count)) c.known_from-2.ensures.known
+    (λ i below. ap is_some (c.known_from-first.ensures.known i (omega (arith, below, c.put-count.ensures.count))))
+    (omega (arith, c.put.ensures.count)) c.known_from.ensures.known
 
 pub returns-clause-missing : goal.returns-clause-missing
 returns-clause-missing c = λ more.
     let s = c.args.self.now in
     let count : ℕ = c.put-count.result in
-    let first : count ≡ length c.known_from.result.now = omega (arith, c.put-count.ensures.count, c.if-count-buffer.false, c.put-count.auto.buffer) in
-    let second : c.put.result ≡ length c.known_from-2.result.now = omega (arith, c.put.ensures.count, c.put-count.auto.buffer, more) in
-    let ends = run_ends s.told s.start s.kept.now s.chunk.now c.known_from.result.now c.args.offset c.known_from.ensures.run
-    (omega (arith, first, c.if-count-eq0.false)) in
+    let first : count ≡ length c.known_from-first.result.now = omega (arith, c.put-count.ensures.count, c.if-count-buffer.false, c.put-count.auto.buffer) in
+    let second : c.put.result ≡ length c.known_from.result.now = omega (arith, c.put.ensures.count, c.put-count.auto.buffer, more) in
+    let some : 0 < length c.known_from-first.result.now = grind (arith, nat_tests, c.is_empty.ensures, c.if-is_empty.false) in
+    let ends = run_ends s.told s.start s.kept.now s.chunk.now c.known_from-first.result.now c.args.offset c.known_from-first.ensures.run
+    (omega (arith, first, some)) in
     ap (λ p. is_some (byte_at s.told s.start s.kept.now s.chunk.now p)) (omega (arith, second))
-    ∙ last_none s.told s.start s.kept.now s.chunk.now c.known_from-2.result.now (c.args.offset + count)
-    (omega (arith, ends.0)) (omega (arith, ends.1, first)) c.known_from-2.ensures.run
+    ∙ last_none s.told s.start s.kept.now s.chunk.now c.known_from.result.now (c.args.offset + count)
+    (omega (arith, ends.0)) (omega (arith, ends.1, first)) c.known_from.ensures.run
