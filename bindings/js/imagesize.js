@@ -6,7 +6,6 @@ import { ImageError } from './errors.js';
 import { withFile, withFileSync } from './file.js';
 import { Remote } from './http.js';
 import { init, library } from './load.js';
-import { Parts, firstBlock, nextBlock } from './parts.js';
 import { isRequest } from './request.js';
 import { MOST_SPANS, probeSource, probeSourceSync } from './source.js';
 import { StreamProbe } from './stream.js';
@@ -17,15 +16,9 @@ const MEBIBYTE = 2 ** 20;
 
 /** Type and size of the image in some bytes. */
 export function probe(data) {
-  const bytes = bytesIn(data);
-  const parts = new Parts();
-  let block = firstBlock(Infinity);
-  for (;;) {
-    const { wanted, image, error } = parts.supply(block.start, bytes.subarray(block.start, block.end), bytes.length);
-    if (error) throw error;
-    if (image) return image;
-    block = nextBlock(wanted, bytes.length, parts, Infinity);
-  }
+  const { image, error } = library().probe(bytesIn(data));
+  if (error) throw error;
+  return image;
 }
 
 /** The spans that the result of `probe` depends on. */

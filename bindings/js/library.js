@@ -33,6 +33,9 @@ const SMALL = 2 ** 20;
 /** How many bytes a push parser or a probe over spans is passed at once, at most. */
 export const PIECE = 65536;
 
+// How many bytes of an array are passed first. Most sizes lie within them.
+const BLOCK = 4096;
+
 const NO_NAMES = { kind: null, compression: null };
 
 // PNG among the numbers of types. The library has calls of its own for PNG, and no number.
@@ -65,9 +68,24 @@ export class Library {
     return this.#memory.buffer.byteLength;
   }
 
+  /**
+   * Type and size of the image in some bytes: `{ image }` or `{ error }`. They are copied block by block, and a long array is not
+   * copied whole. No other call comes between, so the state stays in the memory.
+   */
+  probe(bytes) {
+    if (beginsPng(bytes)) return this.probePng(bytes.subarray(0, BLOCK), bytes.length);
+    this.#begin(bytes.length);
+    let block = { start: 0, end: BLOCK };
+    for (;;) {
+      const answer = this.#supply(block.start, bytes.subarray(block.start, block.end));
+      if (!answer.wanted) return answer;
+      block = blockAfter(block, answer.wanted);
+    }
+  }
+
   /** The state of a probe over spans at the beginning of an input of `total` bytes. */
   roundsOf(total) {
-    this.#calls.imagesize_parts_new(this.#pointer(AT.lent), BigInt(total));
+    this.#begin(total);
     return this.#state.slice();
   }
 
@@ -77,13 +95,23 @@ export class Library {
    */
   supply(state, start, bytes) {
     this.#bytes.set(state, this.#base + AT.lent);
+    const answer = this.#supply(start, bytes);
+    state.set(this.#state);
+    return answer;
+  }
+
+  // The same two, over the state that is in the memory.
+  #begin(total) {
+    this.#calls.imagesize_parts_new(this.#pointer(AT.lent), BigInt(total));
+  }
+
+  #supply(start, bytes) {
     for (let at = 0; at < bytes.length; at += PIECE) {
       const piece = bytes.subarray(at, at + PIECE);
       this.#bytes.set(piece, this.#base + AT.lent + STATE_SIZE);
       const passed = [this.#pointer(AT.lent + STATE_SIZE), BigInt(piece.length)];
       this.#calls.imagesize_parts_supply(this.#pointer(AT.lent), BigInt(start + at), ...passed);
     }
-    state.set(this.#state);
     const status = this.#parse((...told) => this.#calls.imagesize_parts_answer(...told, this.#answers.wanted));
     return status === BYTES_WANTED ? { wanted: this.#span(AT.wanted) } : this.#told(status);
   }
@@ -289,6 +317,14 @@ export class Library {
     const start = this.#base + AT.lent;
     return String.fromCharCode(...this.#bytes.subarray(start, start + this.#number(AT.count)));
   }
+}
+
+// The block of some bytes that is passed after another. It begins where bytes are needed. It is twice as long, if no bytes or only few
+// lie between: each block costs a call.
+function blockAfter({ start, end }, wanted) {
+  const length = end - start;
+  const isNear = wanted.start >= start && wanted.start <= end + length;
+  return { start: wanted.start, end: wanted.start + Math.max(wanted.len, isNear ? Math.min(2 * length, PIECE) : BLOCK) };
 }
 
 /** Whether an input that begins with these bytes is a PNG. */

@@ -10,10 +10,10 @@ ghost use Rattle.imagesize_source.specs.Limits.{allowance};
 ghost use Rattle.imagesize.specs.Meaning.{kind_of, meaning, size_of};
 ghost use Rattle.imagesize.specs.Probed.{Probes, counted_answer, counted_probe};
 
-use crate::ImageResult;
-use crate::calls::{Probed, probe};
+use crate::calls::probe;
 use crate::formats::{detect, size};
 use crate::types::ImageType;
+use crate::{ImageError, ImageResult};
 use imagesize_io::counting::CountingSource;
 use imagesize_io::memory::MemorySource;
 use imagesize_io::reader::Opened;
@@ -82,30 +82,13 @@ pub(crate) fn memory_probe(bytes: &[u8], opened: Opened) -> Counted
     }
 }
 
-// What `reader_probe` returns where bytes in memory give no size. Not inlined, so that a size is written into the result at
-// once.
+// The error of a call over bytes in memory. Not inlined, so that a size is written into the result at once.
 #[cold]
 #[inline(never)]
-pub(crate) fn refused(kind: Option<ImageType>, halt: Halt, taken: u64, budget: u64) -> Probed
-    ensures kind { result.kind ≡ kind }
-    ensures answer { result.answer ≡ Err (error_by end_of_input budget halt) }
-    ensures taken { result.taken ≡ taken }
+pub(crate) fn refused(halt: Halt, budget: u64) -> ImageError
+    ensures { result ≡ error_by end_of_input budget halt }
 {
-    Probed {
-        kind,
-        answer: Err(halt.error(Reason::EndOfInput, budget)),
-        taken,
-    }
-}
-
-// What `ImageType::reader_size` returns where bytes in memory give no size. Not inlined, so that a size is written into the result
-// at once.
-#[cold]
-#[inline(never)]
-pub(crate) fn refused_size(halt: Halt, budget: u64) -> ImageResult<ImageSize>
-    ensures { result ≡ Err (error_by end_of_input budget halt) }
-{
-    Err(halt.error(Reason::EndOfInput, budget))
+    halt.error(Reason::EndOfInput, budget)
 }
 
 // The size of the image in the bytes of a reader in memory, read as a type, and the offset at which the reader is to be left. The
@@ -120,6 +103,9 @@ pub(crate) fn memory_size_as(kind: ImageType, bytes: &[u8]) -> (Result<ImageSize
         → PlacedAt telling (λ d offset. size_of kind d) result.1 }
 {
     let mut source = CountingSource::new(bytes);
-    let found = size(&mut source, kind);
-    (found, source.position())
+    // Matched at once: a result that is passed on is copied field by field.
+    match size(&mut source, kind) {
+        Ok(size) => (Ok(size), source.position()),
+        Err(halt) => (Err(halt), source.position()),
+    }
 }

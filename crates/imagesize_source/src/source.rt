@@ -1,5 +1,5 @@
 //! A source: the bytes of an input, read at offsets.
-ghost use Rattle.std.specs.Prelude.{◌≡◌, ◌+◌, ◌^◌, ◌<◌, ◌≤◌, true, None, take, length, IfOk, IfSome};
+ghost use Rattle.std.specs.Prelude.{◌≡◌, ◌+◌, ◌-◌, ◌^◌, ◌<◌, ◌≤◌, true, None, take, length, IfOk, IfSome};
 ghost use Rattle.imagesize_source.specs.Input.{part};
 ghost use Rattle.imagesize_source.specs.Halts.{error_by};
 ghost use Rattle.imagesize_source.specs.Paying.{Paid};
@@ -58,8 +58,8 @@ pub trait Source: Claims {
     fn held(&self, _offset: u64) -> Option<HeldSource<'_, Self>>
         ensures shows { IfSome result (λ held. shows self.now) }
         ensures start { IfSome result (λ held. held.start ≡ _offset) }
-        ensures told { IfSome result (λ held. shown_state held.told held.budget (Self.kept held.of.now) (Self.claim held.of.now) held.counts.taken
-            held.counts.position ≡ shown_by (state self.now)) }
+        ensures told { IfSome result (λ held. shown_state held.told held.budget (Self.kept held.of.now) (Self.claim held.of.now)
+            (held.budget - held.left) held.position ≡ shown_by (state self.now)) }
         ensures counts { IfSome result (λ held. ((state self.now).frame.counts ≡ true) × ((state self.now).recorded ≡ None)) }
     {
         None

@@ -1,5 +1,5 @@
 //! The bytes that another source holds, as a source of their own.
-ghost use Rattle.std.specs.Prelude.{◌≡◌, ℕ, [], ◌+◌, ◌^◌, ◌<◌, ◌≤◌, true, false, length, IfSome};
+ghost use Rattle.std.specs.Prelude.{◌≡◌, ℕ, [], ◌+◌, ◌-◌, ◌^◌, ◌<◌, ◌≤◌, true, false, length, IfSome};
 ghost use Rattle.imagesize_source.specs.Shown.{AreShown, AreWithin};
 ghost use Rattle.imagesize_source.specs.State.{Held, shown_state};
 
@@ -37,10 +37,13 @@ pub struct HeldSource<'a, S: Claims> {
     // The reported length of the input.
     told: u64,
     budget: u64,
-    counts: Counts,
+    // How many bytes the budget still has. With the count of the bytes read, each read would subtract it from the budget first.
+    left: u64,
+    // The offset at which the last read ended.
+    position: u64,
     ghost shown: { AreShown (S.claim of.now) start bytes.now told },
     ghost within: { AreWithin (S.kept of.now) start (length bytes.now) told },
-    ghost paid: { counts.taken ≤ budget },
+    ghost paid: { left ≤ budget },
 }
 
 impl<'a, S: Claims> HeldSource<'a, S> {
@@ -61,7 +64,8 @@ impl<'a, S: Claims> HeldSource<'a, S> {
         ensures start { result.start ≡ start }
         ensures told { result.told ≡ told }
         ensures budget { result.budget ≡ budget }
-        ensures counts { result.counts ≡ counts }
+        ensures taken { result.budget - result.left ≡ counts.taken }
+        ensures position { result.position ≡ counts.position }
         ensures of { result.of.now ≡ of.now }
     {
         HeldSource {
@@ -70,17 +74,22 @@ impl<'a, S: Claims> HeldSource<'a, S> {
             start,
             told,
             budget,
-            counts,
+            left: budget - counts.taken,
+            position: counts.position,
         }
     }
 
     /// How many bytes were read in all, and where the last read ended.
     #[inline(always)]
     pub fn counts(&self) -> Counts
-        ensures is { result ≡ self.now.counts }
+        ensures taken { result.taken ≡ self.now.budget - self.now.left }
+        ensures position { result.position ≡ self.now.position }
         ensures paid { result.taken ≤ self.now.budget }
     {
-        self.counts
+        Counts {
+            taken: self.budget - self.left,
+            position: self.position,
+        }
     }
 
     // The bytes from an offset on. `None` if they begin after it, or end before it.
@@ -103,6 +112,29 @@ impl<'a, S: Claims> HeldSource<'a, S> {
         Some(&self.bytes[ahead as usize..])
     }
 
+    // The bytes from an offset on. `None` if fewer than `count` of them are here. One test also finds an offset before them: the
+    // difference wraps.
+    #[inline(always)]
+    fn whole(&self, offset: u64, count: usize) -> Option<&'a [u8]>
+        ensures ahead { IfSome result (λ _. self.now.start ≤ offset) }
+        ensures there { IfSome result (λ bytes. offset + length bytes.now ≤ self.now.told) }
+        ensures fits { IfSome result (λ bytes. offset + length bytes.now < 2 ^ 64) }
+        ensures whole { IfSome result (λ bytes. count ≤ length bytes.now) }
+        ensures shown { IfSome result (λ bytes. AreShown (S.claim self.now.of.now) offset bytes.now self.now.told) }
+    {
+        // The proof needs that the reported length is below 2^64.
+        let _told = self.told;
+        if count > self.bytes.len() {
+            return None;
+        }
+        let last = self.bytes.len() - count;
+        let ahead = offset.wrapping_sub(self.start);
+        if ahead > last as u64 {
+            return None;
+        }
+        Some(&self.bytes[ahead as usize..])
+    }
+
     // Counts the bytes of a read. Returns whether the budget has them.
     #[inline(always)]
     fn pays(&mut self, offset: u64, count: usize) -> bool
@@ -112,14 +144,15 @@ impl<'a, S: Claims> HeldSource<'a, S> {
         ensures told { self.new.told ≡ self.old.told }
         ensures budget { self.new.budget ≡ self.old.budget }
         ensures of { self.new.of.now ≡ self.old.of.now }
-        ensures paid { result ≡ true → (self.new.counts.taken ≡ self.old.counts.taken + count) × (self.new.counts.position ≡ offset + count) }
-        ensures spent { result ≡ false → self.new.counts ≡ self.old.counts }
+        ensures paid { result ≡ true → (self.old.budget - self.new.left ≡ self.old.budget - self.old.left + count)
+            × (self.new.position ≡ offset + count) }
+        ensures spent { result ≡ false → (self.new.left ≡ self.old.left) × (self.new.position ≡ self.old.position) }
     {
-        if self.budget - self.counts.taken < count as u64 {
+        if self.left < count as u64 {
             return false;
         }
-        self.counts.taken += count as u64;
-        self.counts.position = offset + count as u64;
+        self.left -= count as u64;
+        self.position = offset + count as u64;
         true
     }
 }
@@ -127,7 +160,7 @@ impl<'a, S: Claims> HeldSource<'a, S> {
 impl<S: Claims> Claims for HeldSource<'_, S> {}
 
 impl<S: Claims> Source for HeldSource<'_, S> {
-    ghost state = { λ s. shown_state s.told s.budget (S.kept s.of.now) (S.claim s.of.now) s.counts.taken s.counts.position };
+    ghost state = { λ s. shown_state s.told s.budget (S.kept s.of.now) (S.claim s.of.now) (s.budget - s.left) s.position };
 
     #[inline(always)]
     fn told(&self) -> u64 {
@@ -136,7 +169,7 @@ impl<S: Claims> Source for HeldSource<'_, S> {
 
     #[inline(always)]
     fn taken(&self) -> u64 {
-        self.counts.taken
+        self.budget - self.left
     }
 
     #[inline(always)]
@@ -150,13 +183,13 @@ impl<S: Claims> Source for HeldSource<'_, S> {
 
     #[inline(always)]
     fn read_at(&mut self, offset: u64, buffer: &mut [u8]) -> Result<usize, Halt> {
-        let Some(bytes) = self.from(offset) else {
-            return Err(Halt::Failed);
-        };
         let count = buffer.len();
-        if count == 0 || count > bytes.len() {
+        if count == 0 {
             return Err(Halt::Failed);
         }
+        let Some(bytes) = self.whole(offset, count) else {
+            return Err(Halt::Failed);
+        };
         if !self.pays(offset, count) {
             return Err(Halt::Failed);
         }
