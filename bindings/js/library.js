@@ -319,9 +319,11 @@ export class Library {
   }
 }
 
-// The block of some bytes that is passed after another. It begins where bytes are needed. It is twice as long, if no bytes or only few
-// lie between: each block costs a call.
-function blockAfter({ start, end }, wanted) {
+/**
+ * The block of some bytes that is passed after another. It begins where bytes are needed. If at most as many lie between as the last
+ * block has, it is twice as long: each block costs a call.
+ */
+export function blockAfter({ start, end }, wanted) {
   const length = end - start;
   const isNear = wanted.start >= start && wanted.start <= end + length;
   return { start: wanted.start, end: wanted.start + Math.max(wanted.len, isNear ? Math.min(2 * length, PIECE) : BLOCK) };

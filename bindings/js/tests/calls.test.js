@@ -10,7 +10,7 @@ import { after, test } from 'node:test';
 import { fileURLToPath } from 'node:url';
 import { Worker } from 'node:worker_threads';
 import { ImageError, probe, probeBlob, probeFile, probeFileSync, spans } from '../imagesize.js';
-import { Library, PNG_SIGNATURE } from '../library.js';
+import { Library, PNG_SIGNATURE, blockAfter } from '../library.js';
 import { library } from '../load.js';
 import { firstBlock, nextBlock } from '../parts.js';
 import { iconOf, jpegBehind, tiffBehind, withGrow } from './support.js';
@@ -160,6 +160,31 @@ test('what the library is passed is aligned, apart, and within its memory', () =
   const full = new Uint8Array(exports.memory.buffer.byteLength - passed[0][0]);
   full.set(gif);
   assert.equal(library.spans(full, 3).length, 3);
+});
+
+test('an array is passed by blocks that grow, and after bytes that do not matter by a short block', () => {
+  const compiled = new WebAssembly.Module(readFileSync(new URL('../out/imagesize.wasm', import.meta.url)));
+  const { exports } = new WebAssembly.Instance(compiled);
+  const passed = [];
+  const noted = (...numbers) => {
+    passed.push([Number(numbers[1]), Number(numbers[3])]);
+    return exports.imagesize_parts_supply(...numbers);
+  };
+  const library = new Library(compiled, { exports: { ...exports, imagesize_parts_supply: noted } });
+  assert.equal(library.probe(jpegBehind(1000, 200)).image.width, 7);
+  assert.deepEqual(passed.map(([, length]) => length).slice(0, 6), [4096, 8192, 16_384, 32_768, 65_536, 65_536]);
+  passed.length = 0;
+  assert.equal(library.probe(tiffBehind(50_000_000)).image.width, 5);
+  assert.deepEqual(passed.map(([start]) => start), [0, 50_000_000]);
+});
+
+test('which bytes of an array are passed next', () => {
+  const last = { start: 8192, end: 12_288 };
+  const next = (start, len = 4) => { const block = blockAfter(last, { start, len }); return [block.start, block.end - block.start]; };
+  for (const near of [8192, 12_288, 16_384]) assert.deepEqual(next(near), [near, 8192]);
+  for (const far of [0, 8191, 16_385, 1_000_000]) assert.deepEqual(next(far), [far, 4096]);
+  assert.deepEqual(next(12_288, 8193), [12_288, 8193]);
+  assert.deepEqual(blockAfter({ start: 0, end: 65_536 }, { start: 65_535, len: 2 }), { start: 65_535, end: 131_071 });
 });
 
 // It comes before the tests of memory, since it has a memory of its own.
