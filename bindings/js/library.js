@@ -106,13 +106,15 @@ export class Library {
   }
 
   #supply(start, bytes) {
+    const [state, buffer] = [this.#pointer(AT.lent), this.#pointer(AT.lent + STATE_SIZE)];
     for (let at = 0; at < bytes.length; at += PIECE) {
       const piece = bytes.subarray(at, at + PIECE);
       this.#bytes.set(piece, this.#base + AT.lent + STATE_SIZE);
-      const passed = [this.#pointer(AT.lent + STATE_SIZE), BigInt(piece.length)];
-      this.#calls.imagesize_parts_supply(this.#pointer(AT.lent), BigInt(start + at), ...passed);
+      this.#calls.imagesize_parts_supply(state, BigInt(start + at), buffer, BigInt(piece.length));
     }
-    const status = this.#parse((...told) => this.#calls.imagesize_parts_answer(...told, this.#answers.wanted));
+    this.#putNumber(AT.type, 0);
+    const { type, compression, width, height, wanted } = this.#answers;
+    const status = this.#calls.imagesize_parts_answer(state, type, compression, width, height, wanted);
     return status === BYTES_WANTED ? { wanted: this.#span(AT.wanted) } : this.#told(status);
   }
 
