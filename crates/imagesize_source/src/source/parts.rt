@@ -55,9 +55,6 @@ pub struct PartsSource<'a> {
 // A list of at most so many parts is searched from its first part. That costs less than to pass over some of them.
 const FEW: usize = 8;
 
-// How many of the first bytes a size at fixed offsets needs at most.
-const FIXED: u64 = 132;
-
 // The last parts of a list, and their bytes. The parts before them have no byte from `floor` on.
 #[derive(Clone, Copy, Debug)]
 struct Rest<'a> {
@@ -460,21 +457,11 @@ fn known_from<'a>(spans: &[Span], bytes: &'a [u8], told: u64, offset: u64) -> &'
 fn known_front<'a>(spans: &[Span], bytes: &'a [u8], told: u64) -> &'a [u8]
     ensures { (i : ℕ) → i < length result.now → byte_in_parts told spans.now bytes.now i ≡ Some (slice_index result.now i) }
 {
-    let end = front_end(spans, told);
+    let end = joined_end(spans, told);
     if end == 0 {
         return known_from(spans, bytes, told, 0);
     }
     part_of(bytes, 0, end)
-}
-
-// Where the first parts end. A size at fixed offsets lies in the first part, if that is long. So the parts after it are not looked at.
-fn front_end(spans: &[Span], told: u64) -> u64
-    ensures { (bytes : List ℕ) (i : ℕ) → i < result → byte_in_parts told spans.now bytes i ≡ byte_of bytes i }
-{
-    match spans {
-        [first, ..] if first.start == 0 && first.len >= FIXED => length_within(first, told),
-        _ => joined_end(spans, told),
-    }
 }
 
 // Where the first parts end, as far as the first begins at offset 0 and each begins where the one before ends.
