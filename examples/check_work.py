@@ -159,17 +159,21 @@ def counted(command, name):
 
 
 def check_calls(probe, sizes):
-    """A file is opened once, only its first bytes are read, in blocks, and lines are written in blocks."""
+    """A file is opened once, only its first bytes are read, in blocks, and lines are written in blocks. Where a file is read on, each
+    block after the first has 8 KiB."""
     front = {"opens": 1, "reads": 4, "bytes": 16384, "seeks": 0, "writes": 2}
     whole = {"opens": 1, "reads": 100, "bytes": len(LONG_JPEG) * 3 // 2, "seeks": 4, "writes": 20}
+    lines = {"opens": 1, "reads": 1 + -(-(len(LONG_HDR) - 4096) // 8192), "bytes": len(LONG_HDR), "seeks": 0, "writes": 2}
     for command, most in [
         ([sizes, "long.jpeg"], front),
         ([probe, "long.jpeg"], front),
         ([probe, "--spans", "long.jpeg"], whole),
+        ([sizes, "long.hdr"], lines),
+        ([probe, "long.hdr"], lines),
     ]:
-        got = counted(command, "long.jpeg")
+        got = counted(command, command[-1])
         assert got["opens"] == 1 and all(got[call] <= most[call] for call in most), f"{command}: {got}, and at most {most}"
-    print("system calls: a file is opened once, and its front is read in blocks")
+    print("system calls: a file is opened once, and read in blocks, as far as its size needs them")
 
 
 def collected(program, function, *arguments):

@@ -16,14 +16,16 @@ const MEBIBYTE = 2 ** 20;
 
 /** Type and size of the image in some bytes. */
 export function probe(data) {
-  const { image, error } = library().probe(bytesIn(data));
+  const bytes = bytesIn(data);
+  const { image, error } = library().probe(bytes);
   if (error) throw error;
   return image;
 }
 
 /** The spans that the result of `probe` depends on. */
 export function spans(data, { limit = MOST_SPANS } = {}) {
-  return library().spans(bytesIn(data), limit);
+  const bytes = bytesIn(data);
+  return library().spans(bytes, limit);
 }
 
 /** Type and size of the image in a `Blob` or a `File`. Only a few slices are read. */

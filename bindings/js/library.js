@@ -69,15 +69,16 @@ export class Library {
   }
 
   /**
-   * Type and size of the image in some bytes: `{ image }` or `{ error }`. They are copied block by block, and a long array is not
-   * copied whole. No other call comes between, so the state stays in the memory.
+   * Type and size of the image in some bytes: `{ image }` or `{ error }`. They are copied block by block, and bytes between two far
+   * blocks are not copied. No other call comes between, so the state stays in the memory.
    */
   probe(bytes) {
     if (beginsPng(bytes)) return this.probePng(bytes.subarray(0, BLOCK), bytes.length);
     this.#begin(bytes.length);
     let block = { start: 0, end: BLOCK };
     for (;;) {
-      const answer = this.#supply(block.start, bytes.subarray(block.start, block.end));
+      this.#pass(block.start, bytes.subarray(block.start, block.end));
+      const answer = this.#answer();
       if (!answer.wanted) return answer;
       block = blockAfter(block, answer.wanted);
     }
@@ -95,26 +96,32 @@ export class Library {
    */
   supply(state, start, bytes) {
     this.#bytes.set(state, this.#base + AT.lent);
-    const answer = this.#supply(start, bytes);
+    this.#pass(start, bytes);
+    // A text of the answer is written over the state.
     state.set(this.#state);
-    return answer;
+    return this.#answer();
   }
 
-  // The same two, over the state that is in the memory.
+  // Makes the state in the memory that of an input of `total` bytes.
   #begin(total) {
     this.#calls.imagesize_parts_new(this.#pointer(AT.lent), BigInt(total));
   }
 
-  #supply(start, bytes) {
+  // Passes bytes to the state in the memory.
+  #pass(start, bytes) {
     const [state, buffer] = [this.#pointer(AT.lent), this.#pointer(AT.lent + STATE_SIZE)];
     for (let at = 0; at < bytes.length; at += PIECE) {
       const piece = bytes.subarray(at, at + PIECE);
       this.#bytes.set(piece, this.#base + AT.lent + STATE_SIZE);
       this.#calls.imagesize_parts_supply(state, BigInt(start + at), buffer, BigInt(piece.length));
     }
+  }
+
+  // What the state in the memory says.
+  #answer() {
     this.#putNumber(AT.type, 0);
     const { type, compression, width, height, wanted } = this.#answers;
-    const status = this.#calls.imagesize_parts_answer(state, type, compression, width, height, wanted);
+    const status = this.#calls.imagesize_parts_answer(this.#pointer(AT.lent), type, compression, width, height, wanted);
     return status === BYTES_WANTED ? { wanted: this.#span(AT.wanted) } : this.#told(status);
   }
 
@@ -322,13 +329,13 @@ export class Library {
 }
 
 /**
- * The block of some bytes that is passed after another. It begins where bytes are needed. If at most as many lie between as the last
- * block has, it is twice as long: each block costs a call.
+ * The block of some bytes that is passed after another. It begins at the first byte that is needed. If at most as many bytes lie between
+ * them as the last block has, it is twice as long, up to `PIECE`: each block costs a call. Otherwise it has `BLOCK` bytes.
  */
 export function blockAfter({ start, end }, wanted) {
   const length = end - start;
-  const isNear = wanted.start >= start && wanted.start <= end + length;
-  return { start: wanted.start, end: wanted.start + Math.max(wanted.len, isNear ? Math.min(2 * length, PIECE) : BLOCK) };
+  const isNear = wanted.start <= end + length;
+  return { start: wanted.start, end: wanted.start + (isNear ? Math.min(2 * length, PIECE) : BLOCK) };
 }
 
 /** Whether an input that begins with these bytes is a PNG. */

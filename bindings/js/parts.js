@@ -21,7 +21,7 @@ export class Parts {
   #stored;
   #state = null;
 
-  constructor({ trace = false } = {}) {
+  constructor({ trace }) {
     this.#stored = trace;
   }
 
@@ -59,7 +59,7 @@ export class Parts {
   }
 }
 
-/** The block that is read first of each input, where at most so many bytes may be read. */
+/** The block that is read first of a file, a blob or an address, where at most so many bytes may be read. */
 export function firstBlock(most) {
   if (most !== Infinity && !(Number.isInteger(most) && most > 0)) {
     throw new RangeError('maxBytes is a whole number of bytes, from 1 on');

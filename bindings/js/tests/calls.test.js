@@ -145,6 +145,8 @@ test('what the library is passed is aligned, apart, and within its memory', () =
   const [[, total], [, offset, , given]] = passed.splice(0);
   assert.deepEqual([total, offset, given], [200_000, 0, 5]);
   isGif(library.supply(rounds, 0, Buffer.concat([gif, Buffer.alloc(140_000)])).image);
+  // Later calls return the same: no name is written over the state.
+  isGif(library.supply(rounds, 0, gif).image);
   assert.deepEqual(passed.splice(0).slice(0, 3).map(([, at, , length]) => [at, length]), [[0, 65536], [65536, 65536], [131072, 8940]]);
   assert.deepEqual(library.probePng(Uint8Array.of(...PNG_SIGNATURE, 0, 0), 40), { wanted: { start: 16, len: 4 } });
   assert.deepEqual(passed.splice(0).map(([, length, , count, whole]) => [length, count, whole]), [[10, 1, 40]]);
@@ -174,16 +176,30 @@ test('an array is passed by blocks that grow, and after bytes that do not matter
   assert.equal(library.probe(jpegBehind(1000, 200)).image.width, 7);
   assert.deepEqual(passed.map(([, length]) => length).slice(0, 6), [4096, 8192, 16_384, 32_768, 65_536, 65_536]);
   passed.length = 0;
-  assert.equal(library.probe(tiffBehind(50_000_000)).image.width, 5);
-  assert.deepEqual(passed.map(([start]) => start), [0, 50_000_000]);
+  assert.equal(library.probe(Buffer.concat([tiffBehind(50_000_000), Buffer.alloc(100_000)])).image.width, 5);
+  assert.deepEqual(passed, [[0, 4096], [50_000_000, 4096]]);
+});
+
+test('comments and lines that go on in the next block, and a footer after the first', () => {
+  const tga = Buffer.alloc(10_026);
+  tga.set([0, 0, 2, 0, 0, 0, 0, 0, 0, 0, 0, 0, 7, 0, 5, 0, 24]);
+  tga.write('TRUEVISION-XFILE.\0', 10_008);
+  const inputs = {
+    Pnm: Buffer.from(`P6\n${`#${'c'.repeat(900)}\n`.repeat(50)}7 5\n255\n`),
+    Hdr: Buffer.from(`#?RADIANCE\n${`${'a'.repeat(99)}\n`.repeat(1000)}-Y 5 +X 7\n`),
+    Tga: tga,
+  };
+  for (const [kind, bytes] of Object.entries(inputs)) {
+    const { kind: found, width, height } = probe(bytes);
+    assert.deepEqual([found, width, height], [kind, 7, 5]);
+  }
 });
 
 test('which bytes of an array are passed next', () => {
   const last = { start: 8192, end: 12_288 };
-  const next = (start, len = 4) => { const block = blockAfter(last, { start, len }); return [block.start, block.end - block.start]; };
+  const next = (start) => { const block = blockAfter(last, { start, len: 4 }); return [block.start, block.end - block.start]; };
   for (const near of [8192, 12_288, 16_384]) assert.deepEqual(next(near), [near, 8192]);
-  for (const far of [0, 8191, 16_385, 1_000_000]) assert.deepEqual(next(far), [far, 4096]);
-  assert.deepEqual(next(12_288, 8193), [12_288, 8193]);
+  for (const far of [16_385, 1_000_000]) assert.deepEqual(next(far), [far, 4096]);
   assert.deepEqual(blockAfter({ start: 0, end: 65_536 }, { start: 65_535, len: 2 }), { start: 65_535, end: 131_071 });
 });
 
