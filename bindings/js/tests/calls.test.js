@@ -144,9 +144,12 @@ test('what the library is passed is aligned, apart, and within its memory', () =
   assert.deepEqual(library.supply(rounds, 0, gif.subarray(0, 5)), { wanted: { start: 5, len: 13 } });
   const [[, total], [, offset, , given]] = passed.splice(0);
   assert.deepEqual([total, offset, given], [200_000, 0, 5]);
-  isGif(library.supply(rounds, 0, Buffer.concat([gif, Buffer.alloc(140_000)])).image);
-  // Later calls return the same: no name is written over the state.
-  isGif(library.supply(rounds, 0, gif).image);
+  const long = Buffer.concat([gif, Buffer.alloc(140_000)]);
+  isGif(library.supply(rounds, 0, long).image);
+  // The call also writes the type's name into the memory. The state is still that of an input whose type was named before.
+  const again = library.roundsOf(200_000);
+  for (const bytes of [gif.subarray(0, 5), long]) library.supply(again, 0, bytes);
+  assert.deepEqual(rounds, again);
   assert.deepEqual(passed.splice(0).slice(0, 3).map(([, at, , length]) => [at, length]), [[0, 65536], [65536, 65536], [131072, 8940]]);
   assert.deepEqual(library.probePng(Uint8Array.of(...PNG_SIGNATURE, 0, 0), 40), { wanted: { start: 16, len: 4 } });
   assert.deepEqual(passed.splice(0).map(([, length, , count, whole]) => [length, count, whole]), [[10, 1, 40]]);
