@@ -1,2 +1,1 @@
 mod Noting
-mod Walks
