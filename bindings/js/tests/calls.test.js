@@ -146,7 +146,7 @@ test('what the library is passed is aligned, apart, and within its memory', () =
   assert.deepEqual([total, offset, given], [200_000, 0, 5]);
   const long = Buffer.concat([gif, Buffer.alloc(140_000)]);
   isGif(library.supply(rounds, 0, long).image);
-  // The call also writes the type's name into the memory. The state is still that of an input whose type was named before.
+  // Only the first call for a type writes its name into the memory. Both calls leave the same state.
   const again = library.roundsOf(200_000);
   for (const bytes of [gif.subarray(0, 5), long]) library.supply(again, 0, bytes);
   assert.deepEqual(rounds, again);
