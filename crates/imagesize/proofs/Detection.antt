@@ -23,7 +23,7 @@ use Rattle.imagesize.specs.Meaning.{kind_of, kind_reads}
 use Rattle.imagesize.specs.Types.{lasts, rows, way_of}
 use Rattle.imagesize.specs.declared.types.ImageType.{ImageType}
 use Rattle.imagesize.specs.declared.types.ImageType.TheVariants.{Atc, Dds, Eac, Etc2, Heif, Pvrtc, Tga}
-use Rattle.imagesize_source.proofs.Always.{Always, always, always_bind}
+use Rattle.imagesize_source.proofs.Always.{Always, CompressionLaws, always, always_bind}
 use Rattle.imagesize_source.proofs.Costs.{bound_of, costs, costs_bind}
 use Rattle.imagesize_source.proofs.Layouts.{over-bind}
 use Rattle.imagesize_source.proofs.Extension.{bytes_ok, bytes_more}
@@ -64,84 +64,9 @@ pub kind_few : (type : ImageType) → kind_cost type ≤ 37
 kind_few Tga = omega arith
 kind_few _ = omega arith
 
-pub with_costs : (offset : ℕ) (head : List ℕ) (found : ImageType)
-    → CostsBy kind_cost 37 12 (with_compression offset head found)
-unfolding with_compression
-with_costs offset head (Heif _) =
-    costs_bind kind_cost 37 12 12 (heif_compression offset head) _ (heif_compression_laws offset head).few
-    (omega arith) (λ _. omega arith)
-with_costs offset head (Atc _) =
-    costs_bind kind_cost 37 12 8 atc_compression _ atc_compression_laws.few (omega arith) (λ _. omega arith)
-with_costs offset head (Pvrtc _) =
-    costs_bind kind_cost 37 12 12 pvrtc_compression _ pvrtc_compression_laws.few (omega arith)
-    (λ _. omega arith)
-with_costs offset head (Eac _) =
-    costs_bind kind_cost 37 12 2 pkm_compression _ pkm_compression_laws.few (omega arith) (λ _. omega arith)
-with_costs offset head (Etc2 _) =
-    costs_bind kind_cost 37 12 2 pkm_compression _ pkm_compression_laws.few (omega arith) (λ _. omega arith)
-with_costs offset head (Dds _) =
-    costs_bind kind_cost 37 12 8 dds_compression _ dds_compression_laws.few (omega arith) (λ _. omega arith)
-with_costs offset head Tga = omega arith
-with_costs offset head _ = omega arith
-
-none_costs : (is : Bool) → CostsBy kind_cost 37 37 (tga_or_none is)
-none_costs true = omega arith
-none_costs false = omega arith
-
-by_costs : (n offset : ℕ) (head : List ℕ) (found : Option ImageType)
-    → CostsBy kind_cost 37 12 (kind_by n offset head found)
-by_costs n offset head (Some found) = with_costs offset head found
-by_costs n offset head None = costs_bind kind_cost 37 12 25 (is_tga n head) tga_or_none (is_tga_few n head) (omega arith)
-    (λ is. none_costs is)
-
-pub kind_costs : (n offset : ℕ) → CostsBy kind_cost 37 0 (kind n offset)
-kind_costs n offset = (omega arith, λ head. by_costs n offset head (first_row rows head))
-
--- what a type is read from, by the type that is found
-pub kind_at_most : (d : List ℕ) (offset : ℕ)
-    → total (kind_reads d offset).marks ≤ bound_of kind_cost 37 (kind_reads d offset).answer
-kind_at_most d offset = omega (arith, costs kind_cost 37 0 d (kind (length d) offset) (kind_costs (length d) offset))
-
-few_of : (r : Result ImageType Halt) → bound_of kind_cost 37 r ≤ 37
-few_of (Ok type) = kind_few type
-few_of (Err e) = omega arith
-
--- and at most, whatever is found
-pub kind_within : (d : List ℕ) (offset : ℕ) → total (kind_reads d offset).marks ≤ 37
-kind_within d offset = omega (arith, kind_at_most d offset, few_of (kind_reads d offset).answer)
-
 -- a type whose size is told in the same way, whatever its compression
 abbrev pub SameWay : ImageType → ImageType → Type 0
 SameWay found type = way_of type ≡ way_of found
-
-with_alike : (offset : ℕ) (head : List ℕ) (found : ImageType)
-    → Always (SameWay found) (with_compression offset head found)
-unfolding with_compression
-with_alike offset head (Heif k) =
-    always_bind (SameWay (Heif k)) (heif_compression offset head) _ (heif_compression_laws offset head).answers
-    (λ _. refl)
-with_alike offset head (Atc k) = always_bind (SameWay (Atc k)) atc_compression _ atc_compression_laws.answers (λ _. refl)
-with_alike offset head (Pvrtc k) =
-    always_bind (SameWay (Pvrtc k)) pvrtc_compression _ pvrtc_compression_laws.answers (λ _. refl)
-with_alike offset head (Eac k) = always_bind (SameWay (Eac k)) pkm_compression _ pkm_compression_laws.answers (λ _. refl)
-with_alike offset head (Etc2 k) =
-    always_bind (SameWay (Etc2 k)) pkm_compression _ pkm_compression_laws.answers (λ _. refl)
-with_alike offset head (Dds k) = always_bind (SameWay (Dds k)) dds_compression _ dds_compression_laws.answers (λ _. refl)
-with_alike offset head _ = refl
-
--- an answer behind readings is that behind what they answered
-onward_ok : {X Y : Type 0} (spans : List Span) (r : Result X Halt) (f : X → Reads Y) (y : Y)
-    → (go_on spans r f).answer ≡ Ok y
-    → (x : X) × (r ≡ Ok x) × ((f x).answer ≡ Ok y)
-onward_ok spans (Ok x) f y is = (x, refl, is)
-onward_ok spans (Err e) f y is = absurd cc
-
-tga_is : (is : Bool) (d : List ℕ) (type : ImageType) → (layout_reads d (tga_or_none is)).answer ≡ Ok type → type ≡ Tga
-tga_is true d type is = cc
-tga_is false d type is = absurd cc
-
-ok_is : {X : Type 0} {x y : X} → ◌≡◌ {A = Result X Halt} (Ok x) (Ok y) → x ≡ y
-ok_is e = cc
 
 -- Where a reading is cut the layout answers u, so that bytes that follow leave any other answer.
 abbrev Fades : {X : Type 0} → X → Layout X → Type 0
@@ -220,6 +145,80 @@ dds_fades = if_there_fades dds_unknown 84 4 dds_compression_by refl (λ code.
     (λ _. on_test (Fades dds_unknown) (bytes_eq code (0 ∷ 0 ∷ 0 ∷ 0 ∷ [])) _ _
     (λ _. if_there_fades dds_unknown 88 4 (λ bs. done (dds_number_of dds_bit_counts bs)) refl (λ bs. tt)) (λ _. tt)))
 
+-- what holds of each compression, and of a type without one
+by_compression : (P : Layout ImageType → Type 0) (offset : ℕ) (head : List ℕ) (found : ImageType)
+    → ((C : Type 0) (of : C → ImageType) (u : C) (k : ℕ) (t : Layout C) → Fades u t → CompressionLaws k t → 12 + k ≤ 37
+    → ((c : C) → (12 + k ≡ kind_cost (of c)) × SameWay found (of c) × (without_compression (of c) ≡ of u))
+    → P (bind t (λ c. done (of c))))
+    → (12 ≤ kind_cost found → P (done found)) → P (with_compression offset head found)
+unfolding with_compression
+by_compression P offset head (Heif _) each other = each _ Heif heif_unknown 12 (heif_compression offset head)
+    (heif_fades offset head) (heif_compression_laws offset head) (omega arith) (λ c. (refl, refl, refl))
+by_compression P offset head (Atc _) each other = each _ Atc atc_unknown 8 atc_compression atc_fades atc_compression_laws
+    (omega arith) (λ c. (refl, refl, refl))
+by_compression P offset head (Pvrtc _) each other = each _ Pvrtc pvrtc_unknown 12 pvrtc_compression pvrtc_fades
+    pvrtc_compression_laws (omega arith) (λ c. (refl, refl, refl))
+by_compression P offset head (Eac _) each other = each _ Eac pkm_unknown 2 pkm_compression pkm_fades pkm_compression_laws
+    (omega arith) (λ c. (refl, refl, refl))
+by_compression P offset head (Etc2 _) each other = each _ Etc2 pkm_unknown 2 pkm_compression pkm_fades pkm_compression_laws
+    (omega arith) (λ c. (refl, refl, refl))
+by_compression P offset head (Dds _) each other = each _ Dds dds_unknown 8 dds_compression dds_fades dds_compression_laws
+    (omega arith) (λ c. (refl, refl, refl))
+by_compression P offset head _ each other = other (omega arith)
+
+pub with_costs : (offset : ℕ) (head : List ℕ) (found : ImageType)
+    → CostsBy kind_cost 37 12 (with_compression offset head found)
+with_costs offset head found = by_compression (CostsBy kind_cost 37 12) offset head found
+    (λ C of u k t _ laws fits same. costs_bind kind_cost 37 12 k t (λ c. done (of c)) laws.few fits
+    (λ c. omega (arith, (same c).0)))
+    (λ fits. fits)
+
+none_costs : (is : Bool) → CostsBy kind_cost 37 37 (tga_or_none is)
+none_costs true = omega arith
+none_costs false = omega arith
+
+by_costs : (n offset : ℕ) (head : List ℕ) (found : Option ImageType)
+    → CostsBy kind_cost 37 12 (kind_by n offset head found)
+by_costs n offset head (Some found) = with_costs offset head found
+by_costs n offset head None = costs_bind kind_cost 37 12 25 (is_tga n head) tga_or_none (is_tga_few n head) (omega arith)
+    (λ is. none_costs is)
+
+pub kind_costs : (n offset : ℕ) → CostsBy kind_cost 37 0 (kind n offset)
+kind_costs n offset = (omega arith, λ head. by_costs n offset head (first_row rows head))
+
+-- what a type is read from, by the type that is found
+pub kind_at_most : (d : List ℕ) (offset : ℕ)
+    → total (kind_reads d offset).marks ≤ bound_of kind_cost 37 (kind_reads d offset).answer
+kind_at_most d offset = omega (arith, costs kind_cost 37 0 d (kind (length d) offset) (kind_costs (length d) offset))
+
+few_of : (r : Result ImageType Halt) → bound_of kind_cost 37 r ≤ 37
+few_of (Ok type) = kind_few type
+few_of (Err e) = omega arith
+
+-- and at most, whatever is found
+pub kind_within : (d : List ℕ) (offset : ℕ) → total (kind_reads d offset).marks ≤ 37
+kind_within d offset = omega (arith, kind_at_most d offset, few_of (kind_reads d offset).answer)
+
+with_alike : (offset : ℕ) (head : List ℕ) (found : ImageType)
+    → Always (SameWay found) (with_compression offset head found)
+with_alike offset head found = by_compression (Always (SameWay found)) offset head found
+    (λ C of u k t _ laws _ same. always_bind (SameWay found) t (λ c. done (of c)) laws.answers (λ c. (same c).1))
+    (λ _. refl)
+
+-- an answer behind readings is that behind what they answered
+onward_ok : {X Y : Type 0} (spans : List Span) (r : Result X Halt) (f : X → Reads Y) (y : Y)
+    → (go_on spans r f).answer ≡ Ok y
+    → (x : X) × (r ≡ Ok x) × ((f x).answer ≡ Ok y)
+onward_ok spans (Ok x) f y is = (x, refl, is)
+onward_ok spans (Err e) f y is = absurd cc
+
+tga_is : (is : Bool) (d : List ℕ) (type : ImageType) → (layout_reads d (tga_or_none is)).answer ≡ Ok type → type ≡ Tga
+tga_is true d type is = cc
+tga_is false d type is = absurd cc
+
+ok_is : {X : Type 0} {x y : X} → ◌≡◌ {A = Result X Halt} (Ok x) (Ok y) → x ≡ y
+ok_is e = cc
+
 -- so a type stays, with its compression where one was told
 type_stays : {C : Type 0} (of : C → ImageType) (u : C) (t : Layout C) (d x : List ℕ) (type after : ImageType)
     → Fades u t
@@ -241,21 +240,10 @@ type_stays {C} of u t d x type after h unknown is more =
 compression_stays : (d x : List ℕ) (offset : ℕ) (head : List ℕ) (found type after : ImageType)
     → (layout_reads d (with_compression offset head found)).answer ≡ Ok type
     → (layout_reads (d ++ x) (with_compression offset head found)).answer ≡ Ok after → Stays type after
-unfolding with_compression
-compression_stays d x offset head (Heif _) type after is more =
-    type_stays Heif heif_unknown (heif_compression offset head) d x type after (heif_fades offset head)
-    (λ _. refl) is more
-compression_stays d x offset head (Atc _) type after is more =
-    type_stays Atc atc_unknown atc_compression d x type after atc_fades (λ _. refl) is more
-compression_stays d x offset head (Pvrtc _) type after is more =
-    type_stays Pvrtc pvrtc_unknown pvrtc_compression d x type after pvrtc_fades (λ _. refl) is more
-compression_stays d x offset head (Eac _) type after is more =
-    type_stays Eac pkm_unknown pkm_compression d x type after pkm_fades (λ _. refl) is more
-compression_stays d x offset head (Etc2 _) type after is more =
-    type_stays Etc2 pkm_unknown pkm_compression d x type after pkm_fades (λ _. refl) is more
-compression_stays d x offset head (Dds _) type after is more =
-    type_stays Dds dds_unknown dds_compression d x type after dds_fades (λ _. refl) is more
-compression_stays d x offset head _ type after is more = inl (sym (ok_is more) ∙ ok_is is)
+compression_stays d x offset head found type after =
+    by_compression (λ t. (layout_reads d t).answer ≡ Ok type → (layout_reads (d ++ x) t).answer ≡ Ok after → Stays type after)
+    offset head found (λ C of u k t faded laws _ same. type_stays of u t d x type after faded (λ c. (same c).2))
+    (λ _ is more. inl (sym (ok_is more) ∙ ok_is is))
 
 none_keeps : (d : List ℕ) (n offset : ℕ) (head : List ℕ) (type : ImageType)
     → (layout_reads d (bind (is_tga n head) tga_or_none)).answer ≡ Ok type

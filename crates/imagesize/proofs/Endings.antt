@@ -1,6 +1,7 @@
 -- How calls end: over a reader they want no memory, and spend a budget whole; over a slice nothing stops them.
 use Rattle.std.proofs.Common.{◌≡◌, ℕ, ◌+◌, ◌-◌, ◌^◌, ◌≤◌, min, Bool, true, false, cond, leb, length, Option, Some, None, Result, Ok, Err, IfErr, IfSome, inl, inr, refl, sym, ap, ◌∙◌, subst, arith}
 use Rattle.std.proofs.lemmas.Bool.Decides.{nat_tests}
+use Rattle.std.proofs.lemmas.Option.{IfSome_then}
 use Rattle.std.specs.Prelude.{IsSomeAnd, option_map}
 use Rattle.std.specs.declared.io.traits.SeekFrom.TheVariants.{Start}
 use Rattle.imagesize.specs.Probed.{SpentAll}
@@ -71,18 +72,14 @@ budget_taken {b = b} told n (Err halt) reads start plain h took =
     error_spent (λ k. (k ≡ n) × (64 ≤ k)) b.failure b.frame.budget halt plain.spent
     (λ spent. ((h.ended.budget spent).1 ∙ sym took, omega (arith, budget)))
 
-least : (named : Option ℕ) (taken : ℕ) → IfSome named (λ k. (k ≡ taken) × (64 ≤ k)) → IfSome named (λ k. 64 ≤ k)
-least None taken is = tt
-least (Some k) taken is = is.1
-
 pub budget_least : {X : Type 0} {a b : State} (told : ℕ) (r : Result X Halt) (reads : Reads X)
     → a.frame.budget ≡ min (told + 64)
     (2 ^ 64 - 1) → Plain b → Runs a b r reads
     → IfErr (with_error b.failure b.frame.budget r) (λ e. IfSome (budget_spent e) (λ k. 64 ≤ k))
 budget_least told (Ok x) reads start plain h = tt
 budget_least {b = b} told (Err halt) reads start plain h =
-    least (budget_spent (error_by b.failure b.frame.budget halt)) b.taken
-    (budget_taken told b.taken (Err halt) reads start plain h refl)
+    IfSome_then (budget_spent (error_by b.failure b.frame.budget halt))
+    (budget_taken told b.taken (Err halt) reads start plain h refl) (λ k is. is.1)
 
 parts : (p q : ℕ × ℕ) → p ≡ q → (p.0 ≡ q.0) × (p.1 ≡ q.1)
 parts p q same = (ap (λ (x : ℕ × ℕ). x.0) same, ap (λ (x : ℕ × ℕ). x.1) same)
@@ -96,27 +93,16 @@ rose (Some c) (Some d) taken same =
     let both = parts (d - taken, taken - d) (c - 0, 0 - c) cc in
     let is : d ≡ c + taken = omega (arith, both.0, both.1) in ap Some is
 
-all_spent : (named : Option ℕ) (before after : Option ℕ) (taken : ℕ) → after ≡ option_map (λ c. c + taken) before
-    → IfSome named (λ k. (k ≡ taken) × (64 ≤ k)) → IfSome named (SpentAll before after)
-all_spent None before after taken up is = tt
-all_spent (Some n) before after taken up is = (is.1, up ∙ ap (λ k. option_map (λ c. c + k) before) (sym is.0))
-
 -- a named count rose by all of it
 pub budget_counted : {X : Type 0} {a b : State} (told : ℕ) (before after : Option ℕ) (r : Result X Halt) (reads : Reads X)
     → a.frame.budget ≡ min (told + 64) (2 ^ 64 - 1) → since_of a.frame.backing ≡ drift before 0 → Plain b → Runs a b r reads
     → since_of b.frame.backing ≡ drift after b.taken → IfErr (with_error b.failure b.frame.budget r) (λ e. IfSome (budget_spent e) (SpentAll before after))
 budget_counted told before after (Ok x) reads start counts plain h counted = tt
 budget_counted {b = b} told before after (Err halt) reads start counts plain h counted =
-    all_spent (budget_spent (error_by b.failure b.frame.budget halt)) before after b.taken
-    (rose before after b.taken (sym counted ∙ ap (λ f. since_of f.backing) h.frame ∙ counts))
+    let up = rose before after b.taken (sym counted ∙ ap (λ f. since_of f.backing) h.frame ∙ counts) in
+    IfSome_then (budget_spent (error_by b.failure b.frame.budget halt))
     (budget_taken told b.taken (Err halt) reads start plain h refl)
-
-last_told : (b : State) (failure : Option (Option Error)) (fault : Option Error)
-    → b.failed ≡ Some (last_failed fault failure)
-    → IfSome b.failed (λ last. (last ≡ Some b.failure) × (is_fault b.failure ≡ true)) → IsLast failure b.failure
-last_told b failure fault is told =
-    let last = subst (λ f. IfSome f (λ last. (last ≡ Some b.failure) × (is_fault b.failure ≡ true))) is told in
-    told_last failure fault b.failure last.0
+    (λ n is. (is.1, up ∙ ap (λ k. option_map (λ c. c + k) before) (sym is.0)))
 
 -- a failure that ends a call over a reader is the reader's last one
 pub fault_last : {X : Type 0} {a b : State} (failure : Option (Option Error)) (fault : Option Error) (r : Result X Halt)
@@ -126,7 +112,8 @@ pub fault_last : {X : Type 0} {a b : State} (failure : Option (Option Error)) (f
 fault_last failure fault (Ok x) reads is h = tt
 fault_last {b = b} failure fault (Err halt) reads is h = λ faults.
     let by = error_fault b.failure b.frame.budget halt faults in
-    subst (λ e. IsLast failure e) (sym by.1) (last_told b failure fault is (h.ended.fault by.0))
+    let last = subst (λ f. IfSome f (λ last. (last ≡ Some b.failure) × (is_fault b.failure ≡ true))) is (h.ended.fault by.0) in
+    subst (λ e. IsLast failure e) (sym by.1) (told_last failure fault b.failure last.0)
 
 -- the error that a reader keeps is a fault
 pub kept_plain : (fault : Option Error) (b : State) → b.failure ≡ kept_error fault → Plain b

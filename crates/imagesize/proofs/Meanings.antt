@@ -1,11 +1,11 @@
 -- The size by a type that was found.
-use Rattle.std.proofs.Common.{◌≡◌, ℕ, ◌≤◌, Option, Some, None, Result, Ok, Err, IfSome, is_some, true, false, refl, sym, ap, ◌∙◌, subst, arith}
+use Rattle.std.proofs.Common.{List, ◌≡◌, ℕ, ◌≤◌, Option, Some, None, Result, Ok, Err, IfSome, is_some, true, false, refl, sym, ap, ◌∙◌, subst, arith}
 use Rattle.std.specs.Result.{result_ok}
 use Rattle.imagesize.proofs.Counts.{cost_most, cost_stated, cost_within, size_within}
 use Rattle.imagesize.proofs.Detection.{kind_within}
 use Rattle.imagesize.proofs.Short.{no_meaning}
 use Rattle.imagesize.specs.Counts.{cost}
-use Rattle.imagesize.specs.Meaning.{kind_of, kind_reads, meaning, meaning_reads, size_of, size_reads}
+use Rattle.imagesize.specs.Meaning.{kind_reads, meaning, meaning_reads, size_reads}
 use Rattle.imagesize.specs.Probed.{FindsKind, Probes}
 use Rattle.imagesize.specs.declared.calls.Probed.{Probed}
 use Rattle.imagesize_types.specs.declared.size.ImageSize.{ImageSize}
@@ -15,8 +15,8 @@ use Rattle.imagesize_source.proofs.Runs.{runs_then, runs_refused}
 use Rattle.imagesize_io.specs.Answers.{Answers, AnswersAs, TakesAs}
 use Rattle.imagesize_source.specs.Errors.{is_stopped as is_stopped_error}
 use Rattle.imagesize_source.specs.Halts.{with_error}
-use Rattle.imagesize_source.specs.Outcome.{stated}
-use Rattle.imagesize_source.specs.Reading.{is_stopped}
+use Rattle.imagesize_source.specs.Outcome.{outcome_of, stated}
+use Rattle.imagesize_source.specs.Reading.{Reads, is_stopped}
 use Rattle.imagesize_io.specs.ReaderState.{Opens, start_state}
 use Rattle.imagesize_source.specs.State.{State, Runs}
 use Rattle.imagesize_io.specs.Telling.{Telling, IsHonest}
@@ -40,21 +40,21 @@ none_found {a} {b} halt offset h =
     runs_refused (kind_reads a.held.input offset) (λ found. size_reads found a.held.input) h
 
 -- an honest budget is enough for a type and for every size
-bounded_kind : IsBounded kind_reads
+pub bounded_kind : IsBounded kind_reads
 bounded_kind d offset = omega (arith, kind_within d offset)
 
 pub bounded_meaning : IsBounded meaning_reads
 bounded_meaning d offset = omega (arith, cost_within d offset)
 
--- the type that a reader was found to hold
-pub kind_answers : (telling mid : Option Telling) (count : Option ℕ) (home : ℕ) (opened : Opened) (a b : State)
-    (r : Result ImageType Halt) → a ≡ start_state mid count home opened.told → is_some b.failed ≡ true
-    → Opens telling mid (Ok opened)
-    → Runs a b r (kind_reads a.held.input opened.offset)
-    → Answers telling kind_of (with_error b.failure b.frame.budget r)
-kind_answers telling mid count home opened a b r start told opens h =
-    opened_answers telling mid count home opened b r kind_reads bounded_kind told opens
-    (subst (λ s. Runs s b r (kind_reads s.held.input opened.offset)) start h)
+-- the type that a reader was found to hold, and the size that it was found to have, read as a type
+pub read_answers : {X : Type 0} (reads : List ℕ → ℕ → Reads X) → IsBounded reads → (telling mid : Option Telling)
+    (count : Option ℕ) (home : ℕ) (opened : Opened) (a b : State) (r : Result X Halt)
+    → a ≡ start_state mid count home opened.told → is_some b.failed ≡ true → Opens telling mid (Ok opened)
+    → Runs a b r (reads a.held.input opened.offset)
+    → Answers telling (λ d offset. outcome_of (reads d offset)) (with_error b.failure b.frame.budget r)
+read_answers reads bounded telling mid count home opened a b r start told opens h =
+    opened_answers telling mid count home opened b r reads bounded told opens
+    (subst (λ s. Runs s b r (reads s.held.input opened.offset)) start h)
 
 found_kind : (t : Telling) (mid : Option Telling) (count : Option ℕ) (home told offset : ℕ) (a : State)
     (found : Option ImageType)
@@ -117,14 +117,3 @@ probes_opened (Some t) mid count home opened a b probed r is start told opens h 
 
 pub bounded_size : (type : ImageType) → IsBounded (λ d offset. size_reads type d)
 bounded_size type d offset = omega (arith, size_within type d)
-
--- the size that a reader was found to have, read as a type
-pub size_answers : (telling mid : Option Telling) (count : Option ℕ) (home : ℕ) (opened : Opened) (a b : State)
-    (type : ImageType)
-    (r : Result ImageSize Halt) → a ≡ start_state mid count home opened.told → is_some b.failed ≡ true
-    → Opens telling mid (Ok opened)
-    → Runs a b r (size_reads type a.held.input)
-    → Answers telling (λ d offset. size_of type d) (with_error b.failure b.frame.budget r)
-size_answers telling mid count home opened a b type r start told opens h =
-    opened_answers telling mid count home opened b r (λ d offset. size_reads type d) (bounded_size type) told opens
-    (subst (λ s. Runs s b r (size_reads type s.held.input)) start h)

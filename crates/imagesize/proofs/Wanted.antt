@@ -25,12 +25,13 @@ use Rattle.imagesize_source.specs.Halts.{error_of, with_error}
 use Rattle.imagesize_source.specs.Outcome.{outcome_of, stated}
 use Rattle.imagesize_source.specs.Reading.{Reads, go_on, is_faulted}
 use Rattle.imagesize_source.proofs.Halts.{stated_ok, stated_same}
-use Rattle.imagesize_source.specs.State.{State, Runs, parts_of}
+use Rattle.imagesize_source.specs.State.{Misses, State, Runs, parts_of}
 use Rattle.imagesize_source.proofs.Among.{Among, any_left, any_right, covered-any, later_cut, middle}
 use Rattle.imagesize_source.proofs.Agreement.{covered-left, covered-one, covered-right, same_by_local}
 use Rattle.imagesize_source.proofs.Runs.{marks_onward}
 use Rattle.imagesize_source.proofs.Known.{filled_at, has_known, known_below, length-filled_input, unknown_free}
 use Rattle.imagesize_source.proofs.KnownReadings.{past-parts}
+use Rattle.imagesize_source.proofs.Tests.{on_test}
 
 -- ---- a source of parts is stopped by what it misses alone
 
@@ -78,16 +79,11 @@ known_covered : (n : ℕ) (spans : List Span) (bytes : List ℕ) (offset : ℕ)
     → is_covered spans offset ≡ true
 known_covered n [] bytes offset is = absurd cc
 known_covered n (s ∷ spans) bytes offset is =
-    by_test (reaches n s offset) refl (known_covered n spans (drop (length_within n s) bytes) offset) is where
-      by_test : (test : Bool) → reaches n s offset ≡ test
-          → (is_some (byte_in_parts n spans (drop (length_within n s) bytes) offset) ≡ true
-          → is_covered spans offset ≡ true)
-          → is_some (cond test (byte_of bytes (offset - s.start))
-          (byte_in_parts n spans (drop (length_within n s) bytes) offset)) ≡ true
-          → has_offset s offset || is_covered spans offset ≡ true
-      by_test true has later is = let there : has_offset s offset ≡ true = grind (arith, nat_tests) in
-          or_left (has_offset s offset) (is_covered spans offset) there
-      by_test false has later is = or_right (has_offset s offset) (is_covered spans offset) (later is)
+    let rest : List ℕ = drop (length_within n s) bytes in
+    on_test (λ o. is_some o ≡ true → has_offset s offset || is_covered spans offset ≡ true) (reaches n s offset)
+    (byte_of bytes (offset - s.start)) (byte_in_parts n spans rest offset)
+    (λ has _. or_left (has_offset s offset) (is_covered spans offset) (grind (arith, nat_tests)))
+    (λ _ later. or_right (has_offset s offset) (is_covered spans offset) (known_covered n spans rest offset later)) is
 
 -- and of an input that has the parts each offset of a span is known
 pub known_where_covered : (d : List ℕ) (n : ℕ) (spans : List Span) (bytes : List ℕ) (offset : ℕ)
@@ -117,50 +113,50 @@ agrees_known d n spans bytes marks has all = record {
   same_byte = λ offset here. same_known d n spans bytes offset has (all offset here);
 }
 
+-- A property of the answer: it holds if it holds for what was found, and for what a failed read missed.
+by_fault : {X T : Type 0} {f : List ℕ → Reads X} {n : ℕ} {spans : List Span} {bytes : List ℕ} {log : List Span}
+    {missed : Option Missing} {r : Result X Halt} (P : PartsAnswer T → Type 0) (found : T) (texts : Bool) → n < 2 ^ 63
+    → Called f n spans bytes log missed r → (is_faulted r ≡ false → P (Found found))
+    → ((m : Missing) → Lacks n spans bytes m → Misses (parts_state n spans bytes [] None)
+    (parts_state n spans bytes log (Some m)) (f (filled_input n spans bytes)).marks m → P (Wanted (wanted_of texts m)))
+    → P (found_or_wanted found (option_map (wanted_of texts) (cond (is_faulted r) missed None)))
+by_fault {f = f} {n = n} {spans = spans} {bytes = bytes} {log = log} {missed = missed} {r = r} P found texts short call
+    answered missing = by_test (is_faulted r) refl missed call where
+      by_test : (test : Bool) → is_faulted r ≡ test → (m : Option Missing) → Called f n spans bytes log m r
+          → P (found_or_wanted found (option_map (wanted_of texts) (cond test m None)))
+      by_test true faults None c = absurd (c.runs.misses (is_short n short) faults).told
+      by_test true faults (Some m) c = missing m (c.lacks m refl) (c.runs.misses (is_short n short) faults).told
+      by_test false no_fault m c = answered no_fault
+
 module _ {X : Type 0} (texts : Bool) (f : List ℕ → Reads X) (is_local : IsLocal texts f) (d : List ℕ) (n : ℕ)
     (spans : List Span) (bytes : List ℕ)
     (has : HasKnown d n spans bytes) (short : n < 2 ^ 63) where
-  -- where nothing is missed, it agrees with what was read
-  agreed : (log : List Span) (missed : Option Missing) (r : Result X Halt) → Called f n spans bytes log missed r
-      → is_faulted r ≡ false
-      → Agrees (filled_input n spans bytes) d (f (filled_input n spans bytes)).marks
-  agreed log missed r call no_fault =
-      let honest = is_short n short in
-      let on = only_fault r (f (filled_input n spans bytes)) refl call.runs no_fault in
-      let marked : log ≡ (f (filled_input n spans bytes)).marks = logged (parts_state n spans bytes log missed)
-      (parts_state n spans bytes ([] ++ (f (filled_input n spans bytes)).marks) None) log
-      (f (filled_input n spans bytes)).marks
-      (call.runs.state honest on ∙ past-parts n spans bytes [] None (f (filled_input n spans bytes)).marks) refl refl in
-      agrees_known d n spans bytes (f (filled_input n spans bytes)).marks has
-      (subst (λ l. AllKnown n spans bytes l) marked call.seen)
+  abbrev filled : List ℕ
+  filled = filled_input n spans bytes
 
-  -- and the answer is its own
+  -- where nothing is missed, the answer is its own, since it agrees with what was read
   right : (log : List Span) (missed : Option Missing) (r : Result X Halt) → Called f n spans bytes log missed r
       → is_faulted r ≡ false
       → r ≡ (f d).answer
   right log missed r call no_fault =
       let honest = is_short n short in
-      let on = only_fault r (f (filled_input n spans bytes)) refl call.runs no_fault in
-      let all : f d ≡ f (filled_input n spans bytes) = same_by_local f is_local (filled_input n spans bytes) d (agreed log missed r call no_fault) in
+      let on = only_fault r (f filled) refl call.runs no_fault in
+      let marked : log ≡ (f filled).marks = logged (parts_state n spans bytes log missed)
+      (parts_state n spans bytes ([] ++ (f filled).marks) None) log (f filled).marks
+      (call.runs.state honest on ∙ past-parts n spans bytes [] None (f filled).marks) refl refl in
+      let all : f d ≡ f filled = same_by_local f is_local filled d (agrees_known d n spans bytes (f filled).marks has
+      (subst (λ l. AllKnown n spans bytes l) marked call.seen)) in
       sym (call.runs.answer honest on) ∙ ap (λ w. w.answer) (sym all)
-
-  -- what is answered is what it states
-  right_stated : (log : List Span) (missed : Option Missing) (failure : ImageError) (budget : ℕ) (r : Result X Halt)
-      → Called f n spans bytes log missed r → is_faulted r ≡ false
-      → with_error failure budget r ≡ (outcome_of (f d)).answer
-  right_stated log missed failure budget r call no_fault =
-      let on = only_fault r (f (filled_input n spans bytes)) refl call.runs no_fault in
-      stated_same failure budget r on ∙ ap stated (right log missed r call no_fault)
 
   -- what is missed lies in one of its marks, and whole where no texts are read
   wanted_mark : (log : List Span) (s : Span) (made : List Span) (mark : Span) (rest : List Span)
       → AllKnown n spans bytes log → 0 < s.len
       → log ≡ made ++ span_at mark.start (s.start - mark.start)
-      → (f (filled_input n spans bytes)).marks ≡ made ++ mark ∷ rest
+      → (f filled).marks ≡ made ++ mark ∷ rest
       → mark.start ≤ s.start → s.start + s.len ≤ mark.start + mark.len
       → (is_covered (f d).marks s.start ≡ true) × (texts ≡ false → has_whole (f d).marks s ≡ true)
   wanted_mark log s made mark rest seen some is_log all from fits =
-      elim (is_local (filled_input n spans bytes) d (has.as_long ∙ sym (length-filled_input n spans bytes))) [
+      elim (is_local filled d (has.as_long ∙ sym (length-filled_input n spans bytes))) [
         | inl same ↦ both (subst (Among mark) (sym (ap (λ w. w.marks) same ∙ all)) (middle made mark rest))
         | inr parts ↦ by_cut parts (later_cut made parts.seen rest parts.rest mark parts.mark (sym all ∙ parts.here))
       ]
@@ -179,12 +175,13 @@ module _ {X : Type 0} (texts : Bool) (f : List ℕ → Reads X) (is_local : IsLo
           let begins = from in let ends = fits in let has_one = some in
           (begun mark among (grind (arith, nat_tests)), λ _. whole among)
 
-      not_seen : (parts : Parting texts (filled_input n spans bytes) d (f (filled_input n spans bytes)).marks
-          (f d).marks) → is_covered log parts.offset ≡ true → ⊥
-      not_seen parts here = parts.differs (same_known d n spans bytes parts.offset has (seen parts.offset here))
+      not_seen : (parts : Parting texts filled d (f filled).marks (f d).marks)
+          → is_covered (made ++ span_at mark.start (s.start - mark.start)) parts.offset ≡ true → ⊥
+      not_seen parts here = parts.differs (same_known d n spans bytes parts.offset has
+          (seen parts.offset (ap (λ l. is_covered l parts.offset) is_log ∙ here)))
 
       -- the inputs part behind what was seen
-      later : (parts : Parting texts (filled_input n spans bytes) d (f (filled_input n spans bytes)).marks (f d).marks)
+      later : (parts : Parting texts filled d (f filled).marks (f d).marks)
           → mark ≡ parts.mark → (parts.offset < s.start) ⊎ (s.start ≤ parts.offset) → s.start ≤ parts.offset
       later parts at (inr more) = more
       later parts at (inl less) =
@@ -192,16 +189,16 @@ module _ {X : Type 0} (texts : Bool) (f : List ℕ → Reads X) (is_local : IsLo
           let above : mark.start ≤ parts.offset = grind (arith, nat_tests) in
           let same : mark.start + (parts.offset - mark.start) ≡ parts.offset = omega (arith, above) in
           let part : List Span = span_at mark.start (s.start - mark.start) in
-          let seen_it : is_covered part parts.offset ≡ true =
-          subst (λ p. is_covered part p ≡ true) same
-          (covered-one mark.start (s.start - mark.start) (parts.offset - mark.start) (omega (arith, less, above))) in
-          absurd (not_seen parts
-          (subst (λ l. is_covered l parts.offset ≡ true) (sym is_log) (covered-right made part parts.offset seen_it)))
+          absurd (not_seen parts (covered-right made part parts.offset (subst (λ p. is_covered part p ≡ true) same
+          (covered-one mark.start (s.start - mark.start) (parts.offset - mark.start) (omega (arith, less, above))))))
 
-      at_parting : (parts : Parting texts (filled_input n spans bytes) d (f (filled_input n spans bytes)).marks
-          (f d).marks) → mark ≡ parts.mark
+      by_cut : (parts : Parting texts filled d (f filled).marks (f d).marks)
+          → Among parts.mark made ⊎ ((mark ≡ parts.mark) ⊎ ((more : List Span) → Among mark (parts.seen ++ more)))
           → (is_covered (f d).marks s.start ≡ true) × (texts ≡ false → has_whole (f d).marks s ≡ true)
-      at_parting parts at =
+      by_cut parts (inl before) = absurd (not_seen parts
+          (covered-left made (span_at mark.start (s.start - mark.start)) parts.offset
+          (covered-any made parts.offset ∙ before (λ x. has_offset x parts.offset) parts.within)))
+      by_cut parts (inr (inl at)) =
           let there : Among parts.other (f d).marks =
           subst (Among parts.other) (sym parts.there) (middle parts.seen parts.other parts.others) in
           let starts : parts.other.start ≡ mark.start = parts.start ∙ ap (λ x. x.start) (sym at) in
@@ -210,57 +207,30 @@ module _ {X : Type 0} (texts : Bool) (f : List ℕ → Reads X) (is_local : IsLo
             begun parts.other there (grind (arith, nat_tests)),
             λ none. whole (subst (λ x. Among x (f d).marks) (parts.same none ∙ sym at) there),
           )
-
-      by_cut : (parts : Parting texts (filled_input n spans bytes) d (f (filled_input n spans bytes)).marks (f d).marks)
-          → Among parts.mark made ⊎ ((mark ≡ parts.mark) ⊎ ((more : List Span) → Among mark (parts.seen ++ more)))
-          → (is_covered (f d).marks s.start ≡ true) × (texts ≡ false → has_whole (f d).marks s ≡ true)
-      by_cut parts (inl before) = absurd (not_seen parts (subst (λ l. is_covered l parts.offset ≡ true) (sym is_log)
-          (covered-left made (span_at mark.start (s.start - mark.start)) parts.offset
-          (covered-any made parts.offset ∙ before (λ x. has_offset x parts.offset) parts.within))))
-      by_cut parts (inr (inl at)) = at_parting parts at
       by_cut parts (inr (inr among)) = both (subst (Among mark) (sym parts.there) (among (parts.other ∷ parts.others)))
 
   -- where something is missed, it is wanted
-  wants : (log : List Span) (m : Missing) (r : Result X Halt) → Called f n spans bytes log (Some m) r
-      → is_faulted r ≡ true
-      → Wants texts (f d).marks n spans bytes (wanted_of texts m)
-  wants log m r call faults =
-      let is = (call.runs.misses (is_short n short) faults).told in
-      let lacks = call.lacks m refl in
-      let marked = wanted_mark log (wanted_of false m) is.made is.mark is.rest call.seen lacks.0
-      (some_is is.recorded) is.all is.behind is.within in (
-        marked.0,
-        lacks.3,
-        λ none. ap (λ (t : Bool). has_whole (f d).marks (wanted_of t m)) none ∙ marked.1 none,
-      )
-
-  -- a failure misses something
-  says_wanted : {T : Type 0} (IsSo : T → Type 0) (found : T) (log : List Span) (missed : Option Missing)
-      (r : Result X Halt)
-      → Called f n spans bytes log missed r → is_faulted r ≡ true
-      → Says texts IsSo (f d).marks n spans bytes (found_or_wanted found (option_map (wanted_of texts) missed))
-  says_wanted IsSo found log None r call faults = absurd (call.runs.misses (is_short n short) faults).told
-  says_wanted IsSo found log (Some m) r call faults = wants log m r call faults
-
-  -- by the code's test
   pub says : {T : Type 0} (IsSo : T → Type 0) (found : T) (log : List Span) (missed : Option Missing)
       (r : Result X Halt)
       → Called f n spans bytes log missed r → (is_faulted r ≡ false → IsSo found)
       → Says texts IsSo (f d).marks n spans bytes
       (found_or_wanted found (option_map (wanted_of texts) (cond (is_faulted r) missed None)))
-  says IsSo found log missed r call is_so = by_test (is_faulted r) refl where
-    by_test : (test : Bool) → is_faulted r ≡ test
-        → Says texts IsSo (f d).marks n spans bytes
-        (found_or_wanted found (option_map (wanted_of texts) (cond test missed None)))
-    by_test true faults = says_wanted IsSo found log missed r call faults
-    by_test false no_fault = is_so no_fault
+  says IsSo found log missed r call is_so = by_fault (Says texts IsSo (f d).marks n spans bytes) found texts short call is_so
+      (λ m lacks is.
+      let marked = wanted_mark log (wanted_of false m) is.made is.mark is.rest call.seen lacks.0
+      (some_is is.recorded) is.all is.behind is.within in (
+        marked.0,
+        lacks.3,
+        λ none. ap (λ (t : Bool). has_whole (f d).marks (wanted_of t m)) none ∙ marked.1 none,
+      ))
 
   pub says_of : (log : List Span) (missed : Option Missing) (failure : ImageError) (budget : ℕ) (r : Result X Halt)
       → Called f n spans bytes log missed r → SaysOf texts (outcome_of (f d)) n spans bytes
       (found_or_wanted (with_error failure budget r) (option_map (wanted_of texts) (cond (is_faulted r) missed None)))
   says_of log missed failure budget r call =
       says (λ answer. answer ≡ (outcome_of (f d)).answer) (with_error failure budget r) log missed r call
-      (right_stated log missed failure budget r call)
+      (λ no_fault. stated_same failure budget r (only_fault r (f filled) refl call.runs no_fault)
+      ∙ ap stated (right log missed r call no_fault))
 
 -- ---- the type beside a size
 
@@ -336,14 +306,10 @@ pub unstopped : {X : Type 0} (f : List ℕ → Reads X) (n : ℕ) (spans : List 
     → IfFound (found_or_wanted (with_error failure budget r)
     (option_map (wanted_of texts) (cond (is_faulted r) missed None)))
     (λ answer. is_stopped_error answer ≡ false)
-unstopped {X} f n spans bytes texts log missed failure budget r short call = by_test (is_faulted r) refl missed call where
-  by_test : (test : Bool) → is_faulted r ≡ test → (m : Option Missing) → Called f n spans bytes log m r
-      → IfFound (found_or_wanted (with_error failure budget r) (option_map (wanted_of texts) (cond test m None)))
-      (λ answer. is_stopped_error answer ≡ false)
-  by_test true faults None c = absurd (c.runs.misses (is_short n short) faults).told
-  by_test true faults (Some m) c = tt
-  by_test false no_fault m c = slice_unstopped failure budget r
-      (only_fault r (f (filled_input n spans bytes)) refl c.runs no_fault)
+unstopped f n spans bytes texts log missed failure budget r short call =
+    by_fault (λ a. IfFound a (λ answer. is_stopped_error answer ≡ false)) (with_error failure budget r) texts short call
+    (λ no_fault. slice_unstopped failure budget r (only_fault r (f (filled_input n spans bytes)) refl call.runs no_fault))
+    (λ m lacks is. tt)
 
 -- over the filled input, all that a read requests reaches to the end of its span
 pub reaches_end : {X : Type 0} (f : List ℕ → Reads X) (n : ℕ) (spans : List Span) (bytes : List ℕ) (texts : Bool)
@@ -352,22 +318,13 @@ pub reaches_end : {X : Type 0} (f : List ℕ → Reads X) (n : ℕ) (spans : Lis
     → IfWanted (found_or_wanted (with_error failure budget r)
     (option_map (wanted_of texts) (cond (is_faulted r) missed None)))
     (λ w. EndsBetween w.start (w.start + w.len) (f (filled_input n spans bytes)).marks)
-reaches_end {X} f n spans bytes texts log missed failure budget r short is_text call =
-    subst (λ b. IfWanted (found_or_wanted (with_error failure budget r)
-    (option_map (wanted_of b) (cond (is_faulted r) missed None)))
-    (λ w. EndsBetween w.start (w.start + w.len) (f (filled_input n spans bytes)).marks)) (sym is_text)
-    (by_test (is_faulted r) refl missed call) where
-      by_test : (test : Bool) → is_faulted r ≡ test → (m : Option Missing) → Called f n spans bytes log m r
-          → IfWanted (found_or_wanted (with_error failure budget r) (option_map (wanted_of true) (cond test m None)))
-          (λ w. EndsBetween w.start (w.start + w.len) (f (filled_input n spans bytes)).marks)
-      by_test true faults None c = absurd (c.runs.misses (is_short n short) faults).told
-      by_test true faults (Some m) c =
-          let is = (c.runs.misses (is_short n short) faults).told in
-          let some = (c.lacks m refl).0 in let within = is.within in let reaches = is.reaches in
-          subst (EndsBetween m.start (m.start + m.most)) (sym is.all)
-          (middle is.made is.mark is.rest
-          (λ s. leb (suc m.start) (s.start + s.len) && leb (s.start + s.len) (m.start + m.most)) (grind (arith, nat_tests)))
-      by_test false no_fault m c = tt
+reaches_end f n spans bytes texts log missed failure budget r short is_text call =
+    by_fault (λ a. IfWanted a (λ w. EndsBetween w.start (w.start + w.len) (f (filled_input n spans bytes)).marks))
+    (with_error failure budget r) texts short call (λ no_fault. tt)
+    (λ m lacks is.
+    let some = lacks.0 in let within = is.within in let reaches = is.reaches in
+    rw (is_text, is.all) (middle is.made is.mark is.rest
+    (λ s. leb (suc m.start) (s.start + s.len) && leb (s.start + s.len) (m.start + m.most)) (grind (arith, nat_tests))))
 
 pub reaches_type : (type : ImageType) (answer : PartsAnswer (Result ImageSize ImageError)) (P : Span → Type 0)
     → IfWanted answer P → IfWanted (with_type type answer) P
@@ -375,23 +332,18 @@ reaches_type type (Found answer) P is = is
 reaches_type type (Wanted w) P is = is
 
 -- the end of a read of the size is one of all reads
-pub size_ends : (d : List ℕ) (type : ImageType) (w : Span) → ◌≡◌ {A = Result ImageType ImageError} (Ok type) (kind_of d 0).answer
-    → EndsBetween w.start (w.start + w.len) (size_of type d).marks
-    → EndsBetween w.start (w.start + w.len) (meaning d 0).marks
+pub size_ends_of : (d : List ℕ) (type : ImageType) (answer : PartsAnswer (Result ImageSize ImageError))
+    → ◌≡◌ {A = Result ImageType ImageError} (Ok type) (kind_of d 0).answer
+    → IfWanted answer (λ w. EndsBetween w.start (w.start + w.len) (size_of type d).marks)
+    → IfWanted answer (λ w. EndsBetween w.start (w.start + w.len) (meaning d 0).marks)
 unfolding meaning_reads
-size_ends d type w is ends =
+size_ends_of d type (Found answer) is ends = tt
+size_ends_of d type (Wanted w) is ends =
     let found = stated_ok (kind_reads d 0).answer type (sym is) in
     let first : List Span = (kind_reads d 0).marks in
     let P : Span → Bool = λ s. leb (suc w.start) (s.start + s.len) && leb (s.start + s.len) (w.start + w.len) in
     ap (λ r. list_any P (go_on first r (λ found. size_reads found d)).marks) found
     ∙ any_right P first (size_reads type d).marks ends
-
-pub size_ends_of : (d : List ℕ) (type : ImageType) (answer : PartsAnswer (Result ImageSize ImageError))
-    → ◌≡◌ {A = Result ImageType ImageError} (Ok type) (kind_of d 0).answer
-    → IfWanted answer (λ w. EndsBetween w.start (w.start + w.len) (size_of type d).marks)
-    → IfWanted answer (λ w. EndsBetween w.start (w.start + w.len) (meaning d 0).marks)
-size_ends_of d type (Found answer) is ends = tt
-size_ends_of d type (Wanted w) is ends = size_ends d type w is ends
 
 pub unstopped_type : (type : ImageType) (answer : PartsAnswer (Result ImageSize ImageError))
     → IfFound answer (λ r. is_stopped_error r ≡ false)
@@ -439,19 +391,12 @@ pub called : {X : Type 0} (f : List ℕ → Reads X) (n m k : ℕ) (spans others
     → AllKnown m others content log → ForSome missed (Lacks m others content) → Called f n spans bytes log missed r
 called f n m k spans others given bytes content their first log before missed r told is_spans is_bytes none unmissed runs seen lacks =
     let parts = both_are others given content their (ap (λ a. parts_of a.backing) runs.frame) in
-    let one = moved (λ x y z. Runs (parts_state k given their first before) (parts_state x y z log missed) r (f (filled_input k given their))
-    × AllKnown x y z log × ForSome missed (Lacks x y z)) k m given others their content (ap (λ a. a.told) runs.frame) parts.0 parts.1
-    (runs, seen, lacks) in
-    let two = moved (λ x y z. Runs (parts_state x y z first before) (parts_state x y z log missed) r
-    (f (filled_input x y z))
-    × AllKnown x y z log × ForSome missed (Lacks x y z)) n k spans given bytes their told is_spans is_bytes
-    (one.0, one.1, one.2) in
+    let same : m ≡ k = ap (λ a. a.told) runs.frame in
+    let run = rw (same, parts.0, parts.1) at runs in
+    let known = rw (same, parts.0, parts.1) at seen in
+    let missing = rw (same, parts.0, parts.1) at lacks in
     record {
-      runs = subst (λ l. Runs (parts_state n spans bytes l None) (parts_state n spans bytes log missed) r
-          (f (filled_input n spans bytes))) none
-          (subst (λ m. Runs (parts_state n spans bytes first m) (parts_state n spans bytes log missed) r
-          (f (filled_input n spans bytes)))
-          unmissed two.0);
-      seen = two.1;
-      lacks = two.2;
+      runs = rw (told, is_spans, is_bytes, none, unmissed) at run;
+      seen = rw (told, is_spans, is_bytes) at known;
+      lacks = rw (told, is_spans, is_bytes) at missing;
     }

@@ -1,5 +1,5 @@
 -- Each span that an answer rests on has a byte, and lies within the input.
-use Rattle.std.proofs.Common.{◌≡◌, ℕ, ◌+◌, ◌-◌, ◌<◌, ◌≤◌, min, Bool, true, false, cond, eqb, List, [], ◌∷◌, ◌++◌, length, take, suc, Option, Some, None, Result, Ok, Err, refl, ap, ◌∙◌, arith}
+use Rattle.std.proofs.Common.{◌≡◌, ℕ, ◌+◌, ◌-◌, ◌<◌, ◌≤◌, min, eqb, List, [], ◌∷◌, ◌++◌, length, take, suc, Option, Some, None, Result, Ok, Err, ap, ◌∙◌, arith}
 use Rattle.std.specs.Prelude.{codes, flat_map}
 use Rattle.std.specs.Option.{option_map_or}
 use Rattle.std.specs.List.{range_with_len}
@@ -8,14 +8,14 @@ use Rattle.std.proofs.lemmas.Bool.Decides.{nat_tests}
 use Rattle.std.proofs.lemmas.List.Elements.{All-append, All-nil}
 use Rattle.std.proofs.lemmas.Grind.{common_steps}
 use Rattle.imagesize_boxes.specs.Heif.{heif, heif_in_iprp, heif_in_meta, properties, search_for}
-use Rattle.imagesize_boxes.specs.Jxl.{codestream, jxl, jxl_chain, jxl_codestream, jxl_size, jxl_start}
-use Rattle.imagesize_texts.specs.Exr.{exr, exr_attributes, name_room}
-use Rattle.imagesize_texts.specs.Hdr.{hdr, hdr_identifier, hdr_lines}
+use Rattle.imagesize_boxes.specs.Jxl.{codestream, jxl_chain, jxl_codestream, jxl_size, jxl_start}
+use Rattle.imagesize_texts.specs.Exr.{exr_attributes, name_room}
+use Rattle.imagesize_texts.specs.Hdr.{hdr_identifier, hdr_lines}
 use Rattle.imagesize_texts.specs.Pnm.{pnm_words}
-use Rattle.imagesize_walked.specs.Ico.{ico, icon_entries}
+use Rattle.imagesize_walked.specs.Ico.{icon_entries}
 use Rattle.imagesize_walked.specs.Ilbm.{ilbm_chunks}
 use Rattle.imagesize_walked.specs.Jpeg.{jpeg_segments}
-use Rattle.imagesize_walked.specs.Tiff.{count_bytes, tiff, tiff_directory, tiff_entries, tiff_header}
+use Rattle.imagesize_walked.specs.Tiff.{count_bytes, tiff_directory, tiff_entries, tiff_header}
 use Rattle.imagesize.proofs.Counts.{cost_within}
 use Rattle.imagesize.specs.Kind.{kind}
 use Rattle.imagesize.specs.Meaning.{kind_reads, meaning_reads, size_reads}
@@ -38,21 +38,17 @@ use Rattle.imagesize_source.specs.declared.span.Span.{Span}
 use Rattle.imagesize_io.proofs.Leaving.{EndsWithin}
 use Rattle.imagesize_source.proofs.Counts.{place_within, text_length}
 use Rattle.imagesize_source.proofs.Parts.{part_length}
+use Rattle.imagesize_source.proofs.Tests.{on_test}
 
 one_within : (n : ℕ) (s : Span) → IsWithin n s → AreWithin n (s ∷ [])
 one_within n s is = grind (arith, common_steps)
 
--- what has a byte and lies within
-by_count : (n offset count : ℕ) (none : Bool) → eqb count 0 ≡ none → (0 < count → offset + count ≤ n)
-    → AreWithin n (cond none [] (record { start = offset; len = count } ∷ []))
-by_count n offset count true is fits = All-nil (IsWithin n)
-by_count n offset count false is fits =
-    let some : 0 < count = grind (arith, nat_tests) in
-    one_within n (record { start = offset; len = count }) (some, fits some)
-
 span_within : (n offset count : ℕ) → (0 < count → offset + count ≤ n) → AreWithin n (span_at offset count)
 unfolding span_at
-span_within n offset count fits = by_count n offset count (eqb count 0) refl fits
+span_within n offset count fits = on_test (AreWithin n) (eqb count 0) [] (record { start = offset; len = count } ∷ [])
+    (λ _. All-nil (IsWithin n))
+    (λ is. let some : 0 < count = grind (arith, nat_tests) in
+    one_within n (record { start = offset; len = count }) (some, fits some))
 
 reading_within : (d : List ℕ) (offset k : ℕ) → AreWithin (length d) (span_of d offset k)
 unfolding span_of
@@ -101,18 +97,6 @@ unfolding chain_from
 chain_within c d = records_within c d (start c) (range_with_len 0 (records_from c d (start c)))
 
 -- of each format that is no layout
-ico_within : (d : List ℕ) → AreWithin (length d) (ico d).marks
-ico_within d = then_within (length d) (number_read d Little 4 2) (λ count. chain_at (icon_entries count) d)
-    (reading_within d 4 2)
-    (λ count. chain_within (icon_entries count) d)
-
-tiff_within : (d : List ℕ) → AreWithin (length d) (tiff d).marks
-tiff_within d =
-    then_within (length d) (layout_reads d tiff_header) (tiff_directory d) (layout_within d tiff_header)
-    (λ header. then_within (length d) (number_read d header.order header.directory (count_bytes header.version))
-    (λ count. chain_at (tiff_entries header count) d) (reading_within d header.directory (count_bytes header.version))
-    (λ count. chain_within (tiff_entries header count) d))
-
 heif_within : (d : List ℕ) → AreWithin (length d) (heif d).marks
 heif_within d =
     then_within (length d) (number_read d Big 0 4)
@@ -135,24 +119,6 @@ codestream_within : (d : List ℕ) (found : Option (List ℕ)) → AreWithin (le
 codestream_within d None = chain_within jxl_chain d
 codestream_within d (Some front) = All-nil (IsWithin (length d))
 
-jxl_within : (d : List ℕ) → AreWithin (length d) (jxl d).marks
-jxl_within d =
-    then_within (length d) (jxl_codestream d) (λ front. just (jxl_size front) [])
-    (then_within (length d) (layout_reads d jxl_start) (codestream d) (layout_within d jxl_start) (codestream_within d))
-    (λ front. All-nil (IsWithin (length d)))
-
-exr_within : (d : List ℕ) → AreWithin (length d) (exr d).marks
-exr_within d =
-    then_within (length d) (number_read d Little 4 4) (λ version. chain_at (exr_attributes (name_room version)) d)
-    (reading_within d 4 4)
-    (λ version. chain_within (exr_attributes (name_room version)) d)
-
-hdr_within : (d : List ℕ) → AreWithin (length d) (hdr d).marks
-hdr_within d =
-    then_within (length d) (layout_reads d hdr_identifier) (λ first. chain_at (hdr_lines first) d)
-    (layout_within d hdr_identifier)
-    (λ first. chain_within (hdr_lines first) d)
-
 -- what is owed of a size, by the way in which it is found
 abbrev IsMarked : Way ImageSize → Type 0
 IsMarked (Fixed most layout) = Unit {0}
@@ -165,15 +131,24 @@ way_within (Recorded outside each stated reads) d marked = marked d
 way_within (Texts reads) d marked = marked d
 
 type_marked : (type : ImageType) → IsMarked (way_of type)
-type_marked Exr = exr_within
-type_marked Hdr = hdr_within
+type_marked Exr = λ d. then_within (length d) (number_read d Little 4 4)
+    (λ version. chain_at (exr_attributes (name_room version)) d) (reading_within d 4 4)
+    (λ version. chain_within (exr_attributes (name_room version)) d)
+type_marked Hdr = λ d. then_within (length d) (layout_reads d hdr_identifier) (λ first. chain_at (hdr_lines first) d)
+    (layout_within d hdr_identifier) (λ first. chain_within (hdr_lines first) d)
 type_marked (Heif _) = heif_within
-type_marked Ico = ico_within
+type_marked Ico = λ d. then_within (length d) (number_read d Little 4 2) (λ count. chain_at (icon_entries count) d)
+    (reading_within d 4 2) (λ count. chain_within (icon_entries count) d)
 type_marked Ilbm = chain_within ilbm_chunks
 type_marked Jpeg = chain_within jpeg_segments
-type_marked Jxl = jxl_within
+type_marked Jxl = λ d. then_within (length d) (jxl_codestream d) (λ front. just (jxl_size front) [])
+    (then_within (length d) (layout_reads d jxl_start) (codestream d) (layout_within d jxl_start) (codestream_within d))
+    (λ front. All-nil (IsWithin (length d)))
 type_marked Pnm = chain_within pnm_words
-type_marked Tiff = tiff_within
+type_marked Tiff = λ d. then_within (length d) (layout_reads d tiff_header) (tiff_directory d) (layout_within d tiff_header)
+    (λ header. then_within (length d) (number_read d header.order header.directory (count_bytes header.version))
+    (λ count. chain_at (tiff_entries header count) d) (reading_within d header.directory (count_bytes header.version))
+    (λ count. chain_within (tiff_entries header count) d))
 type_marked _ = tt
 
 -- the marks of a size, and of a type with it

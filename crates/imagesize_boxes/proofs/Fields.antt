@@ -1,10 +1,11 @@
 -- Fields of bits: what more bits leave, and the bits as a number.
 use Rattle.std.proofs.Common.{◌≡◌, ℕ, zero, suc, ◌+◌, ◌-◌, ◌*◌, ◌/◌, ◌%◌, ◌^◌, ◌<◌, ◌≤◌, Bool, true, false, cond, leb, List, [], ◌∷◌, ◌++◌, length, take, drop, get_or, bit_and, Result, Ok, Err, refl, sym, ap, ◌∙◌, subst, add-one, arith}
 use Rattle.std.proofs.lemmas.Bool.Decides.{nat_tests}
-use Rattle.std.proofs.lemmas.List.{length-append, length-drop, length-take, length-take-le, drop-append-le, take-append-drop, take-append-le}
+use Rattle.std.proofs.lemmas.List.{drop-take, length-append, length-drop, length-take, length-take-le, drop-append-le, take-append-drop, take-append-le, take-take}
+use Rattle.std.proofs.Math.Seq.{take-nil}
 use Rattle.std.proofs.Math.Numerals.{one-add}
 use Rattle.std.proofs.Math.Pow.{mod-mod-pow}
-use Rattle.std.proofs.lemmas.Nat.{and_mask, one_shl, pow_pos, mod-pow-add, shr-shr, field_of}
+use Rattle.std.proofs.lemmas.Nat.{and_mask, one_shl, pow_pos, mod-pow-add, shr-shr}
 use Rattle.std.specs.Int.{w128, from_le_bytes}
 use Rattle.imagesize_source.specs.declared.halt.Halt.{Halt}
 use Rattle.imagesize_source.specs.declared.halt.Halt.TheVariants.{Corrupted}
@@ -118,18 +119,13 @@ drop_bits zero list h = h
 drop_bits (suc k) [] h = no_bits
 drop_bits (suc k) (b ∷ list) (one_bit is rest) = drop_bits k list rest
 
--- a field of the bits of bytes is that of their number
-pub field_same : (bytes : List ℕ) → ((i : ℕ) → get_or bytes i 0 < 256) → (from count : ℕ)
-    → field_at (bits_of bytes) from count
-    ≡ field_in (little bytes) (8 * length bytes) from count
-unfolding field_at
-field_same bytes small from count =
-    let long = length-bits_of bytes in
-    let value : binary (take count (drop from (bits_of bytes))) ≡ little bytes / 2 ^ from % 2 ^ count =
+-- some bits of the bytes are the same bits of their number
+bits_value : (bytes : List ℕ) → ((i : ℕ) → get_or bytes i 0 < 256) → (from count : ℕ)
+    → binary (take count (drop from (bits_of bytes))) ≡ little bytes / 2 ^ from % 2 ^ count
+bits_value bytes small from count =
     binary_take count (drop from (bits_of bytes)) (drop_bits from (bits_of bytes) (are_bits bytes))
     ∙ ap (λ n. n % 2 ^ count)
-    (binary_drop from (bits_of bytes) (are_bits bytes) ∙ ap (λ n. n / 2 ^ from) (binary_of bytes small)) in
-    rw (long, value) refl
+    (binary_drop from (bits_of bytes) (are_bits bytes) ∙ ap (λ n. n / 2 ^ from) (binary_of bytes small))
 
 is_there : (b : Bool) (m n : ℕ) → ◌≡◌ {A = Result ℕ Halt} (cond b (Ok m) (Err Corrupted)) (Ok n) → b ≡ true
 is_there true m n is = refl
@@ -165,56 +161,37 @@ found_more list more (bits from count f) v is =
     (λ n. found_by (field_at (list ++ more)) (f n)) v
     (λ n at. field_more list more from count n at) (λ n at. found_more list more (f n) v at) is
 
--- the first bytes have the lowest bits
-little_take : (k : ℕ) (bytes : List ℕ) → ((i : ℕ) → get_or bytes i 0 < 256)
-    → little (take k bytes) ≡ little bytes % 2 ^ (8 * k)
-little_take zero bytes small = omega arith
-little_take (suc k) [] small = let some = pow_pos (8 * suc k) in omega arith
-little_take (suc k) (b ∷ bytes) small =
-    let here : b < 256 = small 0 in
-    let rest = little_take k bytes (λ i. small (suc i)) in
-    let n : ℕ = b + 256 * little bytes in
-    let e : 8 * suc k ≡ 8 * k + 8 = omega arith in
-    let all : n % 2 ^ (8 * suc k) ≡ (n / 256 % 2 ^ (8 * k)) * 256 + n % 256 = ap (λ m. n % 2 ^ m) e
-    ∙ mod-pow-add n (8 * k) 8 in
-    let high : n / 256 ≡ little bytes = omega arith in
-    let same : n / 256 % 2 ^ (8 * k) ≡ little bytes % 2 ^ (8 * k) = ap (λ m. m % 2 ^ (8 * k)) high in
-    omega arith
-
--- a field sees no bits behind those that are there
-lowest_alike : (n from count rest : ℕ) → n % 2 ^ (rest + count + from) / 2 ^ from % 2 ^ count ≡ n / 2 ^ from % 2 ^ count
-lowest_alike n from count rest = ap (λ m. m % 2 ^ count) (field_of n (rest + count) from)
-    ∙ mod-mod-pow (n / 2 ^ from) rest count
-
-field_lowest : (n there from count : ℕ) → field_in (n % 2 ^ there) there from count ≡ field_in n there from count
-field_lowest n there from count = by_test (leb (from + count) there) refl where
-  by_test : (within : Bool) → leb (from + count) there ≡ within
-      → field_in (n % 2 ^ there) there from count ≡ field_in n there from count
-  by_test true is =
-      let within : from + count ≤ there = grind (arith, nat_tests) in
-      let all : (there - (from + count)) + count + from ≡ there = omega arith in
-      let same : n % 2 ^ there / 2 ^ from % 2 ^ count ≡ n / 2 ^ from % 2 ^ count =
-      ap (λ e. n % 2 ^ e / 2 ^ from % 2 ^ count) (sym all)
-      ∙ lowest_alike n from count (there - (from + count)) in
-      rw (is, same) refl
-  by_test false is = rw is refl
-
-small_take : (k : ℕ) (bytes : List ℕ) → ((i : ℕ) → get_or bytes i 0 < 256) → (i : ℕ) → get_or (take k bytes) i 0 < 256
-small_take zero bytes small i = omega arith
-small_take (suc k) [] small i = omega arith
-small_take (suc k) (b ∷ bytes) small zero = small 0
-small_take (suc k) (b ∷ bytes) small (suc i) = small_take k bytes (λ j. small (suc j)) i
+-- the bits of the first bytes are the first bits
+bits_take : (k : ℕ) (bytes : List ℕ) → bits_of (take k bytes) ≡ take (8 * k) (bits_of bytes)
+unfolding bits_of low_bits
+bits_take zero bytes = refl
+bits_take (suc k) [] = sym (take-nil (8 * suc k))
+bits_take (suc k) (b ∷ bytes) =
+    let eight_more : 8 * suc k ≡ suc (suc (suc (suc (suc (suc (suc (suc (8 * k)))))))) = omega arith in
+    rw (eight_more, bits_take k bytes) refl
 
 -- a field of the first bytes is that of the number of all
 pub field_front : (bytes : List ℕ) (len : ℕ) → ((i : ℕ) → get_or bytes i 0 < 256) → len ≤ length bytes
     → (from count : ℕ)
     → field_at (bits_of (take len bytes)) from count ≡ field_in (little bytes) (8 * len) from count
+unfolding field_at
 field_front bytes len small within from count =
-    let long : length (take len bytes) ≡ len = length-take-le len bytes within in
-    field_same (take len bytes) (small_take len bytes small) from count
-    ∙ ap (λ k. field_in (little (take len bytes)) (8 * k) from count) long
-    ∙ ap (λ n. field_in n (8 * len) from count) (little_take len bytes small)
-    ∙ field_lowest (little bytes) (8 * len) from count
+    let long : length (bits_of (take len bytes)) ≡ 8 * len =
+    length-bits_of (take len bytes) ∙ ap (λ n. 8 * n) (length-take-le len bytes within) in
+    rw long (by_test (leb (from + count) (8 * len)) refl) where
+      by_test : (all : Bool) → leb (from + count) (8 * len) ≡ all
+          → ◌≡◌ {A = Result ℕ Halt} (cond all (Ok (binary (take count (drop from (bits_of (take len bytes)))))) (Err Corrupted))
+          (cond all (Ok (little bytes / 2 ^ from % 2 ^ count)) (Err Corrupted))
+      by_test false is = refl
+      by_test true is =
+          let fits : from + count ≤ 8 * len = grind (arith, nat_tests) in
+          let split : 8 * len ≡ from + (8 * len - from) = omega arith in
+          let front : take (8 * len) (bits_of bytes) ≡ take (from + (8 * len - from)) (bits_of bytes) =
+          ap (λ n. take n (bits_of bytes)) split in
+          ap Ok (ap (λ list. binary (take count (drop from list))) (bits_take len bytes ∙ front)
+          ∙ ap (λ list. binary (take count list)) (drop-take from (8 * len - from) (bits_of bytes))
+          ∙ ap binary (take-take count (8 * len - from) (drop from (bits_of bytes)) (omega arith))
+          ∙ bits_value bytes small from count)
 
 -- the mask of 64 bits
 pub low_mask : (n : ℕ) → bit_and n (2 ^ 64 - 1) ≡ n % 2 ^ 64

@@ -1,6 +1,6 @@
 -- HEIF: how its searches and the walk along its properties go, how many bytes they are read from, and what they see
 -- of an input.
-use Rattle.std.proofs.Common.{◌≡◌, ℕ, ◌+◌, ◌-◌, ◌*◌, ◌^◌, ◌<◌, ◌≤◌, min, max, Bool, true, false, cond, eqb, List, [], ◌∷◌, ◌++◌, length, drop, map, Option, Some, None, Result, Ok, Err, is_some, refl, sym, ap, ◌∙◌, subst, arith, slice_index, slice_index_or}
+use Rattle.std.proofs.Common.{◌≡◌, ℕ, ◌+◌, ◌-◌, ◌^◌, ◌<◌, ◌≤◌, min, max, Bool, true, false, cond, eqb, List, [], ◌∷◌, ◌++◌, length, drop, map, Option, Some, None, Result, Ok, Err, is_some, refl, sym, ap, ◌∙◌, subst, arith, slice_index, slice_index_or}
 use Rattle.std.proofs.lemmas.Bool.Decides.{nat_tests}
 use Rattle.std.proofs.Math.Nat.{add-zero}
 use Rattle.std.proofs.lemmas.Grind.{flat_map-append}
@@ -11,7 +11,7 @@ use Rattle.std.specs.Int.{w32, from_be_bytes}
 use Rattle.std.specs.List.{find, last_or, sum_by}
 use Rattle.std.specs.Option.{option_or}
 use Rattle.std.specs.Prelude.{codes, flat_map, fold, nat_lt, nat_le, unwrap_or, ok_or, option_map, slice_get, filter}
-use Rattle.imagesize_boxes.specs.Heif.{heif_compression, is_general, is_named, box_size, box_searched, search_for, searched_box, extents_size, property_named, property_found, property_at, property_bytes, extents_of, rotations_of, skipped_bytes, no_pixels, largest_or_none, largest_extents, turn_by, heif_answer, property_or_answer, properties, heif, heif_in_meta, heif_in_iprp}
+use Rattle.imagesize_boxes.specs.Heif.{heif_compression, is_general, is_named, box_size, box_searched, search_for, searched_box, extents_size, property_found, property_at, property_bytes, extents_of, rotations_of, skipped_bytes, no_pixels, largest_or_none, largest_extents, turn_by, heif_answer, property_or_answer, properties, heif, heif_in_meta, heif_in_iprp}
 use Rattle.imagesize_boxes.specs.Walks.{Amounts, Largest, earlier_largest, gathered_with, gathered_answer}
 use Rattle.imagesize_boxes.specs.declared.formats.heif.FoundBox.{FoundBox}
 use Rattle.imagesize_boxes.specs.declared.formats.heif.Gathered.{Gathered}
@@ -25,12 +25,12 @@ use Rattle.imagesize_source.specs.declared.halt.Halt.{Halt}
 use Rattle.imagesize_source.specs.declared.halt.Halt.TheVariants.{Corrupted, Ended, InvalidHeifBoxSize, NotEnoughData}
 use Rattle.imagesize_source.specs.declared.endian.Endian.TheVariants.{Big}
 use Rattle.imagesize_source.specs.Agreement.{IsLocal}
-use Rattle.imagesize_source.specs.Chain.{Said, Decided, Next, Advances, start, verdict, chain_at}
+use Rattle.imagesize_source.specs.Chain.{Said, Decided, Next, Advances, Chain, next_record, start, verdict, chain_at}
 use Rattle.imagesize_source.specs.Counts.{AtMost}
 use Rattle.imagesize_source.specs.Input.{span_of}
 use Rattle.imagesize_source.specs.Layout.{Layout, bytes, refuse, done, layout_reads, bind, whole}
 use Rattle.imagesize_source.specs.Numbers.{number}
-use Rattle.imagesize_source.specs.Reading.{and_then, bytes_at, bytes_read, just, number_read, refuses, map_answer, uncounted, with_answer}
+use Rattle.imagesize_source.specs.Reading.{Reads, and_then, bytes_at, bytes_read, just, number_read, refuses, map_answer, uncounted, with_answer}
 use Rattle.imagesize_source.specs.State.{State, Runs, total}
 use Rattle.imagesize_source.proofs.Always.{CompressionLaws}
 use Rattle.imagesize_source.proofs.Advances.{Tells, advances}
@@ -80,46 +80,31 @@ pub search_ends : (tag : List ℕ) (d : List ℕ) (offset : ℕ) → length d �
 search_ends tag d offset far =
     ap uncounted (bytes_beyond d offset 8 (λ head. box_searched tag offset head) far (omega arith))
 
-search_beyond : (tag : List ℕ) (d : List ℕ) (offset : ℕ) → length d ≤ offset
-    → uncounted (chain_at (search_for tag offset) d) ≡ refuses Ended
-search_beyond tag d offset far =
-    let none = search_ends tag d offset far in
-    ap uncounted (chain_stop (search_for tag offset) d (start (search_for tag offset)) (Err Ended)
-    (ap (λ r. verdict r.answer) none))
-    ∙ ap (with_answer (Err Ended)) none
+-- a chain returns the error of its first record
+refused_chain : {C X : Type 0} (c : Chain C X) (d : List ℕ) (e : Halt)
+    → uncounted (next_record c d (start c)) ≡ refuses e → uncounted (chain_at c d) ≡ refuses e
+refused_chain c d e none = ap uncounted (chain_stop c d (start c) (Err e) (ap (λ r. verdict r.answer) none))
+    ∙ ap (with_answer (Err e)) none
 
 pub search_saturated : {a b : State} {r : Result FoundBox Halt} (tag : List ℕ) (offset at : ℕ)
     → Runs a b r (chain_at (search_for tag at) a.held.input) → at ≡ min offset (2 ^ 64 - 1)
     → Runs a b r (chain_at (search_for tag offset) a.held.input)
 search_saturated tag offset at = saturated_by (λ p d. chain_at (search_for tag p) d) (refuses Ended) offset at
-    (λ d p far. search_beyond tag d p far)
+    (λ d p far. refused_chain (search_for tag p) d Ended (search_ends tag d p far))
 
 -- what holds of each property, by its name
-by_named : (P : Layout (Option Property) → Type 0) (left offset : ℕ) (head : List ℕ) → P (done None)
-    → P (refuse Corrupted)
-    → P (bytes (offset + 8) 12 (λ content. done (Some (Extents (extents_size content)))))
-    → P (bytes (offset + 8) 1 (λ content. done (Some (Rotation (slice_index content 0)))))
-    → (8 ≤ box_size head → P (done (Some (Skipped (box_size head))))) → P (property_named left offset head)
-by_named P left offset head end bad extents rotation skipped =
-    on_test P (nat_lt (box_size head) 8) (cond (is_named (codes "mdat") head) (done None) (refuse Corrupted)) _
-    (λ _. on_test P (is_named (codes "mdat") head) (done None) (refuse Corrupted) (λ _. end) (λ _. bad))
-    (λ big. on_test P (is_named (codes "ispe") head)
-    (bytes (offset + 8) 12 (λ content. done (Some (Extents (extents_size content))))) _
-    (λ _. extents)
-    (λ _. on_test P (is_named (codes "irot") head)
-    (bytes (offset + 8) 1 (λ content. done (Some (Rotation (slice_index content 0))))) _
-    (λ _. rotation)
-    (λ _. on_test P (nat_le left (box_size head)) (done None) (done (Some (Skipped (box_size head)))) (λ _. end)
-    (λ _. skipped (grind (arith, nat_tests))))))
-
 pub by_found : (P : Layout (Option Property) → Type 0) (left offset : ℕ) (found : Option (List ℕ)) → P (done None)
     → P (refuse Corrupted)
     → P (bytes (offset + 8) 12 (λ content. done (Some (Extents (extents_size content)))))
     → P (bytes (offset + 8) 1 (λ content. done (Some (Rotation (slice_index content 0)))))
     → ((size : ℕ) → 8 ≤ size → P (done (Some (Skipped size)))) → P (property_found left offset found)
 by_found P left offset None end bad extents rotation skipped = end
-by_found P left offset (Some head) end bad extents rotation skipped = by_named P left offset head end bad extents rotation
-    (skipped (box_size head))
+by_found P left offset (Some head) end bad extents rotation skipped = on_test P (nat_lt (box_size head) 8) _ _
+    (λ _. on_test P (is_named (codes "mdat") head) _ _ (λ _. end) (λ _. bad))
+    (λ big. on_test P (is_named (codes "ispe") head) _ _ (λ _. extents)
+    (λ _. on_test P (is_named (codes "irot") head) _ _ (λ _. rotation)
+    (λ _. on_test P (nat_le left (box_size head)) _ _ (λ _. end)
+    (λ _. skipped (box_size head) (grind (arith, nat_tests))))))
 
 -- and of each way that the list ends
 by_answer : (P : Layout (Said Property ImageSize) → Type 0) (best : Option ImageSize) (turn : Option ℕ)
@@ -209,66 +194,52 @@ largest_by best sizes size true test h =
     let some : eqb (area_of size) 0 ≡ false = grind (arith, nat_tests) in
     let found : find (λ s. eqb (area_of s) (area_of size)) (sizes ++ size ∷ []) ≡ Some size =
     find-append (λ s. eqb (area_of s) (area_of size)) sizes (size ∷ [])
-    ∙ ap (λ o. option_or o (find (λ s. eqb (area_of s) (area_of size)) (size ∷ [])))
-    (none_above 0 (area_of size) sizes more)
-    ∙ ap (λ b. cond b (Some size) None) here in
-    let first : largest_or_none (sizes ++ size ∷ []) ≡ size = first_is (sizes ++ size ∷ [])
-    ∙ ap (λ n. first_of n (sizes ++ size ∷ [])) now
-    ∙ ap (λ b. cond b no_pixels
-    (unwrap_or (find (λ s. eqb (area_of s) (area_of size)) (sizes ++ size ∷ [])) no_pixels)) some
-    ∙ ap (λ o. unwrap_or o no_pixels) found in
-    record {
-      is = largest_some sizes size ∙ ap Some first;
-      first = first;
-      area = now;
-      found = λ _. ap (λ n. is_some (find (λ s. eqb (area_of s) n) (sizes ++ size ∷ []))) now ∙ ap is_some found;
-    }
+    ∙ rw (none_above 0 (area_of size) sizes more, here) refl in
+    let all : first_of (greatest_area (sizes ++ size ∷ [])) (sizes ++ size ∷ []) ≡ size = rw (now, some, found) refl in
+    let first : largest_or_none (sizes ++ size ∷ []) ≡ size = first_is (sizes ++ size ∷ []) ∙ all in
+    record { is = largest_some sizes size ∙ ap Some first; first = first; area = now; found = λ _. rw (now, found) refl }
 largest_by best sizes size false test h =
     let was = h.area in
     let push = greatest_push sizes size in
     let no_more : area_of size ≤ greatest_area sizes = grind (arith, nat_tests) in
     let now : greatest_area (sizes ++ size ∷ []) ≡ greatest_area sizes = omega arith in
     let p : ImageSize → Bool = λ s. eqb (area_of s) (greatest_area sizes) in
-    let found : 0 < greatest_area sizes
-    → find p (sizes ++ size ∷ []) ≡ find p sizes = λ some. find-append p sizes (size ∷ []) ∙ or_first
-    (find p sizes) (find p (size ∷ [])) (h.found some) in
-    let first : largest_or_none (sizes ++ size ∷ []) ≡ unwrap_or best no_pixels =
-    first_is (sizes ++ size ∷ []) ∙ ap (λ n. first_of n (sizes ++ size ∷ [])) now
-    ∙ same_unless (eqb (greatest_area sizes) 0) no_pixels (unwrap_or (find p (sizes ++ size ∷ [])) no_pixels)
-    (unwrap_or (find p sizes) no_pixels) (λ some. ap (λ o. unwrap_or o no_pixels) (found (grind (arith, nat_tests))))
-    ∙ sym (first_is sizes) ∙ h.first in
+    let found : 0 < greatest_area sizes → find p (sizes ++ size ∷ []) ≡ find p sizes =
+    λ some. find-append p sizes (size ∷ []) ∙ or_first (find p sizes) (find p (size ∷ [])) (h.found some) in
+    let all : first_of (greatest_area sizes) (sizes ++ size ∷ []) ≡ first_of (greatest_area sizes) sizes =
+    same_unless (eqb (greatest_area sizes) 0) no_pixels (unwrap_or (find p (sizes ++ size ∷ [])) no_pixels)
+    (unwrap_or (find p sizes) no_pixels) (λ some. ap (λ o. unwrap_or o no_pixels) (found (grind (arith, nat_tests)))) in
+    let first : largest_or_none (sizes ++ size ∷ []) ≡ unwrap_or best no_pixels = first_is (sizes ++ size ∷ [])
+    ∙ ap (λ n. first_of n (sizes ++ size ∷ [])) now ∙ all ∙ sym (first_is sizes) ∙ h.first in
     record {
       is = largest_some sizes size ∙ ap Some first;
       first = first;
       area = now ∙ h.area ∙ sym (area_or best);
-      found = λ some. ap (λ n. is_some (find (λ s. eqb (area_of s) n) (sizes ++ size ∷ []))) now
-          ∙ ap is_some (found (omega arith))
-          ∙ h.found (omega arith);
+      found = λ some. rw (now, found (omega arith)) (h.found (omega arith));
     }
 
 none_more : {X : Type 0} (f : Property → List X) (held : List Property) (property : Property) → f property ≡ []
     → flat_map f (held ++ property ∷ []) ≡ flat_map f held
-none_more f held property none = flat_map-append f held (property ∷ []) ∙ ap (λ xs. flat_map f held ++ (xs ++ [])) none
-    ∙ append-nil
-    (flat_map f held)
+none_more f held property none =
+    flat_map-append f held (property ∷ []) ∙ rw (none, append-nil (flat_map f held)) refl
 
 pub amounts_on : (all : ℕ) (g : Gathered) (held : List Property) (property : Property) → Amounts all g held
     → Amounts all (gathered_with g property) (held ++ property ∷ [])
 amounts_on all g held (Extents size) h = record {
-  left = let was = h.left in let push = sum_by_push skipped_bytes held (Extents size) in omega arith;
+  left = omega (arith, h.left, sum_by_push skipped_bytes held (Extents size));
   best = subst (Largest (Some (earlier_largest g.best size)))
       (sym (flat_map-append extents_of held (Extents size ∷ [])))
       (largest_by g.best (flat_map extents_of held) size (nat_lt (area_if_some g.best) (area_of size)) refl h.best);
   turn = ap (last_or None) (none_more rotations_of held (Extents size) refl) ∙ h.turn;
 }
 amounts_on all g held (Rotation turn) h = record {
-  left = let was = h.left in let push = sum_by_push skipped_bytes held (Rotation turn) in omega arith;
+  left = omega (arith, h.left, sum_by_push skipped_bytes held (Rotation turn));
   best = subst (Largest g.best) (sym (none_more extents_of held (Rotation turn) refl)) h.best;
   turn = ap (last_or None) (flat_map-append rotations_of held (Rotation turn ∷ []))
       ∙ last_push None (flat_map rotations_of held) turn;
 }
 amounts_on all g held (Skipped size) h = record {
-  left = let was = h.left in let push = sum_by_push skipped_bytes held (Skipped size) in omega arith;
+  left = omega (arith, h.left, sum_by_push skipped_bytes held (Skipped size));
   best = subst (Largest g.best) (sym (none_more extents_of held (Skipped size) refl)) h.best;
   turn = ap (last_or None) (none_more rotations_of held (Skipped size) refl) ∙ h.turn;
 }
@@ -298,9 +269,8 @@ module _ {b end : State} (all : ℕ) (g : Gathered) (offset : ℕ) (held : List 
       → Runs b end r (layout_reads b.held.input (bind (property_at g.left offset) (property_or_answer held offset)))
       → Runs b end r (layout_reads b.held.input
       (bind (property_at (all - sum_by skipped_bytes held) offset) (property_or_answer held offset)))
-  said_by {r} run =
-      subst (λ n. Runs b end r (layout_reads b.held.input (bind (property_at n offset) (property_or_answer held offset))))
-      (sym h.left) run
+  said_by {r} = subst (λ n. Runs b end r (layout_reads b.held.input
+      (bind (property_at n offset) (property_or_answer held offset)))) (sym h.left)
 
   pub listed_next : (property : Property)
       → Runs b end (Ok (Some property)) (layout_reads b.held.input (property_at g.left offset))
@@ -327,23 +297,18 @@ list_ends all g held h d offset far =
     none_listed d held (all - sum_by skipped_bytes held) offset far
     ∙ ap uncounted (answers all g held offset d h ∙ answer_read d g.best g.turn)
 
-none_gathered : (all offset : ℕ) (d : List ℕ) → length d ≤ offset
-    → uncounted (chain_at (properties all offset) d) ≡ refuses NotEnoughData
-none_gathered all offset d far =
-    let says = list_ends all (record { left = all; best = None; turn = None }) [] (record {
-      left = omega arith;
-      best = record { is = refl; first = refl; area = refl; found = λ some. absurd (omega arith) };
-      turn = refl;
-    }) d offset far in
-    ap uncounted (chain_stop (properties all offset) d (start (properties all offset)) (Err NotEnoughData)
-    (ap (λ r. verdict r.answer) says))
-    ∙ ap (with_answer (Err NotEnoughData)) says
-
 pub list_saturated : {a b : State} {r : Result ImageSize Halt} (all offset at : ℕ)
     → Runs a b r (chain_at (properties all at) a.held.input) → at ≡ min offset (2 ^ 64 - 1)
     → Runs a b r (chain_at (properties all offset) a.held.input)
 list_saturated all offset at = saturated_by (λ p d. chain_at (properties all p) d)
-    (refuses NotEnoughData) offset at (λ d p far. none_gathered all p d far)
+    (refuses NotEnoughData) offset at
+    (λ d p far. refused_chain (properties all p) d NotEnoughData (list_ends all none_gathered [] (record {
+      left = omega arith;
+      best = record { is = refl; first = refl; area = refl; found = λ some. absurd (omega arith) };
+      turn = refl;
+    }) d p far)) where
+      none_gathered : Gathered
+      none_gathered = record { left = all; best = None; turn = None }
 
 -- the compression is read from at most 12 bytes, and is always told
 pub heif_compression_laws : (offset : ℕ) (head : List ℕ) → CompressionLaws 12 (heif_compression offset head)
@@ -365,124 +330,103 @@ property_at_most all offset held q = (
       (omega arith, λ content. tt) (omega arith, λ content. tt) (λ size big. tt),
 )
 
-search_cost : (tag : List ℕ) (offset : ℕ) (d : List ℕ) → Bounded 0 20 (chain_at (search_for tag offset) d)
-search_cost tag offset d =
-    chain_cost (search_for tag offset) d (search_advances tag offset d) 20 (search_at_most tag offset)
-
--- what is seen of an input
-local_search : (tag : List ℕ) (offset : ℕ) → IsLocal false (λ d. chain_at (search_for tag offset) d)
-local_search tag offset = local_chain (search_for tag offset) (search_advances tag offset)
-    (λ passed q. without_texts false 20 ((search_for tag offset).said passed q) (search_at_most tag offset passed q))
-
-in_iprp_local : (iprp : FoundBox) → IsLocal false (heif_in_iprp iprp)
-in_iprp_local iprp = local_then (λ d. chain_at (search_for (codes "ipco") (iprp.offset + 8)) d)
-    (λ ipco d. chain_at (properties ipco.size (ipco.offset + 8)) d)
-    (local_search (codes "ipco") (iprp.offset + 8))
-    (λ ipco. local_chain (properties ipco.size (ipco.offset + 8)) (properties_advance ipco.size (ipco.offset + 8))
-    (λ held q. without_texts false 20 ((properties ipco.size (ipco.offset + 8)).said held q)
-    (property_at_most ipco.size (ipco.offset + 8) held q)))
-
-in_meta_local : (meta : FoundBox) → IsLocal false (heif_in_meta meta)
-in_meta_local meta = local_then (λ d. bytes_read d (meta.offset + 8) 4)
-    (λ version d. and_then (chain_at (search_for (codes "iprp") (meta.offset + 12)) d) (λ iprp. heif_in_iprp iprp d))
-    (local_bytes (meta.offset + 8) 4)
-    (λ version. local_then (λ d. chain_at (search_for (codes "iprp") (meta.offset + 12)) d) heif_in_iprp
-    (local_search (codes "iprp") (meta.offset + 12)) in_iprp_local)
-
-pub heif_local : IsLocal false heif
-heif_local = local_then (λ d. number_read d Big 0 4) (λ first d. and_then (chain_at (search_for (codes "meta") first) d)
-    (λ meta. heif_in_meta meta d))
-    (local_number Big 0 4)
-    (λ first. local_then (λ d. chain_at (search_for (codes "meta") first) d) heif_in_meta
-    (local_search (codes "meta") first)
-    in_meta_local)
-
-in_iprp_cost : (iprp : FoundBox) (d : List ℕ) → Bounded 0 20 (heif_in_iprp iprp d)
-in_iprp_cost iprp d = bounded_then 20 0 0 (chain_at (search_for (codes "ipco") (iprp.offset + 8)) d)
-    (λ ipco. chain_at (properties ipco.size (ipco.offset + 8)) d) (search_cost (codes "ipco") (iprp.offset + 8) d)
-    (λ ipco _. chain_cost (properties ipco.size (ipco.offset + 8)) d
-    (properties_advance ipco.size (ipco.offset + 8) d) 20 (property_at_most ipco.size (ipco.offset + 8)))
-
-in_meta_cost : (meta : FoundBox) (d : List ℕ) → Bounded 4 20 (heif_in_meta meta d)
-in_meta_cost meta d = bounded_then 20 4 0 (bytes_read d (meta.offset + 8) 4)
-    (λ version. and_then (chain_at (search_for (codes "iprp") (meta.offset + 12)) d) (λ iprp. heif_in_iprp iprp d))
-    (omega (arith, total-span_of d (meta.offset + 8) 4))
-    (λ version _. bounded_then 20 0 0 (chain_at (search_for (codes "iprp") (meta.offset + 12)) d)
-    (λ iprp. heif_in_iprp iprp d) (search_cost (codes "iprp") (meta.offset + 12) d) (λ iprp _. in_iprp_cost iprp d))
-
--- a box is read from at most 20 bytes
-pub heif_cost : (d : List ℕ) → 24 + total (heif d).marks ≤ 32 + 20 * (heif d).begun
-heif_cost d = omega (
-  arith,
-  bounded_then 20 4 4 (number_read d Big 0 4)
-      (λ first. and_then (chain_at (search_for (codes "meta") first) d) (λ meta. heif_in_meta meta d))
-      (omega (arith, total-span_of d 0 4))
-      (λ first _. bounded_then 20 0 4 (chain_at (search_for (codes "meta") first) d) (λ meta. heif_in_meta meta d)
-      (search_cost (codes "meta") first d) (λ meta _. in_meta_cost meta d)),
-)
-
 -- what follows is read behind the head of a box that was found
 abbrev behind_head : FoundBox → Option ℕ
 behind_head found = Some (found.offset + 8)
-
-search_spends : (tag : List ℕ) (first : ℕ) (d : List ℕ)
-    → Spends (length d) first behind_head (chain_at (search_for tag first) d)
-search_spends tag first d = chain_onto (search_for tag first) d behind_head (search_advances tag first d)
-    (λ held q. (
-      omega arith,
-      λ head. by_searched (Onto (said_to behind_head) (q + 8)) tag q head (omega arith) tt
-          (λ big. omega arith),
-    ))
 
 -- what goes on nowhere
 abbrev ends : ImageSize → Option ℕ
 ends size = None
 
-properties_spend : (all offset : ℕ) (d : List ℕ) → Spends (length d) offset ends (chain_at (properties all offset) d)
-properties_spend all offset d = chain_onto (properties all offset) d ends (properties_advance all offset d)
-    (λ held q. (
-      omega arith,
-      λ bs. by_listed (Onto (said_to ends) (q + 8)) held (all - sum_by skipped_bytes held) q (whole 8 bs)
-          (λ e. tt) (λ size. tt) (omega arith, λ content. omega arith) (omega arith, λ content. omega arith)
-          (λ size big. omega arith),
-    ))
+-- Reads from an offset on that lead to another offset: what they depend on, and how many bytes they read.
+record Forward {X : Type 0} (from : ℕ) (to : X → Option ℕ) (outside : ℕ) (reads : List ℕ → Reads X) : Type 0 where
+  local : IsLocal false reads
+  cost : (d : List ℕ) → Bounded outside 20 (reads d)
+  spends : (d : List ℕ) → Spends (length d) from to (reads d)
 
-version_spends : (d : List ℕ) (offset : ℕ) (r : Result (List ℕ) Halt) → total (span_of d offset 4) + left (length d)
-    (λ _. Some (offset + 4)) r ≤ length d - offset
-version_spends d offset (Ok version) = omega (arith, total_behind d offset 4, total-span_of d offset 4)
-version_spends d offset (Err e) = omega (arith, total_behind d offset 4)
+forward_then : {X Y : Type 0} (from j k : ℕ) (next : X → ℕ) (to : Y → Option ℕ) (r : List ℕ → Reads X)
+    (f : X → List ℕ → Reads Y) → Forward from (λ x. Some (next x)) j r → ((x : X) → Forward (next x) to k (f x))
+    → Forward from to (j + k) (λ d. and_then (r d) (λ x. f x d))
+forward_then from j k next to r f first rest = record {
+  local = local_then r f first.local (λ x. (rest x).local);
+  cost = λ d. bounded_then 20 j k (r d) (λ x. f x d) (first.cost d) (λ x _. (rest x).cost d);
+  spends = λ d. spends_then (length d) from next to (r d) (λ x. f x d) (first.spends d) (λ x _. (rest x).spends d);
+}
 
-in_iprp_spends : (iprp : FoundBox) (d : List ℕ) → Spends (length d) (iprp.offset + 8) ends (heif_in_iprp iprp d)
-in_iprp_spends iprp d = spends_then (length d) (iprp.offset + 8) (λ ipco. ipco.offset + 8) ends
-    (chain_at (search_for (codes "ipco") (iprp.offset + 8)) d)
-    (λ ipco. chain_at (properties ipco.size (ipco.offset + 8)) d)
-    (search_spends (codes "ipco") (iprp.offset + 8) d) (λ ipco _. properties_spend ipco.size (ipco.offset + 8) d)
+searched : (tag : List ℕ) (first : ℕ) → Forward first behind_head 0 (λ d. chain_at (search_for tag first) d)
+searched tag first = record {
+  local = local_chain (search_for tag first) (search_advances tag first)
+      (λ passed q. without_texts false 20 ((search_for tag first).said passed q) (search_at_most tag first passed q));
+  cost = λ d. chain_cost (search_for tag first) d (search_advances tag first d) 20 (search_at_most tag first);
+  spends = λ d. chain_onto (search_for tag first) d behind_head (search_advances tag first d) (λ held q. (
+    omega arith,
+    λ head. by_searched (Onto (said_to behind_head) (q + 8)) tag q head (omega arith) tt (λ big. omega arith),
+  ));
+}
 
-in_meta_spends : (meta : FoundBox) (d : List ℕ) → Spends (length d) (meta.offset + 8) ends (heif_in_meta meta d)
-in_meta_spends meta d =
-    spends_then (length d) (meta.offset + 8) (λ version. meta.offset + 8 + 4) ends (bytes_read d (meta.offset + 8) 4)
-    (λ version. and_then (chain_at (search_for (codes "iprp") (meta.offset + 12)) d) (λ iprp. heif_in_iprp iprp d))
-    (version_spends d (meta.offset + 8) (bytes_at d (meta.offset + 8) 4))
-    (λ version _. let here : meta.offset + 8 + 4 ≡ meta.offset + 12 = omega arith in
-    rw here (spends_then (length d) (meta.offset + 12) (λ iprp. iprp.offset + 8) ends
-    (chain_at (search_for (codes "iprp") (meta.offset + 12)) d) (λ iprp. heif_in_iprp iprp d)
-    (search_spends (codes "iprp") (meta.offset + 12) d) (λ iprp _. in_iprp_spends iprp d)))
+listed : (all first : ℕ) → Forward first ends 0 (λ d. chain_at (properties all first) d)
+listed all first = record {
+  local = local_chain (properties all first) (properties_advance all first)
+      (λ held q. without_texts false 20 ((properties all first).said held q) (property_at_most all first held q));
+  cost = λ d. chain_cost (properties all first) d (properties_advance all first d) 20 (property_at_most all first);
+  spends = λ d. chain_onto (properties all first) d ends (properties_advance all first d) (λ held q. (
+    omega arith,
+    λ bs. by_listed (Onto (said_to ends) (q + 8)) held (all - sum_by skipped_bytes held) q (whole 8 bs)
+        (λ e. tt) (λ size. tt) (omega arith, λ content. omega arith) (omega arith, λ content. omega arith)
+        (λ size big. omega arith),
+  ));
+}
 
--- with its type it is read from at most 28 bytes more than the input has: its first four may be read twice again
-pub heif_within : (d : List ℕ) → 24 + total (heif d).marks ≤ length d + 28
-heif_within d = omega (
-  arith,
-  then_within (number_read d Big 0 4)
-      (λ first. and_then (chain_at (search_for (codes "meta") first) d) (λ meta. heif_in_meta meta d)) 4
-      (length d) (total-span_of d 0 4)
-      (λ first _. omega (
-        arith,
-        spends_then (length d) first (λ meta. meta.offset + 8) ends (chain_at (search_for (codes "meta") first) d)
-            (λ meta. heif_in_meta meta d)
-            (search_spends (codes "meta") first d) (λ meta _. in_meta_spends meta d),
-      )),
-)
+-- four bytes of version and flags
+version : (from next : ℕ) → next ≡ from + 4 → Forward from (λ _. Some next) 4 (λ d. bytes_read d from 4)
+version from next is = record {
+  local = local_bytes from 4;
+  cost = λ d. omega (arith, total-span_of d from 4);
+  spends = λ d. by_read d (bytes_at d from 4);
+} where
+  by_read : (d : List ℕ) (r : Result (List ℕ) Halt)
+      → total (span_of d from 4) + left (length d) (λ _. Some next) r ≤ length d - from
+  by_read d (Ok version) = omega (arith, is, total_behind d from 4, total-span_of d from 4)
+  by_read d (Err e) = omega (arith, total_behind d from 4)
 
--- the properties may go on in bytes that follow
+in_iprp : (iprp : FoundBox) → Forward (iprp.offset + 8) ends 0 (heif_in_iprp iprp)
+in_iprp iprp = forward_then (iprp.offset + 8) 0 0 (λ ipco. ipco.offset + 8) ends
+    (λ d. chain_at (search_for (codes "ipco") (iprp.offset + 8)) d)
+    (λ ipco d. chain_at (properties ipco.size (ipco.offset + 8)) d)
+    (searched (codes "ipco") (iprp.offset + 8)) (λ ipco. listed ipco.size (ipco.offset + 8))
+
+in_meta : (meta : FoundBox) → Forward (meta.offset + 8) ends 4 (heif_in_meta meta)
+in_meta meta =
+    let from : ℕ = meta.offset + 12 in
+    forward_then (meta.offset + 8) 4 0 (λ _. from) ends (λ d. bytes_read d (meta.offset + 8) 4)
+    (λ _ d. and_then (chain_at (search_for (codes "iprp") from) d) (λ iprp. heif_in_iprp iprp d))
+    (version (meta.offset + 8) from (omega arith))
+    (λ _. forward_then from 0 0 (λ iprp. iprp.offset + 8) ends (λ d. chain_at (search_for (codes "iprp") from) d)
+    heif_in_iprp (searched (codes "iprp") from) in_iprp)
+
+behind_first : (first : ℕ)
+    → Forward first ends 4 (λ d. and_then (chain_at (search_for (codes "meta") first) d) (λ meta. heif_in_meta meta d))
+behind_first first = forward_then first 0 4 (λ meta. meta.offset + 8) ends
+    (λ d. chain_at (search_for (codes "meta") first) d) heif_in_meta (searched (codes "meta") first) in_meta
+
+-- With its type it is read from at most 28 bytes more than the input has: its first four may be read twice again. A box is
+-- read from at most 20 bytes. The properties may go on in bytes that follow.
 pub heif_laws : RecordedLaws 24 32 20 false false heif
-heif_laws = record { local = heif_local; cost = heif_cost; within = heif_within; lasts = λ keeps. absurd cc }
+heif_laws = record {
+  local = local_then (λ d. number_read d Big 0 4)
+      (λ first d. and_then (chain_at (search_for (codes "meta") first) d) (λ meta. heif_in_meta meta d))
+      (local_number Big 0 4) (λ first. (behind_first first).local);
+  cost = λ d. omega (
+    arith,
+    bounded_then 20 4 4 (number_read d Big 0 4)
+        (λ first. and_then (chain_at (search_for (codes "meta") first) d) (λ meta. heif_in_meta meta d))
+        (omega (arith, total-span_of d 0 4)) (λ first _. (behind_first first).cost d),
+  );
+  within = λ d. omega (
+    arith,
+    then_within (number_read d Big 0 4)
+        (λ first. and_then (chain_at (search_for (codes "meta") first) d) (λ meta. heif_in_meta meta d)) 4 (length d)
+        (total-span_of d 0 4) (λ first _. omega (arith, (behind_first first).spends d)),
+  );
+  lasts = λ keeps. absurd cc;
+}

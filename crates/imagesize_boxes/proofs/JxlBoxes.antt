@@ -16,7 +16,7 @@ use Rattle.imagesize_source.specs.declared.halt.Halt.TheVariants.{Corrupted, End
 use Rattle.imagesize_source.specs.Chain.{Said, Decided, Next, Advances, chain_at}
 use Rattle.imagesize_source.specs.Layout.{Layout, layout_reads, bind, bytes, bytes_there, accept}
 use Rattle.imagesize_source.specs.Layout.Layout.{field, refuse, done}
-use Rattle.imagesize_source.specs.Reading.{is_failure, just, refuses, uncounted}
+use Rattle.imagesize_source.specs.Reading.{is_failure, is_spent, just, refuses, uncounted}
 use Rattle.imagesize_source.specs.State.{State, Runs, EndedBy, IsSound}
 use Rattle.imagesize_source.proofs.Advances.{Begins, Tells, advances}
 use Rattle.imagesize_source.proofs.Reached.{reads_nothing}
@@ -78,21 +78,39 @@ by_checked P offset head f out on =
     (λ _. out (InvalidJxlBoxSize head.size (number Big head.tag)))
     (λ whole. on (grind (arith, nat_tests)) (λ some. grind (arith, nat_tests))))
 
+-- The head of a box: it takes eight bytes, and eight more if these hold the size.
+abbrev pub short_head : List ℕ → BoxHead
+short_head front = record { tag = drop 4 front; size = number Big (take 4 front); length = 8 }
+
+abbrev pub long_head : List ℕ → ℕ → BoxHead
+long_head front size = record { tag = drop 4 front; size = size; length = 16 }
+
+-- what follows those bytes
+abbrev pub long_behind : ℕ → List ℕ → (BoxHead → BoxSays) → ℕ → BoxSays
+long_behind offset front f size = bind (accept (box_checked offset (long_head front size)) done) f
+
+abbrev pub head_behind : ℕ → List ℕ → (BoxHead → BoxSays) → BoxSays
+head_behind offset front f = bind (cond (eqb (number Big (take 4 front)) 1)
+    (field Big (offset + 8) 8 (λ size. accept (box_checked offset (long_head front size)) done))
+    (accept (box_checked offset (short_head front)) done)) f
+
 pub by_head : (P : BoxSays → Type 0) (offset : ℕ) (front : List ℕ) (f : BoxHead → BoxSays)
-    → P (field Big (offset + 8) 8
-    (λ size. bind (accept (box_checked offset (record { tag = drop 4 front; size = size; length = 16 })) done) f))
-    → P (bind (accept (box_checked offset
-    (record { tag = drop 4 front; size = number Big (take 4 front); length = 8 })) done) f)
-    → P (bind (cond (eqb (number Big (take 4 front)) 1)
-    (field Big (offset + 8) 8
-    (λ size. accept (box_checked offset (record { tag = drop 4 front; size = size; length = 16 })) done))
-    (accept (box_checked offset (record { tag = drop 4 front; size = number Big (take 4 front); length = 8 })) done)) f)
-by_head P offset front f long short =
-    on_test (λ t. P (bind t f)) (eqb (number Big (take 4 front)) 1)
-    (field Big (offset + 8) 8
-    (λ size. accept (box_checked offset (record { tag = drop 4 front; size = size; length = 16 })) done))
-    (accept (box_checked offset (record { tag = drop 4 front; size = number Big (take 4 front); length = 8 })) done)
-    (λ _. long) (λ _. short)
+    → P (field Big (offset + 8) 8 (long_behind offset front f))
+    → P (bind (accept (box_checked offset (short_head front)) done) f) → P (head_behind offset front f)
+by_head P offset front f long short = on_test (λ t. P (bind t f)) (eqb (number Big (take 4 front)) 1)
+    (field Big (offset + 8) 8 (λ size. accept (box_checked offset (long_head front size)) done))
+    (accept (box_checked offset (short_head front)) done) (λ _. long) (λ _. short)
+
+-- what holds of a box: P after its first eight bytes, and Q after eight more
+pub by_box : (P Q : BoxSays → Type 0) (offset : ℕ) (front : List ℕ) (f : BoxHead → BoxSays)
+    → ((e : Halt) → P (refuse e)) → ((e : Halt) → Q (refuse e))
+    → (((size : ℕ) → Q (long_behind offset front f size)) → P (field Big (offset + 8) 8 (long_behind offset front f)))
+    → ((head : BoxHead) → head.length ≡ 8 → (0 < head.size → head.length ≤ head.size) → P (f head))
+    → ((head : BoxHead) → head.length ≡ 16 → (0 < head.size → head.length ≤ head.size) → Q (f head))
+    → P (head_behind offset front f)
+by_box P Q offset front f out_short out_long more short long = by_head P offset front f
+    (more (λ size. by_checked Q offset (long_head front size) f out_long (λ _. long (long_head front size) refl)))
+    (by_checked P offset (short_head front) f out_short (λ _. short (short_head front) refl))
 
 pub by_piece : (P : BoxSays → Type 0) (offset k : ℕ) (f : List ℕ → BoxSays) → (k ≡ 0 → P (f []))
     → (0 < k → P (bytes_there offset k f))
@@ -134,30 +152,19 @@ by_content P held offset head whole none partial other =
 
 content_tells : (held : List ℕ) (offset : ℕ) (head : BoxHead) → Tells (λ p. offset < p) (box_content held offset head)
 content_tells held offset head =
+    let T : BoxSays → Type 0 = Tells (λ p. offset < p) in
     let End : Said (List ℕ) (List ℕ) → Type 0 = λ s. Tells (λ p. offset < p) (done s) in
-    by_content (Tells (λ p. offset < p)) held offset head
-    (by_piece (Tells (λ p. offset < p)) (offset + head.length) (min 16 (box_room head)) (λ front. done (Decided front))
-    (λ _. tt)
-    (λ _ front. tt))
-    tt
-    (λ _ index. by_piece (Tells (λ p. offset < p)) (offset + (head.length + 4))
-    (min (box_room head - 4) (16 - length held))
-    (λ piece. done (partial_said held offset head index piece))
-    (λ _. by_partial End held offset head index [] tt (λ some. omega arith))
+    by_content T held offset head (by_piece T _ _ _ (λ _. tt) (λ _ front. tt)) tt
+    (λ _ index. by_piece T _ _ _ (λ _. by_partial End held offset head index [] tt (λ some. omega arith))
     (λ _ piece. by_partial End held offset head index piece tt (λ some. omega arith)))
     (by_end End held offset head [] tt (λ some. omega arith))
 
 -- a box tells an offset behind its own
 pub box_tells : (held : List ℕ) (offset : ℕ) → Tells (λ p. offset < p) (jxl_box held offset)
 unfolding box_head
-box_tells held offset front = by_head (Tells (λ p. offset < p)) offset front (box_content held offset)
-    (λ size. by_checked (Tells (λ p. offset < p)) offset (record { tag = drop 4 front; size = size; length = 16 })
-    (box_content held offset) (λ e. tt)
-    (λ _ _. content_tells held offset (record { tag = drop 4 front; size = size; length = 16 })))
-    (by_checked (Tells (λ p. offset < p)) offset
-    (record { tag = drop 4 front; size = number Big (take 4 front); length = 8 })
-    (box_content held offset) (λ e. tt) (λ _ _. content_tells held offset
-    (record { tag = drop 4 front; size = number Big (take 4 front); length = 8 })))
+box_tells held offset front = by_box (Tells (λ p. offset < p)) (Tells (λ p. offset < p)) offset front
+    (box_content held offset) (λ e. tt) (λ e. tt) (λ each. each) (λ head _ _. content_tells held offset head)
+    (λ head _ _. content_tells held offset head)
 
 pub box_begins : (held : List ℕ) (offset : ℕ) → Begins offset (jxl_box held offset)
 unfolding box_head
@@ -171,12 +178,8 @@ jxl_advances = advances jxl_chain (λ pieces offset. box_tells (concat pieces) o
 pub boxes_end : (front : List ℕ) (d : List ℕ) (offset : ℕ) → length d ≤ offset
     → uncounted (layout_reads d (jxl_box front offset)) ≡ refuses Ended
 unfolding box_head
-boxes_end front d offset far = ap uncounted (bytes_beyond d offset 8
-    (λ head. bind (cond (eqb (number Big (take 4 head)) 1)
-    (field Big (offset + 8) 8
-    (λ size. accept (box_checked offset (record { tag = drop 4 head; size = size; length = 16 })) done))
-    (accept (box_checked offset (record { tag = drop 4 head; size = number Big (take 4 head); length = 8 })) done))
-    (λ head. box_content front offset head)) far (omega arith))
+boxes_end front d offset far =
+    ap uncounted (bytes_beyond d offset 8 (λ head. head_behind offset head (box_content front offset)) far (omega arith))
 
 -- the bytes of the boxes so far, and of one more
 pub joined : (pieces : List (List ℕ)) (front piece : List ℕ) → concat pieces ≡ front
@@ -191,8 +194,8 @@ abbrev pub Plainly : {X : Type 0} → Result X Halt → Type 0
 Plainly (Ok x) = Unit {0}
 Plainly (Err e) = (is_failure e ≡ false) × ((b : State) → EndedBy b e)
 
-plain_corrupted : Plainly {X = ℕ} (Err Corrupted)
-plain_corrupted = (refl, λ b. record { budget = λ e. absurd cc; fault = λ e. absurd cc })
+plainly : (e : Halt) → is_failure e ≡ false → is_spent e ≡ false → (is_failure e ≡ false) × ((b : State) → EndedBy b e)
+plainly e no_fault none_spent = (no_fault, λ b. record { budget = λ is. absurd cc; fault = λ is. absurd cc })
 
 plain_found : {X : Type 0} (list : List ℕ) (t : Fields X) → Plainly (found_by (field_at list) t)
 unfolding field_at
@@ -200,16 +203,16 @@ plain_found list (found x) = tt
 plain_found list (bits from count f) =
     on_test (λ r. Plainly (with_found r (λ n. found_by (field_at list) (f n)))) (leb (from + count) (length list))
     (Ok (binary (take count (drop from list)))) (Err Corrupted)
-    (λ _. plain_found list (f (binary (take count (drop from list))))) (λ _. plain_corrupted)
+    (λ _. plain_found list (f (binary (take count (drop from list))))) (λ _. plainly Corrupted refl refl)
 
 pub plain_size : (front : List ℕ) → Plainly (jxl_size front)
 unfolding jxl_size
 plain_size front =
-    on_test Plainly (ltb (length front) 2) (Err Corrupted) _ (λ _. plain_corrupted)
+    on_test Plainly (ltb (length front) 2) (Err Corrupted) _ (λ _. plainly Corrupted refl refl)
     (λ _. on_test Plainly (has_signature front) (found_by (field_at (bits_of front)) jxl_header)
     (Err InvalidJxlSignature)
     (λ _. plain_found (bits_of front) jxl_header)
-    (λ _. (refl, λ b. record { budget = λ e. absurd cc; fault = λ e. absurd cc })))
+    (λ _. plainly InvalidJxlSignature refl refl))
 
 sized_by : {b : State} (r : Result ImageSize Halt) → IsSound b → Plainly r
     → Runs b b r (just r [])

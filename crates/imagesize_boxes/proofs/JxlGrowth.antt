@@ -1,5 +1,6 @@
 -- JPEG XL: what bytes behind an input make of the codestream. It may go on, where it was cut.
-use Rattle.std.proofs.Common.{◌≡◌, ℕ, ◌+◌, ◌-◌, ◌<◌, ◌≤◌, min, Bool, true, false, cond, eqb, leb, ltb, ◌||◌, List, [], ◌∷◌, ◌++◌, length, take, drop, slice_index, Option, None, Some, Result, Ok, Err, append_assoc, refl, sym, ap, ◌∙◌, subst, arith}
+use Rattle.std.proofs.Common.{inl, inr, ◌≡◌, ℕ, ◌+◌, ◌-◌, ◌<◌, ◌≤◌, min, Bool, true, false, cond, eqb, leb, ltb, ◌||◌, List, [], ◌∷◌, ◌++◌, length, slice_index, Option, None, Some, Result, Ok, Err, append_assoc, refl, sym, ap, ◌∙◌, subst, arith}
+use Rattle.std.proofs.lemmas.Bool.{cases_lt}
 use Rattle.std.proofs.lemmas.Bool.Decides.{nat_tests}
 use Rattle.std.proofs.lemmas.List.{append-nil, length-append}
 use Rattle.std.proofs.lemmas.List.Concat.{flat_map-append}
@@ -12,9 +13,8 @@ use Rattle.imagesize_source.specs.declared.endian.Endian.{Endian}
 use Rattle.imagesize_source.specs.declared.endian.Endian.TheVariants.{Big}
 use Rattle.imagesize_source.specs.Chain.{Said, Decided, Next, Along, next_record, verdict, chain_from, start}
 use Rattle.imagesize_source.specs.Input.{part, span_of}
-use Rattle.imagesize_source.specs.Layout.{Layout, layout_reads, bind, bytes, bytes_there, accept}
+use Rattle.imagesize_source.specs.Layout.{Layout, layout_reads, bind, bytes, bytes_there}
 use Rattle.imagesize_source.specs.Layout.Layout.{field, done}
-use Rattle.imagesize_source.specs.Numbers.{number}
 use Rattle.imagesize_source.specs.Reading.{Reads, go_on, gives, just, bytes_at, number_at, refuses, uncounted, with_answer}
 use Rattle.imagesize_source.proofs.ChainLaws.{chain_induction}
 use Rattle.imagesize_source.proofs.Chains.{chain_next, chain_stop}
@@ -22,9 +22,9 @@ use Rattle.imagesize_source.proofs.Extension.{bytes_ok, number_ok, bytes_more, n
 use Rattle.imagesize_source.proofs.Tests.{on_test}
 use Rattle.imagesize_boxes.specs.declared.formats.jxl.boxes.BoxHead.{BoxHead}
 use Rattle.imagesize_boxes.specs.Fields.{bits_of, low_bits, field_at, found_by}
-use Rattle.imagesize_boxes.specs.Jxl.{has_signature, jxl_header, jxl_size, piece_at, box_checked, box_head, box_room, said_behind, partial_said, box_content, jxl_box, jxl_chain, jxl_start, codestream, jxl_codestream, jxl}
+use Rattle.imagesize_boxes.specs.Jxl.{has_signature, jxl_header, jxl_size, piece_at, box_head, box_room, said_behind, partial_said, box_content, jxl_box, jxl_chain, jxl_start, codestream, jxl_codestream, jxl}
 use Rattle.imagesize_boxes.proofs.Fields.{found_more}
-use Rattle.imagesize_boxes.proofs.JxlBoxes.{BoxSays, by_checked, by_head, by_piece, by_content, boxes_end, jxl_advances}
+use Rattle.imagesize_boxes.proofs.JxlBoxes.{BoxSays, by_box, by_piece, by_content, boxes_end, head_behind, jxl_advances, long_behind}
 use Rattle.imagesize_source.proofs.Parts.{part_length}
 
 -- behind an answer that bytes behind the input leave, as R says, or that goes on
@@ -76,17 +76,14 @@ by_tests : (n offset : ℕ) (held piece more : List ℕ) (ends ends_more opened 
     → GoesOn n (cond ends (Decided (held ++ piece)) (cond opened (Decided (held ++ piece)) (Next piece offset)))
     (cond ends_more (Decided (held ++ (piece ++ more)))
     (cond opened (Decided (held ++ (piece ++ more))) (Next (piece ++ more) offset)))
-by_tests n offset held piece more true true opened stays same whole =
-    (more, ap Decided (sym (append_assoc held piece more)))
-by_tests n offset held piece more true false opened stays same whole = absurd (let no : false ≡ true = stays refl in cc)
+by_tests n offset held piece more true ends_more opened stays same whole =
+    rw (stays refl) (more, ap Decided (sym (append_assoc held piece more)))
 by_tests n offset held piece more false true true stays same whole =
     (more, ap Decided (sym (append_assoc held piece more)))
 by_tests n offset held piece more false false true stays same whole =
     (more, ap Decided (sym (append_assoc held piece more)))
-by_tests n offset held piece more false true false stays same whole = λ within. absurd (let no : true ≡ false =
-    same (whole refl within) in cc)
-by_tests n offset held piece more false false false stays same whole = λ within. ap (λ p. Next p offset)
-    (ap (λ m. piece ++ m) (whole refl within) ∙ append-nil piece)
+by_tests n offset held piece more false ends_more false stays same whole = λ within.
+    let none = whole refl within in rw (same none, none, append-nil piece) refl
 
 partial_grows : (n offset : ℕ) (held : List ℕ) (head : BoxHead) (index piece more : List ℕ)
     → length held + length (piece ++ more) ≤ 16
@@ -94,13 +91,9 @@ partial_grows : (n offset : ℕ) (held : List ℕ) (head : BoxHead) (index piece
     (partial_said held offset head index (piece ++ more))
 partial_grows n offset held head index piece more fits whole =
     let long = length-append piece more in
-    by_tests n (offset + head.size) held piece more
-    (eqb (length held + length piece) 16 || leb 0x80 (slice_index index 0))
-    (eqb (length held + length (piece ++ more)) 16 || leb 0x80
-    (slice_index index 0)) (eqb head.size 0)
-    (λ is. grind (arith, nat_tests))
-    (λ none. ap (λ m. eqb (length held + length (piece ++ m)) 16 || leb 0x80 (slice_index index 0)) none
-    ∙ ap (λ p. eqb (length held + length p) 16 || leb 0x80 (slice_index index 0)) (append-nil piece))
+    let stops : List ℕ → Bool = λ p. eqb (length held + length p) 16 || leb 0x80 (slice_index index 0) in
+    by_tests n (offset + head.size) held piece more (stops piece) (stops (piece ++ more)) (eqb head.size 0)
+    (λ is. grind (arith, nat_tests)) (λ none. ap (λ m. stops (piece ++ m)) none ∙ ap stops (append-nil piece))
     (λ is within. whole (grind (arith, nat_tests)) within)
 
 -- bytes that are all there do not go on
@@ -108,11 +101,13 @@ none_more : (d x : List ℕ) (offset k : ℕ) (more : List ℕ) → part (d ++ x
     → k ≤ length d - offset
     → more ≡ []
 none_more d x offset k [] is all = refl
-none_more d x offset k (b ∷ more) is all =
-    let longer = ap length is in
-    let one = part_length (d ++ x) offset k in let two = part_length d offset k in
-    let sum = length-append (part d offset k) (b ∷ more) in
-    absurd (omega arith)
+none_more d x offset k (b ∷ more) is all = absurd (omega (
+  arith,
+  ap length is,
+  part_length (d ++ x) offset k,
+  part_length d offset k,
+  length-append (part d offset k) (b ∷ more),
+))
 
 pub box_sized : (head : BoxHead) → 0 < head.size → box_room head ≡ head.size - head.length
 box_sized head closed = let test : eqb head.size 0 ≡ false = grind (arith, nat_tests) in rw test refl
@@ -121,15 +116,22 @@ module _ (d x : List ℕ) where
   Both : BoxSays → Type 0
   Both t = Grows (GoesOn (length d)) (layout_reads d t) (layout_reads (d ++ x) t)
 
+  grows_said : (s t : Said (List ℕ) (List ℕ)) → GoesOn (length d) s t → Grows (GoesOn (length d)) (gives s) (gives t)
+  grows_said = grows_given (GoesOn (length d))
+
+  same_both : (s : Said (List ℕ) (List ℕ)) → Both (done s)
+  unfolding Both
+  same_both s = grows_said s s (same_said (length d) s)
+
   content_grows : (held : List ℕ) (offset : ℕ) (head : BoxHead) → (0 < head.size → head.length ≤ head.size)
       → Both (box_content held offset head)
   unfolding Both
   content_grows held offset head sized =
       by_content Both held offset head
       (by_piece Both (offset + head.length) (min 16 (box_room head)) (λ front. done (Decided front))
-      (λ _. grows_given (GoesOn (length d)) (Decided []) (Decided []) (same_said (length d) (Decided [])))
+      (λ _. same_both (Decided []))
       (λ _. let grown = part_grows d x (offset + head.length) (min 16 (box_room head)) in
-      grows_given (GoesOn (length d)) (Decided (part d (offset + head.length) (min 16 (box_room head))))
+      grows_said (Decided (part d (offset + head.length) (min 16 (box_room head))))
       (Decided (part (d ++ x) (offset + head.length) (min 16 (box_room head)))) (grown.0, ap Decided grown.1)))
       (λ s is. absurd cc)
       (λ enough. grows_bytes (GoesOn (length d)) d x (offset + head.length) 4
@@ -137,50 +139,26 @@ module _ (d x : List ℕ) where
       (λ piece. done (partial_said held offset head index piece)))
       (λ index. by_piece Both (offset + (head.length + 4)) (min (box_room head - 4) (16 - length held))
       (λ piece. done (partial_said held offset head index piece))
-      (λ _. grows_given (GoesOn (length d)) (partial_said held offset head index [])
-      (partial_said held offset head index [])
-      (same_said (length d) (partial_said held offset head index [])))
+      (λ _. same_both (partial_said held offset head index []))
       (λ some. let q : ℕ = offset + (head.length + 4) in let k : ℕ = min (box_room head - 4) (16 - length held) in
       let grown = part_grows d x q k in
       let long = part_length (d ++ x) q k in
       let same : length (part (d ++ x) q k) ≡ length (part d q k ++ grown.0) = ap length grown.1 in
-      let ends : 0 < head.size → box_room head ≡ head.size - head.length = λ closed. box_sized head closed in
-      grows_given (GoesOn (length d)) (partial_said held offset head index (part d q k))
+      grows_said (partial_said held offset head index (part d q k))
       (partial_said held offset head index (part (d ++ x) q k))
-      (subst (λ p. GoesOn (length d) (partial_said held offset head index (part d q k))
-      (partial_said held offset head index p))
-      (sym grown.1)
-      (partial_grows (length d) offset held head index (part d q k) grown.0 (omega arith)
+      (rw grown.1 (partial_grows (length d) offset held head index (part d q k) grown.0 (omega arith)
       (λ closed within. none_more d x q k grown.0 grown.1
-      (let is = ends closed in let fits = sized closed in omega arith)))))))
-      (grows_given (GoesOn (length d)) (said_behind held offset head []) (said_behind held offset head [])
-      (same_said (length d) (said_behind held offset head [])))
+      (omega (arith, box_sized head closed, sized closed))))))))
+      (same_both (said_behind held offset head []))
 
   -- what a box says of more bytes
   box_grows : (held : List ℕ) (offset : ℕ) → Both (jxl_box held offset)
   unfolding Both box_head
   box_grows held offset =
-      grows_bytes (GoesOn (length d)) d x offset 8
-      (λ front. bind (cond (eqb (number Big (take 4 front)) 1)
-      (field Big (offset + 8) 8
-      (λ size. accept (box_checked offset (record { tag = drop 4 front; size = size; length = 16 })) done))
-      (accept (box_checked offset (record { tag = drop 4 front; size = number Big (take 4 front); length = 8 })) done))
-      (box_content held offset))
-      (λ front. by_head Both offset front (box_content held offset)
-      (grows_field (GoesOn (length d)) d x Big (offset + 8) 8
-      (λ size. bind (accept (box_checked offset (record { tag = drop 4 front; size = size; length = 16 })) done)
-      (box_content held offset))
-      (λ size.
-      by_checked Both offset (record { tag = drop 4 front; size = size; length = 16 }) (box_content held offset)
-      (λ e s is. absurd cc)
-      (λ _ sized. content_grows held offset (record { tag = drop 4 front; size = size; length = 16 }) sized)))
-      (by_checked Both offset (record { tag = drop 4 front; size = number Big (take 4 front); length = 8 })
-      (box_content held offset)
-      (λ e s is. absurd cc) (λ _ sized. content_grows held offset (record {
-        tag = drop 4 front;
-        size = number Big (take 4 front);
-        length = 8;
-      }) sized)))
+      grows_bytes (GoesOn (length d)) d x offset 8 (λ front. head_behind offset front (box_content held offset))
+      (λ front. by_box Both Both offset front (box_content held offset) (λ e s is. absurd cc) (λ e s is. absurd cc)
+      (grows_field (GoesOn (length d)) d x Big (offset + 8) 8 (long_behind offset front (box_content held offset)))
+      (λ head _. content_grows held offset head) (λ head _. content_grows held offset head))
 
 -- A next box that stands behind the end is not there.
 box_gone : (d : List ℕ) (t : Along (List ℕ)) → length d ≤ t.offset
@@ -190,12 +168,12 @@ box_gone d t gone =
     ap uncounted (chain_stop jxl_chain d t (Err Ended) (ap (λ r. verdict r.answer) out)) ∙ ap (with_answer (Err Ended)) out
 
 box_there : (d : List ℕ) (t : Along (List ℕ)) (front : List ℕ) → (chain_from jxl_chain d t).answer ≡ Ok front
-    → (within : Bool)
-    → leb t.offset (length d) ≡ within → t.offset ≤ length d
-box_there d t front is true test = grind (arith, nat_tests)
-box_there d t front is false test =
-    let gone = box_gone d t (grind (arith, nat_tests)) in
-    absurd (let no : ◌≡◌ {A = Result (List ℕ) Halt} (Err Ended) (Ok front) = sym (ap (λ w. w.answer) gone) ∙ is in cc)
+    → t.offset ≤ length d
+box_there d t front is = elim (cases_lt (length d) t.offset) [
+  | inl gone ↦ absurd (let no : ◌≡◌ {A = Result (List ℕ) Halt} (Err Ended) (Ok front) =
+      sym (ap (λ w. w.answer) (box_gone d t (omega (arith, gone)))) ∙ is in cc)
+  | inr within ↦ within
+]
 
 decided : (r : Result (Said (List ℕ) (List ℕ)) Halt) (front : List ℕ) → verdict r ≡ Some (Ok front)
     → r ≡ Ok (Decided front)
@@ -213,7 +191,7 @@ boxes_grow d x = chain_induction jxl_chain d (λ t. (front : List ℕ) → (chai
     let u : Along (List ℕ) = record { held = t.held ++ v ∷ []; offset = offset } in
     let next : (chain_from jxl_chain d u).answer ≡ Ok front =
     sym (ap (λ w. w.answer) (chain_next jxl_chain d t v offset (jxl_advances d) is)) ∙ ok in
-    let within = box_there d u front next (leb offset (length d)) refl in
+    let within = box_there d u front next in
     let here = box_grows d x (concat t.held) t.offset (Next v offset) is in
     let same : (next_record jxl_chain (d ++ x) t).answer ≡ Ok (Next v offset) = here.1 ∙ ap Ok (here.2 within) in
     let rest = later front next in
@@ -260,11 +238,6 @@ then_ok : {X Y : Type 0} (r : Result X Halt) (spans : List Span) (f : X → Read
 then_ok (Ok x) spans f y is = (x, refl, is)
 then_ok (Err e) spans f y is = absurd cc
 
-then_at : {X Y : Type 0} (r : Result X Halt) (spans : List Span) (f : X → Reads Y) (x : X) → r ≡ Ok x
-    → (go_on spans r f).answer
-    ≡ (f x).answer
-then_at r spans f x is = ap (λ q. (go_on spans q f).answer) is
-
 codestream_grows : (d x front : List ℕ) → (jxl_codestream d).answer ≡ Ok front
     → (more : List ℕ) × ((jxl_codestream (d ++ x)).answer ≡ Ok (front ++ more))
 codestream_grows d x front is =
@@ -272,33 +245,26 @@ codestream_grows d x front is =
     let grown = start_grows d x found.0 found.1 in
     let rest = either_grows d x found.0 grown.0 grown.2 front found.2 in (
       rest.0,
-      then_at (layout_reads (d ++ x) jxl_start).answer (layout_reads (d ++ x) jxl_start).marks
-          (codestream (d ++ x)) grown.0 grown.1 ∙ rest.1,
+      ap (λ r. (go_on (layout_reads (d ++ x) jxl_start).marks r (codestream (d ++ x))).answer) grown.1 ∙ rest.1,
     )
 
 -- more bytes leave a size that was found
 size_grows : (front more : List ℕ) (v : ImageSize) → jxl_size front ≡ Ok v → jxl_size (front ++ more) ≡ Ok v
 unfolding jxl_size bits_of
-size_grows [] more v is = absurd (let none : ◌≡◌ {A = Result ImageSize Halt} (Err Corrupted) (Ok v) = is in cc)
-size_grows (a ∷ []) more v is = absurd (let none : ◌≡◌ {A = Result ImageSize Halt} (Err Corrupted) (Ok v) = is in cc)
 size_grows (a ∷ b ∷ front) more v is =
     let few : ltb (length (a ∷ b ∷ front)) 2 ≡ false = grind (arith, nat_tests) in
     let longer : ltb (length (a ∷ b ∷ (front ++ more))) 2 ≡ false = grind (arith, nat_tests) in
     let joined : bits_of (a ∷ b ∷ (front ++ more)) ≡ bits_of (a ∷ b ∷ front) ++ bits_of more =
-    flat_map-append (λ byte. low_bits 8 byte)
-    (a ∷ b ∷ front) more in
-    let was = ap (λ t. cond t (Err Corrupted)
-    (cond (has_signature (a ∷ b ∷ front)) (found_by (field_at (bits_of (a ∷ b ∷ front))) jxl_header)
-    (Err InvalidJxlSignature))) (sym few) ∙ is in
-    rw longer (by_signature (has_signature (a ∷ b ∷ front)) was joined) where
+    flat_map-append (λ byte. low_bits 8 byte) (a ∷ b ∷ front) more in
+    rw longer (by_signature (has_signature (a ∷ b ∷ front)) (rw few at is) joined) where
       by_signature : (signed : Bool) → cond signed (found_by (field_at (bits_of (a ∷ b ∷ front))) jxl_header)
           (Err InvalidJxlSignature) ≡ Ok v → bits_of (a ∷ b ∷ (front ++ more)) ≡ bits_of (a ∷ b ∷ front) ++ bits_of more
           → cond signed (found_by (field_at (bits_of (a ∷ b ∷ (front ++ more)))) jxl_header) (Err InvalidJxlSignature)
           ≡ Ok v
       by_signature true was joined = ap (λ bits. found_by (field_at bits) jxl_header) joined
-          ∙ found_more (bits_of (a ∷ b ∷ front))
-          (bits_of more) jxl_header v was
+          ∙ found_more (bits_of (a ∷ b ∷ front)) (bits_of more) jxl_header v was
       by_signature false was joined = absurd cc
+size_grows short more v is = absurd (let none : ◌≡◌ {A = Result ImageSize Halt} (Err Corrupted) (Ok v) = is in cc)
 
 -- Bytes behind an input change no size that was found.
 pub jxl_lasts : (d x : List ℕ) (v : ImageSize) → (jxl d).answer ≡ Ok v → (jxl (d ++ x)).answer ≡ Ok v
@@ -307,7 +273,5 @@ jxl_lasts d x v is =
     (λ front. just (jxl_size front) []) v is
     in
     let grown = codestream_grows d x found.0 found.1 in
-    then_at (jxl_codestream (d ++ x)).answer (jxl_codestream (d ++ x)).marks
-    (λ front. just (jxl_size front) [])
-    (found.0 ++ grown.0) grown.1
+    ap (λ r. (go_on (jxl_codestream (d ++ x)).marks r (λ front. just (jxl_size front) [])).answer) grown.1
     ∙ size_grows found.0 grown.0 v found.2

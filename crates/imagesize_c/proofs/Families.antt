@@ -1,5 +1,5 @@
 -- What a query tells in a number.
-use Rattle.std.proofs.Common.{◌≡◌, Bool, true, false, Option, Some, None, refl, sym, ap}
+use Rattle.std.proofs.Common.{◌≡◌, Bool, true, false, Option, Some, refl, sym, ap}
 use Rattle.std.specs.Prelude.{IsTrue, ◌↔◌}
 use Rattle.imagesize.specs.declared.types.CompressionFamily.{CompressionFamily}
 use Rattle.imagesize.specs.declared.types.CompressionFamily.TheVariants as family
@@ -9,11 +9,5 @@ use Rattle.imagesize_c.specs.Told.{is_block}
 pub block_bit : (b : Bool) (f : Option CompressionFamily) → IsTrue b ↔ (f ≡ Some family.BlockCompression)
     → b ≡ is_block f
 block_bit true f h = sym (ap is_block (h.0 refl))
-block_bit false None h = refl
 block_bit false (Some family.BlockCompression) h = absurd (let no : false ≡ true = h.1 refl in cc)
-block_bit false (Some family.Etc) h = refl
-block_bit false (Some family.Eac) h = refl
-block_bit false (Some family.Pvrtc) h = refl
-block_bit false (Some family.Astc) h = refl
-block_bit false (Some family.Atc) h = refl
-block_bit false (Some family.Uncompressed) h = refl
+block_bit false _ h = refl

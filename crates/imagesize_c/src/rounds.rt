@@ -63,7 +63,8 @@ pub unsafe extern "C" fn imagesize_parts_answer(
     ensures wants { (d : List ℕ) → MayBe held d → is_wanted result ≡ true → AllBelow wanted.new.start (meaning d 0).marks → ⊥ }
 
     // The result depends on a byte of the span that is requested, unless that is the rest of the first 18 bytes.
-    ensures within { (d : List ℕ) → MayBe held d → is_wanted result ≡ true → (wanted.new.start < 12) ⊎ (18 ≤ wanted.new.start) → HasMarked wanted.new d }
+    ensures within { (d : List ℕ) → MayBe held d → is_wanted result ≡ true → (wanted.new.start < 12) ⊎ (18 ≤ wanted.new.start)
+        → HasMarked wanted.new d }
     ensures fits { is_wanted result ≡ true → IsWithin (total_of held) wanted.new }
 
     // The span has 1,024 bytes at most. Unless the type is a text format, it has 132 at most. Past the first 18 bytes, it then ends
@@ -116,7 +117,8 @@ fn answer_by(
     ensures size { (d : List ℕ) → MayBe parts.now d → is_wanted result ≡ false
         → TellsSize (meaning d 0).answer width.old width.new height.old height.new }
     ensures wants { (d : List ℕ) → MayBe parts.now d → is_wanted result ≡ true → AllBelow wanted.new.start (meaning d 0).marks → ⊥ }
-    ensures within { (d : List ℕ) → MayBe parts.now d → is_wanted result ≡ true → (wanted.new.start < 12) ⊎ (18 ≤ wanted.new.start) → HasMarked wanted.new d }
+    ensures within { (d : List ℕ) → MayBe parts.now d → is_wanted result ≡ true → (wanted.new.start < 12) ⊎ (18 ≤ wanted.new.start)
+        → HasMarked wanted.new d }
     ensures fits { is_wanted result ≡ true → IsWithin (total_of parts.now) wanted.new }
     ensures short { is_wanted result ≡ true → (wanted.new.len ≤ 1024) × EndsEarly parts.now wanted.new }
     ensures shorter { (d : List ℕ) → MayBe parts.now d → is_wanted result ≡ true → texts_of d ≡ false → wanted.new.len ≤ 132 }

@@ -1,593 +1,353 @@
--- A text that is read byte by byte: its readings are one, and it takes none behind it.
-use Rattle.std.proofs.Common.{◌≡◌, ℕ, zero, suc, ◌+◌, ◌-◌, ◌^◌, ◌<◌, ◌≤◌, min, max, Bool, true, false, ◌||◌, not, cond, List, [], ◌∷◌, ◌++◌, length, take, drop, slice_index, None, Ok, Err, inl, inr, refl, sym, ap, ◌∙◌, subst, arith, append_assoc}
-use Rattle.std.proofs.lemmas.Bool.{cases_lt}
+-- A text that is read byte by byte: its reads are one, and no byte after it is read.
+use Rattle.std.proofs.Common.{◌≡◌, ◌≢◌, ℕ, zero, suc, ◌+◌, ◌-◌, ◌^◌, ◌<◌, ◌≤◌, min, Bool, true, false, ◌||◌, not, cond, List, [], ◌∷◌, ◌++◌, length, take, drop, slice_index, Result, None, Ok, Err, IfErr, refl, sym, ap, ◌∙◌, subst, arith, append_assoc}
 use Rattle.std.proofs.lemmas.Bool.Decides.{nat_tests}
-use Rattle.std.proofs.Math.Seq.{drop-append_seam, take-add}
-use Rattle.std.proofs.lemmas.List.{append-nil, length-append, length-drop, length-take, take-append-le, take_all}
-use Rattle.std.proofs.lemmas.Slice.{take-put_mid, take-put_mid_below}
+use Rattle.std.proofs.lemmas.List.{append-nil, drop_all, length-append, length-drop, length-take, take-append-drop, take_all, take_at}
+use Rattle.std.proofs.Math.Seq.{take-append-add}
 use borrow.Rule.Slice.PartMut.{put_mid}
 use Rattle.std.specs.Char.{is_ascii_whitespace}
 use Rattle.imagesize_source.specs.declared.halt.Halt.{Halt}
-use Rattle.imagesize_source.specs.declared.span.Span.{Span}
 use Rattle.imagesize_source.specs.declared.text.Text.{Text}
 use Rattle.imagesize_source.specs.declared.text.Text.TheVariants.{Line, Word}
 use Rattle.imagesize_source.specs.Input.{part, span_at, span_of}
-use Rattle.imagesize_source.specs.Paying.{Paid}
-use Rattle.imagesize_source.specs.Reading.{part_read, text_part, text_read}
-use Rattle.imagesize_source.specs.State.{State, Runs, IsSound, total, state_after, step, new_bytes, front_after, place_after}
+use Rattle.imagesize_source.specs.Reading.{part_read, Reads, just, text_part, map_answer, is_stopped, is_faulted}
+use Rattle.imagesize_source.specs.State.{State, Runs, EndedBy, IsSound, total, state_after, new_bytes, front_after, place_after}
+use Rattle.imagesize_source.specs.Text.{delimits, front_through, text_front, is_ended, ends}
+use Rattle.imagesize_source.proofs.Agreement.{whole_span}
+use Rattle.imagesize_source.proofs.Counts.{total-span_at, total-span_of, total_there}
+use Rattle.imagesize_source.proofs.Layouts.{no_part, runs_as}
+use Rattle.imagesize_source.proofs.Parts.{part_front, part_length, part_none}
+use Rattle.imagesize_source.proofs.Runs.{part_is, past-past, runs_then, total-append}
+use Rattle.imagesize_source.proofs.Slices.{given_runs}
+use Rattle.imagesize_source.proofs.Texts.{line_front, no_front, through-cons, word_front}
+use Rattle.imagesize_source.proofs.Unended.{line_front_on}
 use Rattle.imagesize_io.specs.declared.progress.Progress.{Progress}
-use Rattle.imagesize_io.specs.Held.{is_line}
-use Rattle.imagesize_io.specs.ReaderState.{reader_frame, reader_state}
+use Rattle.imagesize_io.specs.declared.reader.Ledger.{Ledger}
+use Rattle.imagesize_io.specs.Held.{IsWhole, is_line}
+use Rattle.imagesize_io.specs.ReaderState.{ReadsAt, ReadsText, reader_frame, reader_state}
+use Rattle.imagesize_io.specs.Rest.{GoesOn, ReadsRest, rest_read, text_rest}
 use Rattle.imagesize_io.specs.Standing.{stand}
 use Rattle.imagesize_io.specs.StopOf.{failures_of}
 use Rattle.imagesize_io.specs.Telling.{Account}
-use Rattle.imagesize_source.specs.Text.{delimits, front_through, text_front, is_ended, ends}
-use Rattle.imagesize_source.proofs.Counts.{total-span_at, total-span_of, total_there}
-use Rattle.imagesize_source.proofs.Layouts.{no_part, no_span}
-use Rattle.imagesize_source.proofs.Agreement.{span-some, whole_span}
-use Rattle.imagesize_source.proofs.Runs.{part_is, past-held}
-use Rattle.imagesize_io.proofs.Windows.{sound_at, told_by}
-use Rattle.imagesize_source.proofs.Texts.{front_length, line_front, no_front, through-cons, word_front}
-use Rattle.imagesize_source.proofs.Unended.{line_front_on}
-use Rattle.imagesize_source.proofs.Parts.{part_length, part_none}
+use Rattle.imagesize_io.proofs.Filling.{part-add}
+use Rattle.imagesize_io.proofs.Windows.{past-span, read_on, reader_sound}
 
--- what is left of a text behind some of its bytes, of which one was no white space or none was
-abbrev pub text_rest : Text → Bool → List ℕ → List ℕ
-text_rest (Line delimiter) begun bs = front_through (delimits (Line delimiter)) bs
-text_rest Word true bs = front_through is_ascii_whitespace bs
-text_rest Word false bs = text_front Word bs
+abbrev state_of : Account → ℕ → Ledger → State
+state_of a home l = reader_state a home l.progress l.window.items
 
-pub rest_start : (t : Text) (bs : List ℕ) → text_front t bs ≡ text_rest t false bs
-rest_start (Line delimiter) bs = line_front delimiter bs
-rest_start Word bs = refl
+-- the rest of a line is a line
+line_rest : (begun : Bool) (delimiter : ℕ) (bs : List ℕ)
+    → text_rest begun (Line delimiter) bs ≡ front_through (delimits (Line delimiter)) bs
+line_rest true delimiter bs = refl
+line_rest false delimiter bs = line_front delimiter bs
 
-rest_none : (t : Text) (begun : Bool) → text_rest t begun [] ≡ []
-rest_none (Line delimiter) begun = refl
-rest_none Word true = refl
-rest_none Word false = no_front
+rest_none : (begun : Bool) (t : Text) → text_rest begun t [] ≡ []
+rest_none true t = refl
+rest_none false (Line delimiter) = line_front delimiter []
+rest_none false Word = no_front
 
-pub rest_ends : (t : Text) (begun : Bool) (b : ℕ) (bs : List ℕ) → ends t begun b ≡ true
-    → text_rest t begun (b ∷ bs) ≡ b ∷ []
-rest_ends (Line delimiter) begun b bs is = through-cons (delimits (Line delimiter)) b bs
-    ∙ ap (λ test. cond test (b ∷ [])
-    (b ∷ front_through (delimits (Line delimiter)) bs)) is
-rest_ends Word true b bs is = through-cons is_ascii_whitespace b bs ∙ ap (λ test. cond test (b ∷ [])
-    (b ∷ front_through is_ascii_whitespace bs)) is
-rest_ends Word false b bs is = absurd cc
+through_by : (p : ℕ → Bool) (b : ℕ) (bs : List ℕ) (is : Bool) → p b ≡ is
+    → front_through p (b ∷ bs) ≡ b ∷ cond is [] (front_through p bs)
+through_by p b bs true passes = through-cons p b bs ∙ ap (λ x. cond x (b ∷ []) (b ∷ front_through p bs)) passes
+through_by p b bs false passes = through-cons p b bs ∙ ap (λ x. cond x (b ∷ []) (b ∷ front_through p bs)) passes
 
-pub rest_goes_on : (t : Text) (begun : Bool) (b : ℕ) (bs : List ℕ) → ends t begun b ≡ false
-    → text_rest t begun (b ∷ bs) ≡ b ∷ text_rest t
-    (begun || not (is_ascii_whitespace b)) bs
-rest_goes_on (Line delimiter) begun b bs is = through-cons (delimits (Line delimiter)) b bs
-    ∙ ap (λ test. cond test (b ∷ [])
-    (b ∷ front_through (delimits (Line delimiter)) bs)) is
-rest_goes_on Word true b bs is = through-cons is_ascii_whitespace b bs ∙ ap (λ test. cond test (b ∷ [])
-    (b ∷ front_through is_ascii_whitespace bs)) is
-rest_goes_on Word false b bs is =
+-- the rest of a text by whether its first byte ends it
+rest_by : (begun : Bool) (t : Text) (b : ℕ) (bs : List ℕ) (is : Bool) → ends t begun b ≡ is
+    → text_rest begun t (b ∷ bs) ≡ b ∷ cond is [] (text_rest (begun || not (is_ascii_whitespace b)) t bs)
+rest_by begun (Line delimiter) b bs is ends =
+    line_rest begun delimiter (b ∷ bs) ∙ through_by (delimits (Line delimiter)) b bs is ends
+    ∙ ap (λ xs. b ∷ cond is [] xs) (sym (line_rest (begun || not (is_ascii_whitespace b)) delimiter bs))
+rest_by true Word b bs is ends = through_by is_ascii_whitespace b bs is ends
+rest_by false Word b bs true ends = absurd cc
+rest_by false Word b bs false ends =
     let Goal : Bool → Type 0 = λ white. cond white (b ∷ text_front Word bs) (b ∷ front_through is_ascii_whitespace bs)
-    ≡ b ∷ text_rest Word
-    (not white) bs in
+    ≡ b ∷ text_rest (not white) Word bs in
     let cases : Goal (is_ascii_whitespace b) = elim (is_ascii_whitespace b) as Goal [ true ↦ refl | false ↦ refl ] in
     word_front b bs ∙ cases
 
 -- where a byte is left, the text has it
-pub rest_some : (t : Text) (begun : Bool) (b : ℕ) (bs : List ℕ) → 0 < length (text_rest t begun (b ∷ bs))
-rest_some t begun b bs = by_end (ends t begun b) refl where
-  by_end : (is : Bool) → ends t begun b ≡ is → 0 < length (text_rest t begun (b ∷ bs))
-  by_end true is = omega (arith, ap length (rest_ends t begun b bs is))
-  by_end false is = omega (arith, ap length (rest_goes_on t begun b bs is))
+pub rest_some : (t : Text) (begun : Bool) (b : ℕ) (bs : List ℕ) → 0 < length (text_rest begun t (b ∷ bs))
+rest_some t begun b bs = omega (arith, ap length (rest_by begun t b bs (ends t begun b) refl))
 
--- a line that does not end in some bytes goes on behind them
-pub line_open : (t : Text) (bs more : List ℕ) → is_line t ≡ true → is_ended t bs ≡ false
-    → text_front t (bs ++ more) ≡ bs ++ text_rest t false more
-line_open (Line delimiter) bs more line still = line_front_on delimiter bs more still
-    ∙ ap (λ xs. bs ++ xs) (line_front delimiter more)
-line_open Word bs more line still = absurd cc
+pub rest_start : (t : Text) (bs : List ℕ) → text_front t bs ≡ text_rest false t bs
+rest_start t bs = refl
 
--- the readings of a span and of the byte behind it, by a source that counts and records nothing, are one
-abbrev pub CountsOnly : State → Type 0
-CountsOnly a = (a.frame.counts ≡ true) × (a.recorded ≡ None)
+-- a line that some bytes do not end goes on after them
+line_goes_on : (t : Text) (bs : List ℕ) → is_line t ≡ true → is_ended t bs ≡ false → GoesOn t false false bs
+line_goes_on (Line delimiter) bs line still = record { after = λ more. line_front_on delimiter bs more still }
+line_goes_on Word bs line still = absurd cc
 
-front_joins : (front offset n m : ℕ) → 0 < m
-    → front_after (front_after front offset n) (offset + n) m ≡ front_after front offset (n + m)
-front_joins front offset n m some = grind (arith, nat_tests)
+-- what is whole as a line is the rest of a line
+pub line_whole : (t : Text) (begun : Bool) (bs : List ℕ) → is_line t ≡ true → IsWhole t bs
+    → (more : List ℕ) → text_rest begun t (bs ++ more) ≡ bs
+line_whole (Line delimiter) begun bs line whole more =
+    line_rest begun delimiter (bs ++ more) ∙ sym (line_front delimiter (bs ++ more)) ∙ whole more
+line_whole Word begun bs line whole more = absurd cc
 
-fresh_joins : (front offset n m : ℕ) → 0 < m
-    → new_bytes front offset n + new_bytes (front_after front offset n) (offset + n) m ≡ new_bytes front offset (n + m)
-fresh_joins front offset n m some = grind (arith, nat_tests)
+-- the reads of two spans, one after the other, leave a reader as one read of both does
+joined : (a : State) (offset n m : ℕ) → a.frame.counts ≡ true → a.recorded ≡ None
+    → state_after (state_after a (span_at offset n)) (span_at (offset + n) m) ≡ state_after a (span_at offset (n + m))
+joined a offset n m counts bare =
+    let first : ℕ = front_after a.front offset n in
+    let front : front_after first (offset + n) m ≡ front_after a.front offset (n + m) = grind (arith, nat_tests) in
+    let taken : a.taken + new_bytes a.front offset n + new_bytes first (offset + n) m ≡ a.taken + new_bytes a.front offset (n + m) =
+    grind (arith, nat_tests) in
+    let place : place_after first (place_after a.front a.place offset n) (offset + n) m ≡ place_after a.front a.place offset (n + m) =
+    grind (arith, nat_tests) in
+    ap (λ s. state_after s (span_at (offset + n) m)) (past-span a offset n (counts, bare))
+    ∙ past-span (read_on a offset n) (offset + n) m (counts, bare)
+    ∙ rw (front, taken, place) (sym (past-span a offset (n + m) (counts, bare)))
 
-place_joins : (front place offset n m : ℕ) → 0 < m
-    → place_after (front_after front offset n) (place_after front place offset n) (offset + n) m
-    ≡ place_after front place offset (n + m)
-place_joins front place offset n m some = grind (arith, nat_tests)
+-- the rest of a text of which nothing was read is the text
+pub text_is : {old new : Ledger} {a b : Account} {t : Text} {offset : ℕ} {buffer : List ℕ} {r : Result ℕ Halt}
+    → ReadsRest old new a b t false offset buffer r → ReadsText old new a b t offset buffer r
+unfolding text_part
+text_is read = record { bound = read.bound; pays = read.pays; runs = read.runs }
 
--- a state by what was taken
-abbrev having : State → ℕ → ℕ → ℕ → State
-having a front taken place = record a { front = front; taken = taken; place = place; recorded = None }
-
-step_counts : (a : State) (s : Span) → CountsOnly a → step a s ≡ having a (front_after a.front s.start s.len)
-    (a.taken + new_bytes a.front s.start s.len) (place_after a.front a.place s.start s.len)
-step_counts a s only = let counts = only.0 in let none = only.1 in rw (counts, none) refl
-
-step_joins : (a : State) (offset n m : ℕ) → 0 < m → CountsOnly a → step (step a (record { start = offset; len = n }))
-    (record { start = offset + n; len = m }) ≡ step a (record { start = offset; len = n + m })
-step_joins a offset n m some only =
-    let first = step_counts a (record { start = offset; len = n }) only in
-    let front : ℕ = front_after a.front offset n in
-    let taken : ℕ = a.taken + new_bytes a.front offset n in
-    let place : ℕ = place_after a.front a.place offset n in
-    let more : taken + new_bytes front (offset + n) m ≡ a.taken + new_bytes a.front offset (n + m) =
-    omega (arith, fresh_joins a.front offset n m some) in
-    ap (λ s. step s (record { start = offset + n; len = m })) first
-    ∙ step_counts (having a front taken place) (record { start = offset + n; len = m }) (only.0, refl)
-    ∙ ap (λ w. having a w (taken + new_bytes front (offset + n) m) (place_after front place (offset + n) m))
-    (front_joins a.front offset n m some)
-    ∙ ap (λ k. having a (front_after a.front offset (n + m)) k (place_after front place (offset + n) m)) more
-    ∙ ap (λ o. having a (front_after a.front offset (n + m)) (a.taken + new_bytes a.front offset (n + m)) o)
-    (place_joins a.front a.place offset n m some)
-    ∙ sym (step_counts a (record { start = offset; len = n + m }) only)
-
-span_joins : (a : State) (offset n m : ℕ) → 0 < m → CountsOnly a
-    → state_after (state_after a (span_at offset n)) (span_at (offset + n) m) ≡ state_after a
-    (span_at offset (n + m))
+-- nothing is read into a full buffer
+rest_full : {old : Ledger} {a : Account} (t : Text) (begun : Bool) (offset : ℕ) → ReadsRest old old a a t begun offset [] (Ok 0)
 unfolding state_after span_at
-span_joins a offset zero m some only = let here : offset + 0 ≡ offset = omega arith in
-    let all : zero + m ≡ m = omega arith in rw (here, all) refl
-span_joins a offset (suc n) m some only =
-    ap (λ s. state_after (state_after a s) (span_at (offset + suc n) m)) (span-some offset (suc n) (omega arith))
-    ∙ ap (state_after (state_after a (record { start = offset; len = suc n } ∷ []))) (span-some (offset + suc n) m some)
-    ∙ step_joins a offset (suc n) m some only
-    ∙ sym (ap (state_after a) (span-some offset (suc n + m) (omega arith)))
-
--- what stands from an offset on, where one byte there is known
-drop_byte : (d : List ℕ) (offset b : ℕ) → take 1 (drop offset d) ≡ b ∷ [] → drop offset d ≡ b ∷ drop (suc offset) d
-drop_byte [] zero b is = absurd cc
-drop_byte (x ∷ d) zero b is = let same : x ≡ b = cc in ap (λ y. y ∷ d) same
-drop_byte [] (suc offset) b is = absurd cc
-drop_byte (x ∷ d) (suc offset) b is = drop_byte d offset b is
-
-part_byte : (d : List ℕ) (offset b k : ℕ) → part d offset 1 ≡ b ∷ [] → 0 < k
-    → part d offset k ≡ b ∷ part d (offset + 1) (k - 1)
-unfolding part
-part_byte d offset b zero is some = absurd (omega arith)
-part_byte d offset b (suc k) is some =
-    let next : suc offset ≡ offset + 1 = omega arith in
-    let fewer : k ≡ suc k - 1 = omega arith in
-    ap (take (suc k)) (drop_byte d offset b is) ∙ ap (λ p. b ∷ take k (drop p d)) next
-    ∙ ap (λ n. b ∷ take n (drop (offset + 1) d)) fewer
-
--- Readings gave so many bytes. Where the source is honest, it has taken no more than those, and the state is the one past them.
-pub record Took (a b : State) (offset count : ℕ) (got : List ℕ) : Type 0 where
-  pub long : length got ≡ count
-  pub sound : IsSound b
-  pub frame : b.frame ≡ a.frame
-  pub taken : a.taken ≤ b.taken
-  pub within : a.held.honest ≡ true → b.taken ≤ a.taken + count
-  pub state : a.held.honest ≡ true → b ≡ state_after a (span_at offset count)
-
--- what they gave is the text
-pub took_text : {a b : State} {offset count : ℕ} {got : List ℕ} (t : Text) (k : ℕ) → Took a b offset count got → IsSound a
-    → (a.held.honest ≡ true → text_part a.held.input t offset k ≡ got)
-    → Runs a b (Ok got) (text_read a.held.input t offset k)
-took_text {a} {b} {offset} {count} {got} t k took sound is = record {
-  sound = sound;
-  sound_after = took.sound;
-  frame = took.frame;
-  taken = took.taken;
-  within = λ honest. omega (
-    arith,
-    took.within honest,
-    total-span_at offset (length (text_part a.held.input t offset k)),
-    long honest,
-  );
-  answer = λ honest goes_on. ap Ok (is honest);
-  state = λ honest goes_on. took.state honest ∙ ap (λ n. state_after a (span_at offset n)) (sym (long honest));
-  fault = λ honest faults. absurd cc;
-  misses = λ honest faults. absurd cc;
-  ended = tt;
-} where
-  long : a.held.honest ≡ true → length (text_part a.held.input t offset k) ≡ count
-  long honest = ap length (is honest) ∙ took.long
-
--- Of a text so many bytes were read, and what is left of it is known where the source is honest.
-pub record Taking (a b : State) (t : Text) (offset count : ℕ) (begun : Bool) (k : ℕ) (got : List ℕ) : Type 0 where
-  pub fits : count ≤ k
-  pub took : Took a b offset count got
-  pub pays : 0 < count → max a.frame.told 32 < offset → a.taken < b.taken
-  pub left : a.held.honest ≡ true → text_part a.held.input t offset k ≡ got ++ text_rest t begun
-      (part a.held.input (offset + count) (k - count))
-
--- before the first
-pub taking_none : (a : State) (t : Text) (offset k : ℕ) → IsSound a → Taking a a t offset 0 false k []
-unfolding state_after span_at text_part
-taking_none a t offset k sound = record {
-  fits = omega arith;
-  took = record {
-    long = refl;
-    sound = sound;
-    frame = refl;
-    taken = omega arith;
-    within = λ honest. omega arith;
-    state = λ honest. refl;
-  };
+rest_full {old} {a} t begun offset = record {
+  bound = omega arith;
   pays = λ some far. absurd (omega (arith, some));
-  left = λ honest.
-      let here : offset ≡ offset + 0 = omega arith in
-      let all : k ≡ k - 0 = omega arith in
-      rest_start t (part a.held.input offset k)
-      ∙ ap (λ p. text_rest t false (part a.held.input p k)) here
-      ∙ ap (λ j. text_rest t false (part a.held.input (offset + 0) j)) all;
+  runs = λ home.
+      let s : State = state_of a home old in
+      let sound : IsSound s = reader_sound a home old.progress old.window.items in
+      let none : text_rest begun t (part s.held.input offset 0) ≡ [] =
+      ap (text_rest begun t) (part_none s.held.input offset) ∙ rest_none begun t in
+      given_runs [] sound sound refl refl (ap Ok none) (ap (λ bs. state_after s (span_at offset (length bs))) (sym none));
 }
 
-module _ {a b : State} {t : Text} {offset count k : ℕ} {begun : Bool} {got : List ℕ}
-    (h : Taking a b t offset count begun k got) where
-  same_held : a.held.honest ≡ true → b.held ≡ a.held
-  same_held honest = ap (λ s. s.held) (h.took.state honest) ∙ past-held a (span_at offset count)
+-- a read of bytes, where these are the rest
+rest_as : {a b : State} {got : List ℕ} (begun : Bool) (t : Text) (offset n k : ℕ)
+    → Runs a b (Ok got) (part_read a.held.input offset n)
+    → (part a.held.input offset n ≡ got → text_rest begun t (part a.held.input offset k) ≡ got)
+    → Runs a b (Ok got) (rest_read a.held.input begun t offset k)
+unfolding span_of
+rest_as {a} begun t offset n k run is = runs_as (rest_read a.held.input begun t offset k) run (λ honest.
+    let there = part_is (run.answer honest refl) in
+    ap (λ j. just (Ok (part a.held.input offset n)) (span_at offset j)) (sym (part_length a.held.input offset n))
+    ∙ ap (λ bs. just (Ok bs) (span_at offset (length bs))) (there ∙ sym (is there)))
 
-  same_honest : a.held.honest ≡ true → b.held.honest ≡ true
-  same_honest honest = ap (λ x. x.honest) (same_held honest) ∙ honest
+-- all of the bytes were read
+all_run : {old new : Ledger} {a b : Account} {offset n : ℕ} {got : List ℕ} → ReadsAt old new a b offset got (Ok n)
+    → length got ≡ n → (home : ℕ)
+    → Runs (state_of a home old) (state_of b home new) (Ok got) (part_read (state_of a home old).held.input offset n)
+all_run {n = n} {got} read long home = rw (take_all n got (omega (arith, long)), long) at (read.runs home)
 
-  same_input : a.held.honest ≡ true → b.held.input ≡ a.held.input
-  same_input honest = ap (λ x. x.input) (same_held honest)
+-- bytes that are the rest of a text, whatever follows them
+pub rest_whole : {old new : Ledger} {a b : Account} {t : Text} {begun : Bool} {offset n : ℕ} (buffer : List ℕ)
+    → ReadsAt old new a b offset (take n buffer) (Ok n) → n ≤ length buffer
+    → ((more : List ℕ) → text_rest begun t (take n buffer ++ more) ≡ take n buffer)
+    → ReadsRest old new a b t begun offset buffer (Ok n)
+rest_whole {old} {a = a} {t = t} {begun} {offset} {n} buffer read fits whole = record {
+  bound = fits;
+  pays = λ some far. (read.pays some far).0;
+  runs = λ home. rest_as begun t offset n (length buffer)
+      (all_run read (omega (arith, length-take n buffer, fits)) home) (λ there.
+      let all : List ℕ = part (state_of a home old).held.input offset (length buffer) in
+      let front : take n all ≡ take n buffer = part_front _ offset n (length buffer) fits ∙ there in
+      ap (text_rest begun t) (sym (take-append-drop n all) ∙ ap (λ bs. bs ++ drop n all) front) ∙ whole (drop n all));
+}
 
-  -- the text has the bytes that were read, and what is left
-  text_long : a.held.honest ≡ true → length (text_part a.held.input t offset k) ≡ count + length
-      (text_rest t begun (part a.held.input (offset + count) (k - count)))
-  text_long honest = omega (
-    arith,
-    ap length (h.left honest),
-    length-append got
-        (text_rest t begun (part a.held.input (offset + count) (k - count))),
-    h.took.long,
-  )
+-- a function applied to the value of a result keeps its errors
+mapped : {X Y : Type 0} (f : X → Y) (b : State) (r : Result X Halt) → (is_stopped (map_answer f r) ≡ is_stopped r)
+    × (is_faulted (map_answer f r) ≡ is_faulted r) × (IfErr r (EndedBy b) → IfErr (map_answer f r) (EndedBy b))
+mapped f b (Ok x) = (refl, refl, λ ended. ended)
+mapped f b (Err e) = (refl, refl, λ ended. ended)
 
-  -- what is left of it is nothing
-  all_read : a.held.honest ≡ true → part a.held.input (offset + count) (k - count) ≡ []
-      → text_part a.held.input t offset k ≡ got
-  all_read honest none = h.left honest ∙ ap (λ bs. got ++ text_rest t begun bs) none
-      ∙ ap (λ bs. got ++ bs) (rest_none t begun)
-      ∙ append-nil got
-
-  module _ {c : State} (next : ℕ) (next_is : next ≡ min (offset + count) (2 ^ 64 - 1)) where
-    -- where no byte is read, none is there
-    end_there : Runs b c (Ok []) (part_read b.held.input next 1) → a.held.honest ≡ true → length a.held.input ≤ next
-    end_there run honest =
-        let none : part a.held.input next 1 ≡ [] = ap (λ d. part d next 1) (sym (same_input honest)) ∙ part_is
-        (run.answer (same_honest honest) refl) in
-        omega (arith, part_length a.held.input next 1, ap length none)
-
-    -- a text ends where the input does
-    pub taking_ends : Runs b c (Ok []) (part_read b.held.input next 1) → IsSound a
-        → Runs a c (Ok got) (text_read a.held.input t offset k)
-    unfolding state_after
-    taking_ends run sound = took_text t k (record {
-      long = h.took.long;
-      sound = run.sound_after;
-      frame = run.frame ∙ h.took.frame;
-      taken = omega (arith, h.took.taken, run.taken);
-      within = λ honest. omega
-          (arith, h.took.within honest, run.within (same_honest honest), ap total (no_mark honest));
-      state = λ honest. run.state (same_honest honest) refl ∙ ap (state_after b) (no_mark honest) ∙ h.took.state honest;
-    }) sound ends_now where
-      ends_now : a.held.honest ≡ true → text_part a.held.input t offset k ≡ got
-      ends_now honest = all_read honest
-          (no_part a.held.input (offset + count) (k - count) (omega (arith, end_there run honest, next_is)))
-
-      no_mark : a.held.honest ≡ true → span_of b.held.input next 1 ≡ []
-      no_mark honest = ap (λ d. span_of d next 1) (same_input honest)
-          ∙ no_span a.held.input next 1 (end_there run honest)
-
-    -- a failure on the way
-    pub taking_stopped : {e : Halt} → count < k → Runs b c (Err e) (part_read b.held.input next 1) → IsSound a
-        → c.missed ≡ None
-        → Runs a c (Err e) (text_read a.held.input t offset k)
-    taking_stopped {e} more run sound untold = record {
-      sound = sound;
-      sound_after = run.sound_after;
-      frame = run.frame ∙ h.took.frame;
-      taken = omega (arith, h.took.taken, run.taken);
-      within = λ honest. omega (
-        arith,
-        h.took.within honest,
-        run.within (same_honest honest),
-        few honest,
-        total-span_at offset
-            (length (text_part a.held.input t offset k)),
-      );
-      answer = λ honest goes_on. absurd (let no = run.answer (same_honest honest) goes_on in cc);
-      state = λ honest goes_on. absurd (let no = run.answer (same_honest honest) goes_on in cc);
-      fault = λ honest faults. ap (λ x. x.can_fail) (sym (same_held honest)) ∙ run.fault (same_honest honest) faults;
+-- reads, stated as other reads that see no less and leave the same state
+runs_seen : {X Y : Type 0} {a b : State} {r : Result X Halt} {reads : Reads X} (f : X → Y) (other : Reads Y) → Runs a b r reads
+    → b.missed ≡ None → (a.held.honest ≡ true → (total reads.marks ≤ total other.marks)
+    × (reads.answer ≡ r → (other.answer ≡ map_answer f r) × (state_after a reads.marks ≡ state_after a other.marks)))
+    → Runs a b (map_answer f r) other
+runs_seen {b = b} {r} f other h untold same =
+    let ends = mapped f b r in
+    record {
+      sound = h.sound;
+      sound_after = h.sound_after;
+      frame = h.frame;
+      taken = h.taken;
+      within = λ honest. omega (arith, h.within honest, (same honest).0);
+      answer = λ honest on. ((same honest).1 (h.answer honest (sym ends.0 ∙ on))).0;
+      state = λ honest on. let calm = sym ends.0 ∙ on in h.state honest calm ∙ ((same honest).1 (h.answer honest calm)).1;
+      fault = λ honest faults. h.fault honest (sym ends.1 ∙ faults);
       misses = λ honest faults. record { told = rw untold tt };
-      ended = run.ended;
-    } where
-      one_more : (bs : List ℕ) → 0 < length bs → 0 < length (text_rest t begun bs)
-      one_more [] some = absurd (omega (arith, some))
-      one_more (x ∷ bs) some = rest_some t begun x bs
+      ended = ends.2 h.ended;
+    }
 
-      few : a.held.honest ≡ true
-          → count + total (span_of b.held.input next 1) ≤ length (text_part a.held.input t offset k)
-      few honest = elim (cases_lt next (length a.held.input)) [
-        | inl there ↦ (
-            let short : length a.held.input < 2 ^ 63 = subst (λ d. length d < 2 ^ 63) (same_input honest)
-            (h.took.sound (same_honest honest)).1 in
-            let some = one_more (part a.held.input (offset + count) (k - count))
-            (omega (arith, part_length a.held.input (offset + count) (k - count), there, next_is, short, more)) in
-            omega (arith, some, text_long honest, total-span_of b.held.input next 1))
-        | inr beyond ↦ omega
-            (arith, text_long honest, total_there b.held.input next 1, ap length (same_input honest), beyond)
-      ]
+byte_is : (more tail : List ℕ) → length more ≡ 1 → slice_index (more ++ tail) 0 ∷ [] ≡ take 1 (more ++ tail)
+byte_is [] tail one = absurd (omega (arith, one))
+byte_is (x ∷ more) tail one = refl
 
-    -- the rest of a line is a line
-    pub taking_line : (rest : List ℕ) → is_line t ≡ true → 0 < length rest → count + length rest ≤ k → CountsOnly a → IsSound a
-        → Runs b c (Ok rest) (text_read b.held.input t next (k - count))
-        → Runs a c (Ok (got ++ rest)) (text_read a.held.input t offset k)
-    unfolding text_part
-    taking_line rest line some few only sound run = took_text t k (record {
-      long = omega (arith, length-append got rest, h.took.long);
-      sound = run.sound_after;
-      frame = run.frame ∙ h.took.frame;
-      taken = omega (arith, h.took.taken, run.taken);
-      within = λ honest. omega (
-        arith,
-        h.took.within honest,
-        run.within (same_honest honest),
-        total-span_at next (length (text_part b.held.input t next (k - count))),
-        ap length (is_rest honest),
-      );
-      state = λ honest. run.state (same_honest honest) refl
-          ∙ ap (λ n. state_after b (span_at next n)) (ap length (is_rest honest))
-          ∙ ap (λ p. state_after b (span_at p (length rest))) (here honest)
-          ∙ ap (λ s. state_after s (span_at (offset + count) (length rest))) (h.took.state honest)
-          ∙ span_joins a offset count (length rest) some only;
-    }) sound (λ honest. h.left honest
-        ∙ ap (λ bs. got ++ bs) (line_rest line (part a.held.input (offset + count) (k - count)))
-        ∙ ap (λ bs. got ++ text_front t bs) (ap (λ p. part a.held.input p (k - count)) (sym (here honest)))
-        ∙ ap (λ d. got ++ text_front t (part d next (k - count))) (sym (same_input honest))
-        ∙ ap (λ bs. got ++ bs) (is_rest honest)) where
-          is_rest : a.held.honest ≡ true → text_part b.held.input t next (k - count) ≡ rest
-          is_rest honest = part_is (run.answer (same_honest honest) refl)
+-- where the input has a byte, the rest of a text has one
+some_left : (d bs : List ℕ) (begun : Bool) (t : Text) (offset k : ℕ) → 0 < k → part d offset k ≡ bs
+    → total (span_of d offset 1) ≤ length (text_rest begun t bs)
+some_left d [] begun t offset k some is = omega (arith, total_there d offset 1, part_length d offset k, ap length is)
+some_left d (x ∷ bs) begun t offset k some is = omega (arith, total-span_of d offset 1, rest_some t begun x bs)
 
-          line_rest : is_line t ≡ true → (bs : List ℕ) → text_rest t begun bs ≡ text_front t bs
-          line_rest line bs = by_text t line where
-            by_text : (u : Text) → is_line u ≡ true → text_rest u begun bs ≡ text_front u bs
-            by_text (Line delimiter) line = sym (line_front delimiter bs)
-            by_text Word line = absurd cc
+-- a read into a buffer of one byte
+module _ {old new : Ledger} {a b : Account} {offset : ℕ} (more tail : List ℕ) (one : length more ≡ 1) where
+  -- a failure
+  pub rest_stopped : {t : Text} {begun : Bool} {e : Halt} → ReadsAt old new a b offset more (Err e)
+      → ReadsRest old new a b t begun offset (more ++ tail) (Err e)
+  rest_stopped {t} {begun} read = record {
+    bound = tt;
+    pays = tt;
+    runs = λ home.
+        let d : List ℕ = (state_of a home old).held.input in
+        let some : 0 < length (more ++ tail) = omega (arith, length-append more tail, one) in
+        runs_seen (λ bs. bs) (rest_read d begun t offset (length (more ++ tail))) (rw one at (read.runs home)) refl (λ honest.
+        (rw total-span_at (some_left d _ begun t offset (length (more ++ tail)) some refl), λ is. absurd cc));
+  }
 
-          -- a byte of the line lies before the end of the input
-          here : a.held.honest ≡ true → next ≡ offset + count
-          here honest =
-              let short : length b.held.input < 2 ^ 63 = (h.took.sound (same_honest honest)).1 in
-              let part_some : length rest ≤ length (part b.held.input next (k - count)) =
-              omega (arith, ap length (is_rest honest), front_length t (part b.held.input next (k - count))) in
-              omega (arith, some, part_some, part_length b.held.input next (k - count), next_is, short)
+  -- no byte is left at the end of the input
+  pub rest_missing : {t : Text} {begun : Bool} → ReadsAt old new a b offset more (Ok 0)
+      → ReadsRest old new a b t begun offset (more ++ tail) (Ok 0)
+  rest_missing {t} {begun} read = record {
+    bound = omega arith;
+    pays = λ some far. absurd (omega (arith, some));
+    runs = λ home.
+        let d : List ℕ = (state_of a home old).held.input in
+        rest_as begun t offset (length more) (length (more ++ tail)) (read.runs home) (λ none.
+        ap (text_rest begun t) (no_part d offset (length (more ++ tail))
+        (omega (arith, part_length d offset (length more), ap length none, one))) ∙ rest_none begun t);
+  }
 
-    module _ (byte : ℕ) (more : count < k) (run : Runs b c (Ok (byte ∷ [])) (part_read b.held.input next 1)) where
-      byte_read : a.held.honest ≡ true → part a.held.input next 1 ≡ byte ∷ []
-      byte_read honest = ap (λ d. part d next 1) (sym (same_input honest))
-          ∙ part_is (run.answer (same_honest honest) refl)
+  module _ {n : ℕ} (read : ReadsAt old new a b offset more (Ok n)) where
+    byte_read : n ≢ 0 → ReadsAt old new a b offset (take 1 (more ++ tail)) (Ok 1)
+    byte_read some =
+        let all : n ≡ 1 = omega (arith, read.bound, one, some) in
+        rw (take_at more tail 1 one, ← all) read
 
-      -- a byte that is there stands at its own offset
-      next_offset : a.held.honest ≡ true → next ≡ offset + count
-      next_offset honest =
-          let short : length a.held.input < 2 ^ 63 =
-          subst (λ d. length d < 2 ^ 63) (same_input honest) (h.took.sound (same_honest honest)).1 in
-          omega (arith, part_length a.held.input next 1, ap length (byte_read honest), next_is, short)
+    -- a byte that ends the text
+    pub byte_ends : {t : Text} {begun : Bool} → n ≢ 0 → ends t begun (slice_index (more ++ tail) 0) ≡ true
+        → ReadsRest old new a b t begun offset (more ++ tail) (Ok 1)
+    byte_ends {t} {begun} some is = rest_whole (more ++ tail) (byte_read some) (omega (arith, length-append more tail, one))
+        (subst (λ bs. (after : List ℕ) → text_rest begun t (bs ++ after) ≡ bs) (byte_is more tail one)
+        (λ after. rest_by begun t (slice_index (more ++ tail) 0) after true is))
 
-      rest_read : a.held.honest ≡ true
-          → part a.held.input (offset + count) (k - count) ≡ byte ∷ part a.held.input (offset + (count + 1))
-          (k - (count + 1))
-      rest_read honest =
-          let one : part a.held.input (offset + count) 1 ≡ byte ∷ [] =
-          ap (λ p. part a.held.input p 1) (sym (next_offset honest))
-          ∙ byte_read honest in
-          let there : offset + count + 1 ≡ offset + (count + 1) = omega arith in
-          let fewer : k - count - 1 ≡ k - (count + 1) = omega arith in
-          part_byte a.held.input (offset + count) byte (k - count) one (omega (arith, more))
-          ∙ ap (λ p. byte ∷ part a.held.input p (k - count - 1)) there
-          ∙ ap (λ j. byte ∷ part a.held.input (offset + (count + 1)) j) fewer
+    -- a byte that does not end it
+    pub byte_goes_on : {t : Text} {begun : Bool} → n ≢ 0 → ends t begun (slice_index (more ++ tail) 0) ≡ false
+        → ReadsAt old new a b offset (take 1 (more ++ tail)) (Ok 1)
+        × GoesOn t begun (begun || not (is_ascii_whitespace (slice_index (more ++ tail) 0))) (take 1 (more ++ tail))
+    byte_goes_on {t} {begun} some is = (
+      byte_read some,
+      subst (GoesOn t begun (begun || not (is_ascii_whitespace (slice_index (more ++ tail) 0)))) (byte_is more tail one)
+          (record { after = λ after. rest_by begun t (slice_index (more ++ tail) 0) after false is }),
+    )
 
-      joined : CountsOnly a → a.held.honest ≡ true → c ≡ state_after a (span_at offset (count + 1))
-      joined only honest =
-          let there : 1 ≤ length b.held.input - next = omega (
-            arith,
-            part_length b.held.input next 1,
-            ap length (part_is (run.answer (same_honest honest) refl)),
-          ) in
-          run.state (same_honest honest) refl
-          ∙ ap (state_after b) (whole_span b.held.input next 1 there)
-          ∙ ap (λ p. state_after b (span_at p 1)) (next_offset honest)
-          ∙ ap (λ s. state_after s (span_at (offset + count) 1)) (h.took.state honest)
-          ∙ span_joins a offset count 1 (omega arith) only
+-- a read of bytes that do not end the text, and then a read of the rest, are one read of both
+module _ {a m c : State} {t : Text} {begun next : Bool} {n here : ℕ} {got : List ℕ} {r : Result (List ℕ) Halt} (offset k : ℕ)
+    (first : Runs a m (Ok got) (part_read a.held.input offset n)) (long : length got ≡ n) (some : 0 < n)
+    (on : GoesOn t begun next got) (counts : a.frame.counts ≡ true) (bare : a.recorded ≡ None) (untold : c.missed ≡ None)
+    (here_is : here ≡ min (offset + n) (2 ^ 64 - 1)) (second : Runs m c r (rest_read m.held.input next t here k)) where
+  then_runs : Runs a c (map_answer (λ bs. got ++ bs) r) (rest_read a.held.input begun t offset (n + k))
+  then_runs = runs_seen (λ bs. got ++ bs) (rest_read a.held.input begun t offset (n + k))
+      (runs_then (part_read a.held.input offset n) (λ v h. rest_read h.input next t here k) first second) untold (λ honest.
+      let d : List ℕ = a.held.input in
+      let left : List ℕ = text_rest next t (part d here k) in
+      let there : part d offset n ≡ got = part_is (first.answer honest refl) in
+      let reaches : n ≤ length d - offset = omega (arith, part_length d offset n, ap length there, long) in
+      let behind : here ≡ offset + n = omega (arith, reaches, some, (first.sound honest).1, here_is) in
+      let whole : text_rest begun t (part d offset (n + k)) ≡ got ++ left =
+      ap (text_rest begun t) (sym (part-add d offset n k) ∙ ap (λ bs. bs ++ part d (offset + n) k) there)
+      ∙ on.after (part d (offset + n) k) ∙ ap (λ p. got ++ text_rest next t (part d p k)) (sym behind) in
+      let sum : length (text_rest begun t (part d offset (n + k))) ≡ n + length left =
+      ap length whole ∙ length-append got left ∙ ap (λ j. j + length left) long in (
+        simp (total-append, total-span_at) (omega (arith, total-span_of d offset n, sum)),
+        λ is. (
+          ap Ok whole ∙ ap (map_answer (λ bs. got ++ bs)) is,
+          sym (past-past a (span_of d offset n) (span_at here (length left)))
+              ∙ ap (λ s. state_after (state_after a s) (span_at here (length left))) (whole_span d offset n reaches)
+              ∙ ap (λ p. state_after (state_after a (span_at offset n)) (span_at p (length left))) behind
+              ∙ joined a offset n (length left) counts bare ∙ ap (λ j. state_after a (span_at offset j)) (sym sum),
+        ),
+      ))
 
-      -- with that byte
-      took_byte : CountsOnly a → Took a c offset (count + 1) (got ++ byte ∷ [])
-      took_byte only = record {
-        long = omega (arith, length-append got (byte ∷ []), h.took.long);
-        sound = run.sound_after;
-        frame = run.frame ∙ h.took.frame;
-        taken = omega (arith, h.took.taken, run.taken);
-        within = λ honest. omega
-            (arith, h.took.within honest, run.within (same_honest honest), total-span_of b.held.input next 1);
-        state = joined only;
-      }
+-- the same, for any two calls of a reader
+module _ {old mid new : Ledger} {a m b : Account} {t : Text} {begun next : Bool} {offset n here : ℕ} {got : List ℕ} (rest : List ℕ)
+    (read : ReadsAt old mid a m offset got (Ok n)) (long : length got ≡ n) (some : 0 < n) (on : GoesOn t begun next got)
+    (here_is : here ≡ min (offset + n) (2 ^ 64 - 1)) where
+  reads_then : (r : Result ℕ Halt) → ReadsRest mid new m b t next here rest r → (home : ℕ)
+      → Runs (state_of a home old) (state_of b home new)
+      (map_answer (λ i. take i (got ++ rest)) (map_answer (λ j. n + j) r))
+      (rest_read (state_of a home old).held.input begun t offset (length (got ++ rest)))
+  reads_then r after home = rw (length-append got rest, long, ← with_first r)
+      (then_runs offset (length rest) (all_run read long home) long some on refl refl refl here_is (after.runs home)) where
+        with_first : (x : Result ℕ Halt) → map_answer (λ bs. got ++ bs) (map_answer (λ j. take j rest) x)
+            ≡ map_answer (λ i. take i (got ++ rest)) (map_answer (λ j. n + j) x)
+        with_first (Ok j) = ap Ok (sym (take-append-add got rest j) ∙ ap (λ k. take (k + j) (got ++ rest)) long)
+        with_first (Err e) = refl
 
-      -- a byte that does not end it
-      pub taking_more : CountsOnly a → offset ≤ next → Paid b c next → ends t begun byte ≡ false
-          → Taking a c t offset (count + 1)
-          (begun || not (is_ascii_whitespace byte)) k (got ++ byte ∷ [])
-      taking_more only behind paid goes_on = record {
-        fits = omega (arith, more);
-        took = took_byte only;
-        pays = λ some far.
-            let same : b.frame.told ≡ a.frame.told = ap (λ f. f.told) h.took.frame in
-            let rises = (paid (omega (arith, far, behind, same))).0 in
-            omega (arith, h.took.taken, rises);
-        left = λ honest.
-            let rest : List ℕ = part a.held.input (offset + (count + 1)) (k - (count + 1)) in
-            h.left honest
-            ∙ ap (λ bs. got ++ text_rest t begun bs) (rest_read honest)
-            ∙ ap (λ bs. got ++ bs) (rest_goes_on t begun byte rest goes_on)
-            ∙ sym (append_assoc got (byte ∷ []) (text_rest t (begun || not (is_ascii_whitespace byte)) rest));
-      }
+  pub rest_then : (r : Result ℕ Halt) → ReadsRest mid new m b t next here rest r
+      → ReadsRest old new a b t begun offset (got ++ rest) (map_answer (λ j. n + j) r)
+  rest_then (Ok j) after = record {
+    bound = omega (arith, length-append got rest, long, after.bound);
+    pays = λ _ far. omega (arith, (read.pays some far).0, (after.runs 0).taken);
+    runs = reads_then (Ok j) after;
+  }
+  rest_then (Err e) after = record { bound = tt; pays = tt; runs = reads_then (Err e) after }
 
-      -- the one that does
-      pub taking_done : CountsOnly a → ends t begun byte ≡ true → IsSound a → Runs a c (Ok (got ++ byte ∷ []))
-          (text_read a.held.input t offset k)
-      taking_done only is_end sound = took_text t k (took_byte only) sound (λ honest.
-          h.left honest
-          ∙ ap (λ bs. got ++ text_rest t begun bs) (rest_read honest)
-          ∙ ap (λ bs. got ++ bs)
-          (rest_ends t begun byte (part a.held.input (offset + (count + 1)) (k - (count + 1))) is_end))
+-- `count` bytes of a text were read. They and any read of the rest are a read of the text.
+pub record Begins (old now : Ledger) (a m : Account) (t : Text) (offset count : ℕ) (begun : Bool) (buffer : List ℕ) : Type 0 where
+  pub onward : {new : Ledger} {b : Account} {here : ℕ} (rest : List ℕ) (r : Result ℕ Halt) → here ≡ min (offset + count) (2 ^ 64 - 1)
+      → ReadsRest now new m b t begun here rest r
+      → ReadsRest old new a b t false offset (take count buffer ++ rest) (map_answer (λ j. count + j) r)
+
+-- at first, no byte was read, or what the reader holds of a line
+pub begins : {old new : Ledger} {a : Account} (t : Text) (offset n : ℕ) (buffer : List ℕ) → offset < 2 ^ 64 → n ≤ length buffer
+    → (n ≡ 0 → new ≡ old) → (0 < n → is_line t ≡ true) → (0 < n → is_ended t (take n buffer) ≡ false)
+    → (0 < n → ReadsAt old new a a offset (take n buffer) (Ok n)) → Begins old new a a t offset n false buffer
+begins t offset zero buffer short fits none line still reads = record {
+  onward = λ {here = here} rest r here_is after.
+      let at : here ≡ offset = omega (arith, here_is, short) in
+      rw (← same r, ← none refl, ← at) after;
+} where
+  same : (r : Result ℕ Halt) → r ≡ map_answer (λ j. 0 + j) r
+  same (Ok j) = ap Ok (omega arith)
+  same (Err e) = refl
+begins t offset (suc n) buffer short fits none line still reads =
+    let some : 0 < suc n = omega arith in record {
+      onward = λ rest r here_is after. rest_then rest (reads some) (omega (arith, length-take (suc n) buffer, fits)) some
+          (line_goes_on t (take (suc n) buffer) (line some) (still some)) here_is r after;
+    }
+
+-- what a buffer has once its rest is put anew
+put_rest : (count : ℕ) (buffer rest : List ℕ) → put_mid count (length buffer - count) buffer rest ≡ take count buffer ++ rest
+put_rest count buffer rest =
+    ap (λ bs. take count buffer ++ (rest ++ bs)) (drop_all (length buffer - count) (drop count buffer)
+    (omega (arith, length-drop count buffer)))
+    ∙ ap (λ bs. take count buffer ++ bs) (append-nil rest)
+
+module _ {old now : Ledger} {a m : Account} {t : Text} {offset count : ℕ} {begun : Bool} {buffer : List ℕ}
+    (h : Begins old now a m t offset count begun buffer) where
+  -- after one more byte that does not end the text
+  pub begins_more : {new : Ledger} {b : Account} {next : Bool} {here : ℕ} (rest : List ℕ) → here ≡ min (offset + count) (2 ^ 64 - 1)
+      → count < length buffer → ReadsAt now new m b here (take 1 rest) (Ok 1)
+      → GoesOn t begun next (take 1 rest)
+      → Begins old new a b t offset (count + 1) next (put_mid count (length buffer - count) buffer rest)
+  begins_more rest here_is fits read on = record {
+    onward = λ more r there after.
+        let first : length (take count buffer) ≡ count = omega (arith, length-take count buffer, fits) in
+        let front : take (count + 1) (put_mid count (length buffer - count) buffer rest) ≡ take count buffer ++ take 1 rest =
+        ap (take (count + 1)) (put_rest count buffer rest)
+        ∙ ap (λ k. take (k + 1) (take count buffer ++ rest)) (sym first) ∙ take-append-add (take count buffer) rest 1 in
+        rw (front, append_assoc, ← sum r) (h.onward (take 1 rest ++ more) (map_answer (λ j. 1 + j) r) here_is
+        (rest_then more read (omega (arith, read.bound, length-take 1 rest)) (omega arith) on (omega (arith, here_is, there)) r after));
+  } where
+    sum : (r : Result ℕ Halt) → map_answer (λ j. count + j) (map_answer (λ j. 1 + j) r) ≡ map_answer (λ j. count + 1 + j) r
+    sum (Ok j) = ap Ok (omega arith)
+    sum (Err e) = refl
+
+  -- after the rest, or an error
+  pub begins_last : {new : Ledger} {b : Account} {here : ℕ} (r : Result ℕ Halt) (rest : List ℕ) → here ≡ min (offset + count) (2 ^ 64 - 1)
+      → ReadsRest now new m b t begun here rest r
+      → ReadsText old new a b t offset (put_mid count (length buffer - count) buffer rest) (map_answer (λ j. count + j) r)
+  begins_last r rest here_is after = rw put_rest (text_is (h.onward rest r here_is after))
 
   -- the buffer is full
-  pub taking_full : k ≤ count → IsSound a → Runs a b (Ok got) (text_read a.held.input t offset k)
-  taking_full full sound = took_text t k h.took sound (λ honest.
-      let none : k - count ≡ 0 = omega (arith, full) in
-      all_read honest (ap (part a.held.input (offset + count)) none ∙ part_none a.held.input (offset + count)))
-
--- a buffer in which one byte more was put
-one_byte : (count : ℕ) (buffer more behind : List ℕ) → count ≤ length buffer → length more ≡ 1
-    → more ≡ slice_index (take count buffer ++ (more ++ behind)) count ∷ []
-one_byte zero buffer [] behind fits one = absurd (omega (arith, one))
-one_byte zero buffer (b ∷ []) behind fits one = refl
-one_byte zero buffer (b ∷ x ∷ more) behind fits one = absurd (omega (arith, one))
-one_byte (suc count) [] more behind fits one = absurd (omega (arith, fits))
-one_byte (suc count) (x ∷ buffer) more behind fits one = one_byte count buffer more behind (omega (arith, fits)) one
-
-buffer_long : (count m : ℕ) (buffer more : List ℕ) → count < length buffer → m ≡ 1 → length more ≡ 1
-    → length (put_mid count m buffer more)
-    ≡ length buffer
-buffer_long count m buffer more fits is_one one =
-    simp (length-append, length-take, length-drop) (omega (arith, fits, is_one, one))
-
--- a reading into a buffer of one byte
-one_read : {b c : State} (d more got : List ℕ) (next n : ℕ) → length more ≡ 1 → take n more ≡ got
-    → Runs b c (Ok (take n more))
-    (part_read d next (length more)) → Runs b c (Ok got) (part_read d next 1)
-one_read {b} {c} d more got next n one is run = subst (λ k. Runs b c (Ok got) (part_read d next k)) one
-    (subst (λ bs. Runs b c (Ok bs) (part_read d next (length more))) is run)
-
--- a reader tells the true length where it is honest
-pub reader_sound : (a : Account) (home : ℕ) (p : Progress) (window : List ℕ) → IsSound (reader_state a home p window)
-reader_sound a home p window =
-    sound_at (reader_frame a home p) (stand a.telling p) (failures_of p.fault a.failure) window p.taken p.position
-    (told_by a home p)
-
--- a buffer of one byte
-pub one_long : (count : ℕ) (buffer more : List ℕ) → count < length buffer
-    → length more ≡ length (take (count + 1 - count) (drop count buffer))
-    → length more ≡ 1
-one_long count buffer more fits long =
-    omega (arith, long, length-take (count + 1 - count) (drop count buffer), length-drop count buffer, fits)
-
-module _ {a b : State} {t : Text} {offset count : ℕ} {begun : Bool} (buffer : List ℕ)
-    (h : Taking a b t offset count begun (length buffer)
-    (take count buffer)) where
-  module _ {c : State} (next n m : ℕ) (more : List ℕ) (next_is : next ≡ min (offset + count) (2 ^ 64 - 1))
-      (fits : count < length buffer)
-      (is_one : m ≡ 1) (one : length more ≡ 1)
-      (run : Runs b c (Ok (take n more)) (part_read b.held.input next (length more))) where
-    module _ (some : 0 < n) (few : n ≤ length more) where
-      read_one : Runs b c (Ok (slice_index (put_mid count m buffer more) count ∷ [])) (part_read b.held.input next 1)
-      read_one = one_read b.held.input more (slice_index (put_mid count m buffer more) count ∷ []) next n one
-          (take_all n more (omega (arith, some, one))
-          ∙ one_byte count buffer more (drop m (drop count buffer)) (omega (arith, fits)) one) run
-
-      buffer_more : take (count + 1) (put_mid count m buffer more)
-          ≡ take count buffer ++ slice_index (put_mid count m buffer more) count ∷ []
-      buffer_more = take-put_mid count m buffer more (count + 1) (omega (arith, one)) (omega (arith, fits))
-          ∙ ap (λ bs. take count buffer ++ bs)
-          (one_byte count buffer more (drop m (drop count buffer)) (omega (arith, fits)) one)
-
-      -- one byte more, and the text goes on
-      pub text_goes_on : (white is_end : Bool) → CountsOnly a → offset < 2 ^ 64 → Paid b c next
-          → white ≡ is_ascii_whitespace
-          (slice_index (put_mid count m buffer more) count)
-          → is_end ≡ ends t begun (slice_index (put_mid count m buffer more) count)
-          → is_end ≡ false → Taking a c t offset (count + 1) (begun || not white) (length (put_mid count m buffer more))
-          (take (count + 1) (put_mid count m buffer more))
-      text_goes_on white is_end only short paid white_is end_is goes_on =
-          let on = taking_more h next next_is (slice_index (put_mid count m buffer more) count) fits read_one only
-          (omega (arith, next_is, short)) paid (sym end_is ∙ goes_on) in
-          subst (λ w. Taking a c t offset (count + 1) (begun || not w) (length (put_mid count m buffer more))
-          (take (count + 1) (put_mid count m buffer more))) (sym white_is)
-          (subst (λ k. Taking a c t offset (count + 1)
-          (begun || not (is_ascii_whitespace (slice_index (put_mid count m buffer more) count))) k
-          (take (count + 1) (put_mid count m buffer more))) (sym (buffer_long count m buffer more fits is_one one))
-          (subst (λ bs. Taking a c t offset (count + 1)
-          (begun || not (is_ascii_whitespace (slice_index (put_mid count m buffer more) count))) (length buffer) bs)
-          (sym buffer_more) on))
-
-      -- one byte more, which ends the text
-      pub text_ends : (is_end : Bool) → CountsOnly a → IsSound a
-          → is_end ≡ ends t begun (slice_index (put_mid count m buffer more) count)
-          → is_end ≡ true → Runs a c (Ok (take (count + 1) (put_mid count m buffer more)))
-          (text_read a.held.input t offset (length (put_mid count m buffer more)))
-      text_ends is_end only sound end_is ends_here =
-          subst (λ k. Runs a c (Ok (take (count + 1) (put_mid count m buffer more))) (text_read a.held.input t offset k))
-          (sym (buffer_long count m buffer more fits is_one one))
-          (subst (λ bs. Runs a c (Ok bs) (text_read a.held.input t offset (length buffer))) (sym buffer_more)
-          (taking_done h next next_is (slice_index (put_mid count m buffer more) count) fits read_one only
-          (sym end_is ∙ ends_here) sound))
-
-    -- no byte more
-    pub input_ends : IsSound a → n ≡ 0 → Runs a c (Ok (take count (put_mid count m buffer more)))
-        (text_read a.held.input t offset (length (put_mid count m buffer more)))
-    input_ends sound none =
-        subst (λ k. Runs a c (Ok (take count (put_mid count m buffer more))) (text_read a.held.input t offset k))
-        (sym (buffer_long count m buffer more fits is_one one))
-        (subst (λ bs. Runs a c (Ok bs) (text_read a.held.input t offset (length buffer)))
-        (sym (take-put_mid_below count m buffer more count (omega arith) (omega (arith, fits))))
-        (taking_ends h next next_is (one_read b.held.input more [] next n one (ap (λ j. take j more) none) run) sound))
-
-  -- a failure
-  pub text_stopped : {c : State} {e : Halt} (next m : ℕ) (more : List ℕ) → next ≡ min (offset + count) (2 ^ 64 - 1)
-      → count < length buffer → m ≡ 1 → length more ≡ 1 → Runs b c (Err e) (part_read b.held.input next (length more))
-      → IsSound a → c.missed ≡ None
-      → Runs a c (Err e) (text_read a.held.input t offset (length (put_mid count m buffer more)))
-  text_stopped {c} {e} next m more next_is fits is_one one run sound untold =
-      subst (λ k. Runs a c (Err e) (text_read a.held.input t offset k))
-      (sym (buffer_long count m buffer more fits is_one one))
-      (taking_stopped h next next_is fits
-      (subst (λ k. Runs b c (Err e) (part_read b.held.input next k)) one run) sound untold)
-
--- as long as it was, where some bytes of it were put anew
-pub kept_long : (count m : ℕ) (buffer more : List ℕ) → count + m ≤ length buffer → length more ≡ m
-    → length (put_mid count m buffer more) ≡ length buffer
-kept_long count m buffer more fits long = simp (length-append, length-take, length-drop) (omega (arith, fits, long))
-
--- the bytes behind those that were read may have changed
-pub taking_kept : {a b b' : State} {t : Text} {offset count : ℕ} {begun : Bool} (buffer : List ℕ) (m : ℕ) (more : List ℕ)
-    → Taking a b t offset count begun (length buffer) (take count buffer) → b' ≡ b → count + m ≤ length buffer → length more ≡ m
-    → Taking a b' t offset count begun (length (put_mid count m buffer more)) (take count (put_mid count m buffer more))
-taking_kept {a} {b} {b'} {t} {offset} {count} {begun} buffer m more h same fits long =
-    subst (λ k. Taking a b' t offset count begun k (take count (put_mid count m buffer more)))
-    (sym (kept_long count m buffer more fits long))
-    (subst (λ bs. Taking a b' t offset count begun (length buffer) bs)
-    (sym (take-put_mid_below count m buffer more count (omega arith) (omega (arith, fits))))
-    (subst (λ s. Taking a s t offset count begun (length buffer) (take count buffer)) (sym same) h))
-
--- the rest of a line behind them
-pub text_line : {a b c : State} {t : Text} {offset count : ℕ} {begun : Bool} (buffer : List ℕ)
-    → Taking a b t offset count begun (length buffer) (take count buffer)
-    → (next n m : ℕ) (more : List ℕ) → next ≡ min (offset + count) (2 ^ 64 - 1) → count < length buffer
-    → m ≡ length buffer - count → length more ≡ m → n ≤ length more → 0 < n → is_line t ≡ true → CountsOnly a → IsSound a
-    → Runs b c (Ok (take n more)) (text_read b.held.input t next (length more))
-    → Runs a c (Ok (take (count + n) (put_mid count m buffer more)))
-    (text_read a.held.input t offset (length (put_mid count m buffer more)))
-text_line {a} {b} {c} {t} {offset} {count} {begun} buffer h next n m more next_is fits is long few some line only sound run =
-    let whole : List ℕ = put_mid count m buffer more in
-    let got : take (count + n) whole ≡ take count buffer ++ take n more =
-    take-add count n whole ∙ ap (λ bs. bs ++ take n (drop count whole))
-    (take-put_mid_below count m buffer more count (omega arith) (omega (arith, fits)))
-    ∙ ap (λ bs. take count buffer ++ take n bs) (behind_first (take count buffer) (more ++ drop m (drop count buffer)) count
-    (omega (arith, length-take count buffer, fits)))
-    ∙ ap (λ bs. take count buffer ++ bs) (take-append-le n more (drop m (drop count buffer)) few) in
-    subst (λ k. Runs a c (Ok (take (count + n) whole)) (text_read a.held.input t offset k))
-    (sym (kept_long count m buffer more (omega (arith, fits, is)) long))
-    (subst (λ bs. Runs a c (Ok bs) (text_read a.held.input t offset (length buffer))) (sym got)
-    (taking_line h next next_is (take n more) line (omega (arith, length-take n more, few, some))
-    (omega (arith, length-take n more, few, long, is, fits)) only sound
-    (subst (λ k. Runs b c (Ok (take n more)) (text_read b.held.input t next k)) (long ∙ is) run))) where
-      behind_first : (xs ys : List ℕ) (k : ℕ) → length xs ≡ k → drop k (xs ++ ys) ≡ ys
-      behind_first xs ys k same = ap (λ j. drop j (xs ++ ys)) (sym same) ∙ drop-append_seam xs ys
+  pub begins_full : length buffer ≤ count → ReadsText old now a m t offset buffer (Ok count)
+  begins_full full =
+      let none : count ≡ count + 0 = omega arith in
+      let all : buffer ≡ take count buffer ++ [] = sym (append-nil (take count buffer) ∙ take_all count buffer full) in
+      rw (none, all) (text_is (h.onward [] (Ok 0) refl (rest_full t begun (min (offset + count) (2 ^ 64 - 1)))))

@@ -4,6 +4,7 @@ pub mod File
 pub mod Held
 pub mod Memory
 pub mod ReaderState
+pub mod Rest
 pub mod Standing
 pub mod StopOf
 pub mod Telling

@@ -152,3 +152,13 @@ pub record ReadsFrom (old new : Progress) (before after : Option Standing) (a b 
   pub calm : OnOk r (new.fault ≡ old.fault)
   pub keeps : KeepsCounts old new
   pub stops : IfErr r (StopsBy new b.failure)
+
+-- n bytes from an offset on were counted, without a call of the reader
+pub record Passed (old new : Progress) (from n : ℕ) : Type 0 where
+  pub told : new.told ≡ old.told
+  pub budget : new.budget ≡ old.budget
+  pub offset : new.offset ≡ old.offset
+  pub retries : new.retries ≡ old.retries
+  pub fault : new.fault ≡ old.fault
+  pub taken : new.taken ≡ old.taken + n
+  pub position : new.position ≡ min (from + n) (2 ^ 64 - 1)

@@ -8,16 +8,21 @@ use crate::window::{Window, keep};
 use std::alloc::{AllocError, Global};
 use std::io::{self, Read};
 
+/// How many bytes the first block of a file has at most, and one after a seek.
+pub(crate) const FIRST: usize = 4096;
+
 /// How many bytes a block has at most.
 pub(crate) const SIZE: usize = 8192;
 
-// Half a block of zeroes. They are copied: an array of zeroes would be written to the stack first.
-static ZEROES: [u8; SIZE / 2] = [0; SIZE / 2];
+// As many zeroes as the first block has bytes. They are copied: an array of zeroes would be written to the stack first.
+static ZEROES: [u8; FIRST] = [0; FIRST];
 
-// A block of a file, and the first bytes of the file as they were read. It has memory for a whole block from the start, and writes
-// zeroes to the second half only if a whole block is read. Most files need no whole block.
+/// Memory for a block of a file, and for the first bytes of the file. One serves the readers of many files, one after another.
+///
+/// It has the memory of the longest block from the start, and writes zeroes to the second half only if such a block is read. Most
+/// files need none.
 #[derive(Drop)]
-pub(crate) struct Block {
+pub struct Block {
     // The first `filled` bytes lie at the offset `start` of the file.
     bytes: Vec<u8>,
     filled: usize,
@@ -43,6 +48,19 @@ impl Block {
             start: 0,
             front: Window::new(),
         })
+    }
+
+    // Forgets the bytes of a file.
+    pub(crate) fn forget(&mut self)
+        ensures { (self.new.filled ≡ 0) × (self.new.front.items ≡ []) }
+    {
+        let Block {
+            filled,
+            front,
+            ..
+        } = self;
+        *filled = 0;
+        front.clear();
     }
 
     // The bytes from an offset on, as far as they are held.

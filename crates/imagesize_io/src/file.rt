@@ -7,7 +7,7 @@ ghost use Rattle.imagesize_io.specs.File.{IsSoughtTo, held_of, sought_offset};
 ghost use Rattle.imagesize_io.specs.ReaderState.{kept_window};
 ghost use Rattle.imagesize_io.specs.StopOf.{stop_of};
 
-use crate::block::{Block, SIZE};
+use crate::block::{Block, FIRST, SIZE};
 use crate::{Stop, Told};
 use imagesize_source::part::copy_front;
 use std::alloc::{AllocError, Global};
@@ -56,23 +56,41 @@ impl<R: Read + Seek + Drop> FileReader<R> {
         ensures empty { IfOk result (λ r. held_of r ≡ []) }
     {
         let block = Block::new(alloc)?;
-        Ok(FileReader {
+        Ok(FileReader::over(block, file, length))
+    }
+
+    /// Wraps a file as `new` does, with the block of an earlier reader. It allocates nothing.
+    pub fn over(mut block: Block, file: R, length: Option<u64>) -> Self
+        ensures file { result.file ≡ file }
+        ensures start { (result.position ≡ Some 0) × (result.offset ≡ 0) }
+        ensures length { result.length ≡ length }
+        ensures empty { held_of result ≡ [] }
+    {
+        block.forget();
+        FileReader {
             file,
             position: Some(0),
             block,
             offset: 0,
             length,
-        })
+        }
+    }
+
+    /// The block, for the reader of another file. This one is closed.
+    pub fn into_block(self) -> Block {
+        self.block
     }
 
     // Reads the block at the reader's offset. The file is sought there first, if it is elsewhere.
     //
     // Errors: those of the file, and `InvalidInput` above the offset 2^64 - 8,193, since a block might end past 2^64 - 1.
     fn fetch(&mut self) -> io::Result<usize>
-        ensures reads { IfOk result (λ n. (file : R) × IsSoughtTo R.stream_position R.stream_bytes self.old.file file self.old.position self.old.offset
+        ensures reads { IfOk result (λ n. (file : R)
+            × IsSoughtTo R.stream_position R.stream_bytes self.old.file file self.old.position self.old.offset
             × Consumes (R.remaining file) (R.remaining self.new.file) (take n self.new.block.bytes.items)
             × (n ≡ 0 → IsAtEnd (R.remaining self.new.file))) }
-        ensures keeps { self.old.position ≡ Some self.old.offset → IfErr result (λ _. Keeps (R.remaining self.old.file) (R.remaining self.new.file)) }
+        ensures keeps { self.old.position ≡ Some self.old.offset
+            → IfErr result (λ _. Keeps (R.remaining self.old.file) (R.remaining self.new.file)) }
         ensures block { IfOk result (λ n. (self.new.block.filled ≡ n) × (self.new.block.start ≡ self.old.offset)
             × (self.new.block.front.items ≡ kept_window self.old.block.front.items self.old.offset (take n self.new.block.bytes.items))) }
         ensures position { IfOk result (λ n. self.new.position ≡ Some (self.old.offset + n)) }
@@ -87,11 +105,11 @@ impl<R: Read + Seek + Drop> FileReader<R> {
             return Err(io::Error::from(ErrorKind::InvalidInput));
         }
         go(&mut self.file, position, self.offset)?;
-        // At the start, and after a seek, half a block mostly has the bytes that are read next. It costs less.
+        // At the start, and after a seek, a small block mostly has the bytes that are read next. It costs less.
         let most = if self.offset > 0 && position == Some(self.offset) {
             SIZE
         } else {
-            SIZE / 2
+            FIRST
         };
         let count = self.block.fill(&mut self.file, self.offset, most)?;
         self.position = Some(self.offset + count as u64);
@@ -118,7 +136,8 @@ impl<R: Read + Seek + Drop> FileReader<R> {
     // The offset at a distance from the end. If the length is known, the end itself needs no call.
     fn from_end(&mut self, distance: i64) -> io::Result<u64>
         ensures known { (n : ℕ) → self.old.length ≡ Some n → distance ≡ pos 0 → (result ≡ Ok n) × (self.new ≡ self.old) }
-        ensures seeks { (self.old.length ≡ None) ⊎ (distance ≢ pos 0) → SeekMoves (R.stream_position self.old.file) (R.stream_position self.new.file)
+        ensures seeks { (self.old.length ≡ None) ⊎ (distance ≢ pos 0)
+            → SeekMoves (R.stream_position self.old.file) (R.stream_position self.new.file)
             (R.stream_bytes self.old.file) (SeekFrom.End distance) result × (self.new.position ≡ sought_offset result) }
         ensures block { self.new.block ≡ self.old.block }
         ensures offset { self.new.offset ≡ self.old.offset }
@@ -176,7 +195,8 @@ impl<R: Read + Seek + Drop> Told for FileReader<R> {
         ensures moves { IfOk result (λ n. self.new.offset ≡ self.old.offset + n) }
 
         // Held bytes are given with no call of the file.
-        ensures holds { 0 < length (held_of self.old) → (n : ℕ) × (result ≡ Ok n) × (n ≡ min (length buffer.old) (length (held_of self.old)))
+        ensures holds { 0 < length (held_of self.old) → (n : ℕ) × (result ≡ Ok n)
+            × (n ≡ min (length buffer.old) (length (held_of self.old)))
             × (take n buffer.new ≡ take n (held_of self.old)) × (self.new.file ≡ self.old.file) × (self.new.position ≡ self.old.position)
             × (self.new.block ≡ self.old.block) }
 
@@ -189,7 +209,8 @@ impl<R: Read + Seek + Drop> Told for FileReader<R> {
             × (self.new.block.start ≡ self.old.offset)
             × (self.new.block.front.items ≡ kept_window self.old.block.front.items self.old.offset
             (take self.new.block.filled self.new.block.bytes.items))) }
-        ensures keeps { self.old.position ≡ Some self.old.offset → IfErr result (λ _. Keeps (R.remaining self.old.file) (R.remaining self.new.file)) }
+        ensures keeps { self.old.position ≡ Some self.old.offset
+            → IfErr result (λ _. Keeps (R.remaining self.old.file) (R.remaining self.new.file)) }
         ensures unknown { IfErr result (λ _. self.new.position ≡ None) }
 
         // A read that fails moves no offset, and leaves the first bytes. The block is gone.
@@ -216,7 +237,8 @@ impl<R: Read + Seek + Drop> Told for FileReader<R> {
         ensures fails { IfErr result (λ _. self.new.offset ≡ self.old.offset) }
 
         // A seek to an offset, or by a distance, makes no call. A seek to the end makes none if the length is known.
-        ensures start { (n : ℕ) → to ≡ SeekFrom.Start n → (result ≡ Ok n) × (self.new.file ≡ self.old.file) × (self.new.position ≡ self.old.position) }
+        ensures start { (n : ℕ) → to ≡ SeekFrom.Start n → (result ≡ Ok n) × (self.new.file ≡ self.old.file)
+            × (self.new.position ≡ self.old.position) }
         ensures stays { to ≡ SeekFrom.Current (pos 0) → (result ≡ Ok self.old.offset) × (self.new ≡ self.old) }
         ensures by { (d : ℤ) → to ≡ SeekFrom.Current d → IfOk result (IsAtOffset self.old.offset d) × (self.new.file ≡ self.old.file)
             × (self.new.position ≡ self.old.position) }

@@ -11,5 +11,6 @@ pub mod reader;
 pub mod told;
 mod window;
 
+pub use block::Block;
 pub use file::FileReader;
 pub use told::{Stop, Told};

@@ -1,112 +1,89 @@
 -- What readings of known bytes saw and missed, and what they answered.
-use Rattle.std.proofs.Common.{◌≡◌, ℕ, ◌^◌, ◌<◌, true, false, ◌||◌, List, [], ◌++◌, Option, None, Some, Result, Ok, Err, IfErr, refl, sym, ap, ◌∙◌, subst, arith}
-use Rattle.std.proofs.lemmas.Bool.{false_from_ne_true}
-use Rattle.std.proofs.lemmas.Bool.Decides.{nat_tests}
+use Rattle.std.proofs.Common.{◌≡◌, ℕ, ◌+◌, ◌^◌, ◌<◌, ◌≤◌, true, false, List, [], ◌++◌, length, Option, None, Result, Ok, Err, IfErr, refl, sym, ap, ◌∙◌, subst, arith}
+use Rattle.std.specs.Prelude.{unwrap_or}
 use Rattle.std.specs.Option.{ForSome}
-use Rattle.imagesize_source.specs.Known.{AllKnown, Lacks, filled_input, parts_state}
-use Rattle.imagesize_source.specs.Reading.{Reads, is_failure, is_faulted, is_spent, is_stop, is_stopped}
-use Rattle.imagesize_source.specs.State.{State, Runs, EndedBy, parts_of}
+use Rattle.std.proofs.lemmas.Bool.{false_from_ne_true, false≢true}
+use Rattle.std.proofs.lemmas.Bool.Decides.{nat_tests}
 use Rattle.imagesize_source.specs.declared.halt.Halt.{Halt}
 use Rattle.imagesize_source.specs.declared.source.parts.Missing.{Missing}
 use Rattle.imagesize_source.specs.declared.span.Span.{Span}
+use Rattle.imagesize_source.specs.Known.{AllKnown, Lacks, parts_state}
+use Rattle.imagesize_source.specs.Reading.{Reads, is_faulted, is_spent, is_stopped, uncounted}
+use Rattle.imagesize_source.specs.Sharing.{Shares}
+use Rattle.imagesize_source.specs.State.{State, Frame, Runs, EndedBy, parts_of}
 use Rattle.imagesize_source.proofs.KnownReadings.{past-parts}
-use Rattle.imagesize_pieces.specs.Stream.{EndsSure, start_of}
+use Rattle.imagesize_pieces.specs.Stream.{EndsSure, Says, came, start_of, stream_input, stream_state}
+use Rattle.imagesize_pieces.specs.declared.source.StreamSource.{StreamSource}
+use Rattle.imagesize_pieces.proofs.Beginning.{Run, begins_shares}
 
--- The readings f on known parts: what they saw and missed, and their answer.
-pub record Called {X : Type 0} (f : List ℕ → Reads X) (n : ℕ) (spans : List Span) (bytes : List ℕ) (log : List Span)
-    (missed : Option Missing)
-    (r : Result X Halt) : Type 0 where
-  pub runs : Runs (parts_state n spans bytes [] None) (parts_state n spans bytes log missed) r
-      (f (filled_input n spans bytes))
-  pub seen : AllKnown n spans bytes log
-  pub lacks : ForSome missed (Lacks n spans bytes)
-  pub sure : ForSome missed (EndsSure (start_of spans))
+-- readings that see an input by their marks alone, however long it is
+abbrev pub IsShared : {X : Type 0} → (List ℕ → Reads X) → Type 0
+IsShared f = (d e : List ℕ) → Shares d e (f e).marks → f d ≡ f e
 
-pub is_short : (n : ℕ) → n < 2 ^ 63 → (parts_state n [] [] [] None).held.honest ≡ true
-is_short n short = grind (arith, nat_tests)
+-- what readings of the bytes that came saw, and what they missed
+pub record Heard (told start : ℕ) (kept unread : List ℕ) (log : List Span) (missed : Option Missing) : Type 0 where
+  pub seen : AllKnown told (came start kept unread) (kept ++ unread) log
+  pub lacks : ForSome missed (Lacks told (came start kept unread) (kept ++ unread))
+  pub sure : ForSome missed (EndsSure start)
+  pub fits : start + (length kept + length unread) ≤ told
+  pub short : told < 2 ^ 63
 
-pub some_is : {A : Type 0} {x y : A} → ◌≡◌ {A = Option A} (Some x) (Some y) → x ≡ y
-some_is e = cc
+-- a source as its state
+abbrev pub state_of : StreamSource → State
+state_of s = stream_state s.told s.start s.kept.now s.chunk.now s.log.spans s.missed
 
-logged : (a b : State) (s t : List Span) → a ≡ b → a.recorded ≡ Some s → b.recorded ≡ Some t → s ≡ t
-logged a b s t e here there = some_is (sym here ∙ ap (λ (x : State). x.recorded) e ∙ there)
+-- what is known of an input, with its length
+abbrev parts : Frame → ℕ × (List Span × List ℕ)
+parts f = (f.told, unwrap_or (parts_of f.backing) ([], []))
+
+-- a call over a source, as the code has it
+module _ (a b : StreamSource) (told start : ℕ) (kept unread : List ℕ)
+    (new : state_of a ≡ stream_state told start kept unread [] None)
+    (frame : (state_of b).frame ≡ (state_of a).frame) where
+  same_parts : parts (state_of b).frame ≡ (told, (came start kept unread, kept ++ unread))
+  same_parts = ap parts (frame ∙ ap (λ (s : State). s.frame) new)
+
+  pub over : (P : State → State → Type 0) → P (state_of a) (state_of b)
+      → P (stream_state told start kept unread [] None) (stream_state told start kept unread b.log.spans b.missed)
+  over P holds = subst (λ s. P s (stream_state told start kept unread b.log.spans b.missed)) new
+      (subst (λ (p : ℕ × (List Span × List ℕ)). P (state_of a) (parts_state p.0 p.1.0 p.1.1 b.log.spans b.missed)) same_parts holds)
+
+  pub heard : start + (length kept + length unread) ≤ told → told < 2 ^ 63
+      → Heard told start kept unread b.log.spans b.missed
+  heard fits short = record {
+    seen = subst (λ (p : ℕ × (List Span × List ℕ)). AllKnown p.0 p.1.0 p.1.1 b.log.spans) same_parts b.seen;
+    lacks = subst (λ (p : ℕ × (List Span × List ℕ)). ForSome b.missed (Lacks p.0 p.1.0 p.1.1)) same_parts b.lacks;
+    sure = subst (λ (p : ℕ × (List Span × List ℕ)). ForSome b.missed (EndsSure (start_of p.1.0))) same_parts b.ends;
+    fits = fits;
+    short = short;
+  }
 
 -- a source that counts nothing is stopped by a failure alone
-unstopped : (b : State) (halt : Halt) → b.frame.counts ≡ false → EndedBy b halt → is_failure halt ≡ false
-    → is_stop halt ≡ false
-unstopped b halt uncounted ended faultless =
-    let unspent : is_spent halt ≡ false = false_from_ne_true (is_spent halt)
-    (λ is. let no : true ≡ false = sym (ended.budget is).0 ∙ uncounted in cc) in
-    ap (λ x. x || is_spent halt) faultless ∙ unspent
+pub goes_on : {X : Type 0} {a b : State} {r : Result X Halt} {reads : Reads X} → b.frame.counts ≡ false → Runs a b r reads
+    → is_faulted r ≡ false → is_stopped r ≡ false
+goes_on {X} {a} {b} {r} uncounted runs faultless = by_answer r runs.ended faultless where
+  by_answer : (q : Result X Halt) → IfErr q (EndedBy b) → is_faulted q ≡ false → is_stopped q ≡ false
+  by_answer (Ok x) ended none = refl
+  by_answer (Err halt) ended none =
+      rw none (false_from_ne_true (is_spent halt) (λ is. false≢true (sym uncounted ∙ (ended.budget is).0)))
 
--- the readings that nothing failed gave the answer, and all that they saw is known
-module _ {X : Type 0} (f : List ℕ → Reads X) (n : ℕ) (spans : List Span) (bytes : List ℕ) (short : n < 2 ^ 63)
-    (log : List Span)
-    (missed : Option Missing) (r : Result X Halt) (call : Called f n spans bytes log missed r)
-    (faultless : is_faulted r ≡ false) where
-  goes : (q : Result X Halt) → IfErr q (EndedBy (parts_state n spans bytes log missed)) → is_faulted q ≡ false
-      → is_stopped q ≡ false
-  goes (Ok x) ended none = refl
-  goes (Err halt) ended none = unstopped (parts_state n spans bytes log missed) halt refl ended none
+module _ {told start : ℕ} {kept unread : List ℕ} {log : List Span} {missed : Option Missing}
+    (here : Heard told start kept unread log missed) where
+  pub is_honest : (stream_state told start kept unread [] None).held.honest ≡ true
+  is_honest = let short = here.short in grind (arith, nat_tests)
 
-  pub goes_on : is_stopped r ≡ false
-  goes_on = goes r call.runs.ended faultless
-
-  pub answered : (f (filled_input n spans bytes)).answer ≡ r
-  answered = call.runs.answer (is_short n short) goes_on
-
-  pub all_seen : AllKnown n spans bytes (f (filled_input n spans bytes)).marks
-  all_seen =
-      let marked : log ≡ (f (filled_input n spans bytes)).marks = logged (parts_state n spans bytes log missed)
-      (parts_state n spans bytes ([] ++ (f (filled_input n spans bytes)).marks) None) log
-      (f (filled_input n spans bytes)).marks
-      (call.runs.state (is_short n short) goes_on
-      ∙ past-parts n spans bytes [] None (f (filled_input n spans bytes)).marks) refl refl in
-      subst (λ l. AllKnown n spans bytes l) marked call.seen
-
--- what holds of the parts of a source holds of those that it has them from
-pub moved : (P : ℕ → List Span → List ℕ → Type 0) (n m : ℕ) (spans others : List Span) (bytes content : List ℕ) → m ≡ n
-    → others ≡ spans
-    → content ≡ bytes → P m others content → P n spans bytes
-moved P n m spans others bytes content told is_spans is_bytes p =
-    subst (λ z. P n spans z) is_bytes (subst (λ y. P n y content) is_spans (subst (λ x. P x others content) told p))
-
-pub both_are : (s t : List Span) (xs ys : List ℕ) → ◌≡◌ {A = Option (List Span × List ℕ)} (Some (s, xs)) (Some (t, ys))
-    → (s ≡ t) × (xs ≡ ys)
-both_are s t xs ys e =
-    let is : ◌≡◌ {A = List Span × List ℕ} (s, xs) (t, ys) = some_is e in
-    (ap (λ (p : List Span × List ℕ). p.0) is, ap (λ (p : List Span × List ℕ). p.1) is)
-
--- what stays the same of a source of parts
-pub same_frame : (n m : ℕ) (spans others : List Span) (bytes content : List ℕ) (first log : List Span)
-    (before missed : Option Missing)
-    → (parts_state m others content log missed).frame ≡ (parts_state n spans bytes first before).frame
-    → (m ≡ n) × (others ≡ spans) × (content ≡ bytes)
-same_frame n m spans others bytes content first log before missed is =
-    let parts = both_are spans others bytes content (ap (λ a. parts_of a.backing) (sym is)) in
-    (ap (λ a. a.told) is, sym parts.0, sym parts.1)
-
--- a call over a source of parts, as the code has it
-pub called : {X : Type 0} (f : List ℕ → Reads X) (n m : ℕ) (spans others : List Span) (bytes content : List ℕ)
-    (first log : List Span)
-    (before missed : Option Missing) (r : Result X Halt) → first ≡ [] → before ≡ None
-    → Runs (parts_state n spans bytes first before) (parts_state m others content log missed) r
-    (f (filled_input n spans bytes))
-    → AllKnown m others content log → ForSome missed (Lacks m others content) → ForSome missed (EndsSure (start_of others))
-    → Called f n spans bytes log missed r
-called f n m spans others bytes content first log before missed r none unmissed runs seen lacks sure =
-    let same = same_frame n m spans others bytes content first log before missed runs.frame in
-    let one = moved (λ x y z. Runs (parts_state n spans bytes first before) (parts_state x y z log missed) r
-    (f (filled_input n spans bytes))
-    × AllKnown x y z log × ForSome missed (Lacks x y z) × ForSome missed (EndsSure (start_of y))) n m spans others bytes content same.0 same.1 same.2
-    (runs, seen, lacks, sure) in
-    record {
-      runs = subst (λ l. Runs (parts_state n spans bytes l None) (parts_state n spans bytes log missed) r
-          (f (filled_input n spans bytes))) none
-          (subst (λ m. Runs (parts_state n spans bytes first m) (parts_state n spans bytes log missed) r
-          (f (filled_input n spans bytes)))
-          unmissed one.0);
-      seen = one.1;
-      lacks = one.2;
-      sure = one.3;
-    }
+  -- An answer that nothing failed is that of each input that begins with the bytes so far, and rests on the same marks.
+  pub says_begun : {X : Type 0} (f : List ℕ → Reads X) {r : Result X Halt}
+      → Runs (stream_state told start kept unread [] None) (stream_state told start kept unread log missed) r
+      (f (stream_input told start kept unread))
+      → is_faulted r ≡ false → (front : List ℕ) → IsShared f → Run front kept unread start → Says front told f r
+  says_begun f {r} runs faultless front same run = record {
+    marks = log;
+    is = λ d begins.
+        let fill : List ℕ = stream_input told start kept unread in
+        let going = goes_on refl runs faultless in
+        let marked : log ≡ (f fill).marks = ap (λ (s : State). unwrap_or s.recorded [])
+        (runs.state is_honest going ∙ past-parts told (came start kept unread) (kept ++ unread) [] None (f fill).marks) in
+        let shares = begins_shares told run here.fits d log begins here.seen in
+        ap uncounted (same d fill (subst (Shares d fill) marked shares)) ∙ rw (runs.answer is_honest going, ← marked) refl;
+  }

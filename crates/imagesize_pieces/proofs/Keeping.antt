@@ -1,11 +1,13 @@
 -- What is kept of bytes and of those after them.
-use Rattle.std.proofs.Common.{◌≡◌, ℕ, ◌+◌, ◌-◌, ◌≤◌, ◌<◌, min, List, ◌++◌, length, take, drop, sym, ap, ◌∙◌, arith}
-use Rattle.std.proofs.lemmas.List.{drop-append-le, drop-take, length-append, length-drop, length-take, take_all}
-use Rattle.std.proofs.Math.Seq.{drop-append-add, take-append_seam}
+use Rattle.std.proofs.Common.{◌≡◌, ℕ, zero, suc, ◌+◌, ◌-◌, ◌≤◌, ◌<◌, min, List, [], ◌∷◌, ◌++◌, length, take, drop, refl, ap, ◌∙◌, arith}
+use Rattle.std.proofs.lemmas.List.{drop-append-le, drop-take, drop_all, length-append, length-drop, length-take, length-take-le, take_all, take_at}
 
--- what a buffer begins with that has these bytes at its front
-front_is : (xs front : List ℕ) (k : ℕ) (buffer : List ℕ) → buffer ≡ front ++ xs → k ≡ length front → take k buffer ≡ front
-front_is xs front k buffer is long = ap (take k) is ∙ ap (λ j. take j (front ++ xs)) long ∙ take-append_seam front xs
+-- what follows the first of some bytes and of those after them
+pub drop_split : (k : ℕ) (xs ys : List ℕ) → drop k (xs ++ ys) ≡ drop k xs ++ drop (k - length xs) ys
+drop_split zero xs ys = let none : 0 - length xs ≡ 0 = omega arith in rw none refl
+drop_split (suc k) [] ys = let all : suc k - 0 ≡ suc k = omega arith in rw all refl
+drop_split (suc k) (x ∷ xs) ys =
+    let less : suc k - suc (length xs) ≡ k - length xs = omega arith in rw less (drop_split k xs ys)
 
 -- none of those at the front are kept
 pub more_kept : (buffer new more rest after : List ℕ) (count skip put : ℕ) → count ≤ length buffer → count ≤ skip
@@ -14,14 +16,12 @@ pub more_kept : (buffer new more rest after : List ℕ) (count skip put : ℕ) �
     → new ≡ take 0 buffer ++ take put rest ++ after
     → take (count + length more - skip) new ≡ drop skip (take count buffer ++ more)
 more_kept buffer new more rest after count skip put within beyond is_rest fits is_put is_new =
+    let front : length (take count buffer) ≡ count = length-take-le count buffer within in
     let long : length rest ≡ length more - (skip - count) = ap length is_rest ∙ length-drop (skip - count) more in
     let all : take put rest ≡ rest = take_all put rest (omega (arith, is_put, long, fits, beyond)) in
-    let offset : skip ≡ length (take count buffer) + (skip - count) =
-    omega (arith, length-take count buffer, within, beyond) in
-    front_is after rest (count + length more - skip) new (is_new ∙ ap (λ xs. xs ++ after) all)
-    (omega (arith, long, beyond))
-    ∙ is_rest ∙ sym (drop-append-add (take count buffer) more (skip - count))
-    ∙ ap (λ k. drop k (take count buffer ++ more)) (sym offset)
+    let none = drop_all skip (take count buffer) (omega (arith, front, beyond)) in
+    rw (is_new, all, drop_split skip (take count buffer) more, none, front)
+    (take_at rest after (count + length more - skip) (omega (arith, long, beyond)) ∙ is_rest)
 
 -- the last of those at the front, moved there, and all of the others
 pub moved_kept : (buffer moved new more after later : List ℕ) (count skip put : ℕ) → count ≤ length buffer → skip < count
@@ -31,18 +31,13 @@ pub moved_kept : (buffer moved new more after later : List ℕ) (count skip put 
     → new ≡ take (count - skip) moved ++ take put more ++ after
     → take (count + length more - skip) new ≡ drop skip (take count buffer ++ more)
 moved_kept buffer moved new more after later count skip put within below fits as_long is_moved is_put is_new =
+    let front : List ℕ = take (count - skip) (drop skip buffer) in
     let back : skip + (count - skip) ≡ count = omega (arith, below) in
-    let rest : take (count - skip) (drop skip buffer) ≡ drop skip (take count buffer) =
-    sym (drop-take skip (count - skip) buffer) ∙ ap (λ k. drop skip (take k buffer)) back in
-    let long : length (drop skip (take count buffer)) ≡ count - skip =
-    length-drop skip (take count buffer) ∙ omega (arith, length-take count buffer, within) in
-    let first : take (count - skip) moved ≡ drop skip (take count buffer) =
-    front_is later (drop skip (take count buffer)) (count - skip) moved (is_moved ∙ ap (λ xs. xs ++ later) rest)
-    (sym long) in
+    let same : drop skip (take count buffer) ≡ front = rw back at (drop-take skip (count - skip) buffer) in
+    let long : length front ≡ count - skip =
+    omega (arith, length-take (count - skip) (drop skip buffer), length-drop skip buffer, within, below) in
+    let first : take (count - skip) moved ≡ front = rw is_moved (take_at front later (count - skip) long) in
     let all : take put more ≡ more = take_all put more (omega (arith, is_put, as_long, fits, below)) in
-    let whole : new ≡ (drop skip (take count buffer) ++ more) ++ after =
-    is_new ∙ ap (λ xs. xs ++ take put more ++ after) first
-    ∙ ap (λ xs. drop skip (take count buffer) ++ xs ++ after) all in
-    front_is after (drop skip (take count buffer) ++ more) (count + length more - skip) new whole
-    (omega (arith, long, below, length-append (drop skip (take count buffer)) more))
-    ∙ sym (drop-append-le skip (take count buffer) more (omega (arith, below, length-take count buffer, within)))
+    let onward = drop-append-le skip (take count buffer) more (omega (arith, below, length-take-le count buffer within)) in
+    rw (is_new, first, all, onward, same)
+    (take_at (front ++ more) after (count + length more - skip) (omega (arith, long, below, length-append front more)))

@@ -1,5 +1,5 @@
 -- What a result needs, between wider bounds and after other spans.
-use Rattle.std.proofs.Common.{◌≡◌, ℕ, suc, leb, ◌+◌, ◌-◌, ◌<◌, ◌≤◌, Bool, true, false, ◌&&◌, List, ◌++◌, Result, Ok, Err, refl, sym, ◌∙◌, subst, arith}
+use Rattle.std.proofs.Common.{◌≡◌, ℕ, suc, leb, ◌+◌, ◌-◌, ◌≤◌, Bool, true, false, ◌&&◌, List, ◌++◌, Result, Ok, Err, refl, sym, ◌∙◌, subst, arith}
 use Rattle.std.specs.List.{list_any}
 use Rattle.std.proofs.lemmas.Bool.Decides.{nat_tests}
 use Rattle.imagesize_source.specs.declared.halt.Halt.{Halt}
@@ -15,23 +15,22 @@ ends_wider low high less more spans early late ends =
     any_more (λ s. leb (suc low) (s.start + s.len) && leb (s.start + s.len) high)
     (λ s. leb (suc less) (s.start + s.len) && leb (s.start + s.len) more) spans (λ s is. grind (arith, nat_tests)) ends
 
-pub needs_wider : (texts : Bool) (low high less more : ℕ) (spans : List Span) → less ≤ low → high ≡ more
-    → Needs texts low high spans → Needs texts less more spans
-needs_wider texts low high less more spans early same needs = (
-  (needs.0.0, omega (arith, needs.0.1, early), omega (arith, needs.0.2, same), needs.0.3),
-  λ none. subst (λ e. EndsAt e spans) same (needs.1 none),
+pub needs_as : {texts other : Bool} (low high less more : ℕ) (spans : List Span) → texts ≡ other → less ≤ low → high ≡ more
+    → Needs texts low high spans → Needs other less more spans
+needs_as {texts} {other} low high less more spans same early late needs = (
+  (needs.0.0, omega (arith, needs.0.1, early), omega (arith, needs.0.2, late), needs.0.3),
+  λ none. subst (λ e. EndsAt e spans) late (needs.1 (same ∙ none)),
 )
 
--- a read that ends at an offset ends between wider bounds
-pub ends_at_wider : (end less more : ℕ) (spans : List Span) → less < end → end ≤ more → EndsAt end spans → EndsBetween less more spans
-ends_at_wider end less more spans early late ends =
-    ends_wider (end - 1) end less more spans (omega (arith, early)) late ends
+pub needs_wider : (texts : Bool) (low high less more : ℕ) (spans : List Span) → less ≤ low → high ≡ more
+    → Needs texts low high spans → Needs texts less more spans
+needs_wider texts low high less more spans early same needs = needs_as low high less more spans refl early same needs
 
 pub needs_among : (texts : Bool) (low high less more : ℕ) (spans : List Span) → less ≤ low → high ≤ more
     → Needs texts low high spans → NeedsAmong texts less more spans
 needs_among texts low high less more spans early late needs = (
   (needs.0.0, omega (arith, needs.0.1, early), omega (arith, needs.0.2, late), needs.0.3),
-  λ none. ends_at_wider high less more spans (omega (arith, needs.0.1, needs.0.2, early)) late (needs.1 none),
+  λ none. ends_wider (high - 1) high less more spans (omega (arith, needs.0.1, needs.0.2, early)) late (needs.1 none),
 )
 
 -- what holds for a mark of the first readings holds for one of all
@@ -44,16 +43,12 @@ onward_any marks (Err e) f P here = here
 pub needs_any : (texts : Bool) (low high : ℕ) (spans all : List Span)
     → ((P : Span → Bool) → list_any P spans ≡ true → list_any P all ≡ true) → Needs texts low high spans
     → Needs texts low high all
-needs_any texts low high spans all more needs = (
-  (
-    needs.0.0,
-    needs.0.1,
-    needs.0.2,
-    covered-any all needs.0.0
-        ∙ more (λ s. has_offset s needs.0.0) (sym (covered-any spans needs.0.0) ∙ needs.0.3),
-  ),
-  λ none. more (λ s. leb (suc (high - 1)) (s.start + s.len) && leb (s.start + s.len) high) (needs.1 none),
-)
+needs_any texts low high spans all more needs =
+    let p = needs.0.0 in
+    let here = more (λ s. has_offset s p) (sym (covered-any spans p) ∙ needs.0.3) in (
+      (p, needs.0.1, needs.0.2, covered-any all p ∙ here),
+      λ none. more (λ s. leb (suc (high - 1)) (s.start + s.len) && leb (s.start + s.len) high) (needs.1 none),
+    )
 
 pub needs_behind : (texts : Bool) (low high : ℕ) (before spans all : List Span) → all ≡ before ++ spans
     → Needs texts low high spans → Needs texts low high all
@@ -64,8 +59,3 @@ needs_behind texts low high before spans all is needs = subst (Needs texts low h
 pub needs_texts : (texts : Bool) (low high : ℕ) (spans : List Span) → Needs false low high spans
     → Needs texts low high spans
 needs_texts texts low high spans needs = (needs.0, λ none. needs.1 refl)
-
-pub needs_as : {texts other : Bool} (low high less more : ℕ) (spans : List Span) → texts ≡ other → less ≤ low → high ≡ more
-    → Needs texts low high spans → Needs other less more spans
-needs_as {texts} {other} low high less more spans same early late needs =
-    subst (λ t. Needs t less more spans) same (needs_wider texts low high less more spans early late needs)

@@ -1,6 +1,8 @@
 -- A layout that reads between two offsets has its marks there.
-use Rattle.std.proofs.Common.{◌≡◌, ℕ, zero, suc, ◌+◌, ◌-◌, ◌<◌, ◌≤◌, min, Bool, true, false, cond, ◌||◌, ◌⊎◌, inl, inr, List, [], ◌∷◌, ◌++◌, length, Result, Ok, Err, refl, ap, arith}
+use Rattle.std.proofs.Common.{◌≡◌, ℕ, zero, suc, ◌+◌, ◌-◌, ◌<◌, ◌≤◌, min, Bool, true, false, cond, inl, inr, List, ◌++◌, length, Result, Ok, Err, refl, sym, ap, ◌∙◌, arith}
+use Rattle.std.proofs.lemmas.Bool.{or_cases}
 use Rattle.std.proofs.lemmas.Bool.Decides.{nat_tests}
+use Rattle.std.proofs.lemmas.List.Folds.{list_any-append}
 use Rattle.imagesize_source.specs.declared.halt.Halt.{Halt}
 use Rattle.imagesize_source.specs.declared.span.Span.{Span}
 use Rattle.imagesize_source.specs.Agreement.{is_covered, has_offset}
@@ -8,51 +10,47 @@ use Rattle.imagesize_source.specs.Input.{part, span_at, span_of}
 use Rattle.imagesize_source.specs.Layout.{Layout, done, refuse, field, reading, begin_record, layout_reads, bind, accept}
 use Rattle.imagesize_source.specs.Reading.{Reads, Reading, AllOf, PartOf, TextOf, go_on, read_of, most, number_at, text_part}
 use Rattle.imagesize_source.specs.Text.{text_front}
+use Rattle.imagesize_source.proofs.Among.{covered-any}
 use Rattle.imagesize_source.proofs.Answered.{bytes_is}
 use Rattle.imagesize_source.proofs.Parts.{part_length}
 use Rattle.imagesize_source.proofs.Runs.{part_is}
 use Rattle.imagesize_source.proofs.Texts.{front_length}
 use Rattle.imagesize_pieces.specs.Stream.{Reach}
 
--- an offset of two lists of spans is one of either
-pub covered_either : (s t : List Span) (offset : ℕ) → is_covered (s ++ t) offset ≡ true
-    → (is_covered s offset ≡ true) ⊎ (is_covered t offset ≡ true)
-covered_either [] t offset is = inr is
-covered_either (x ∷ s) t offset is = by_test (has_offset x offset) (covered_either s t offset) is where
-  by_test : (b : Bool) → (is_covered (s ++ t) offset ≡ true → (is_covered s offset ≡ true) ⊎ (is_covered t offset ≡ true))
-      → b || is_covered (s ++ t) offset ≡ true → (b || is_covered s offset ≡ true) ⊎ (is_covered t offset ≡ true)
-  by_test true rest is = inl refl
-  by_test false rest is = rest is
+-- each offset of the spans lies between these
+abbrev Between : ℕ → ℕ → List Span → Type 0
+Between low high spans = (offset : ℕ) → is_covered spans offset ≡ true → (low ≤ offset) × (offset < high)
 
-covered_span : (start n offset : ℕ) → is_covered (span_at start n) offset ≡ true → (start ≤ offset) × (offset < start + n)
+between_span : (start n : ℕ) → Between start (start + n) (span_at start n)
 unfolding span_at
-covered_span start zero offset is = absurd cc
-covered_span start (suc n) offset is = (grind (arith, nat_tests), grind (arith, nat_tests))
+between_span start zero offset is = absurd cc
+between_span start (suc n) offset is = (grind (arith, nat_tests), grind (arith, nat_tests))
 
-covered_part : (d : List ℕ) (start k offset : ℕ) → is_covered (span_of d start k) offset ≡ true
-    → (start ≤ offset) × (offset < start + k)
+between_part : (d : List ℕ) (start k : ℕ) → Between start (start + k) (span_of d start k)
 unfolding span_of
-covered_part d start k offset is = let h = covered_span start (min k (length d - start)) offset is in
+between_part d start k offset is = let h = between_span start (min k (length d - start)) offset is in
     (h.0, omega (arith, h.1))
 
-covered_reading : (d : List ℕ) (r : Reading) (start offset : ℕ) → is_covered (read_of d r start).marks offset ≡ true
-    → (start ≤ offset) × (offset < start + most r)
+between_reading : (d : List ℕ) (r : Reading) (start : ℕ) → Between start (start + most r) (read_of d r start).marks
 unfolding text_part
-covered_reading d (AllOf k) start offset is = covered_part d start k offset is
-covered_reading d (PartOf k) start offset is = covered_part d start k offset is
-covered_reading d (TextOf t k) start offset is =
-    let h = covered_span start (length (text_front t (part d start k))) offset is in
+between_reading d (AllOf k) start offset is = between_part d start k offset is
+between_reading d (PartOf k) start offset is = between_part d start k offset is
+between_reading d (TextOf t k) start offset is =
+    let h = between_span start (length (text_front t (part d start k))) offset is in
     (h.0, omega (arith, h.1, front_length t (part d start k), part_length d start k))
 
--- an offset of readings and of what goes on from them
-covered_onward : {X Y : Type 0} (spans : List Span) (r : Result X Halt) (f : X → Reads Y) (offset : ℕ) (P : Type 0)
-    → is_covered (go_on spans r f).marks offset ≡ true → (is_covered spans offset ≡ true → P)
-    → ((x : X) → r ≡ Ok x → is_covered (f x).marks offset ≡ true → P) → P
-covered_onward spans (Ok x) f offset P is first rest = elim (covered_either spans (f x).marks offset is) [
-  | inl here ↦ first here
-  | inr later ↦ rest x refl later
-]
-covered_onward spans (Err e) f offset P is first rest = first is
+-- spans, and those of what goes on from them
+between_onward : {X Y : Type 0} (low high from to : ℕ) (spans : List Span) (r : Result X Halt) (f : X → Reads Y)
+    → Between from to spans → low ≤ from → to ≤ high → ((x : X) → r ≡ Ok x → Between low high (f x).marks)
+    → Between low high (go_on spans r f).marks
+between_onward low high from to spans (Ok x) f first early late rest offset is =
+    let parts = covered-any (spans ++ (f x).marks) offset ∙ list_any-append (λ s. has_offset s offset) spans (f x).marks in
+    elim (or_cases _ _ (sym parts ∙ is)) [
+      | inl here ↦ (let h = first offset (covered-any spans offset ∙ here) in (omega (arith, h.0, early), omega (arith, h.1, late)))
+      | inr later ↦ rest x refl offset (covered-any (f x).marks offset ∙ later)
+    ]
+between_onward low high from to spans (Err e) f first early late rest offset is =
+    let h = first offset is in (omega (arith, h.0, early), omega (arith, h.1, late))
 
 -- a reading gives no more bytes than it asks for
 read_most : (d : List ℕ) (r : Reading) (start : ℕ) (bs : List ℕ) → (read_of d r start).answer ≡ Ok bs
@@ -68,15 +66,12 @@ pub reach_covered : {X : Type 0} (d : List ℕ) (low high : ℕ) (t : Layout X) 
 reach_covered d low high (done x) reach offset is = absurd cc
 reach_covered d low high (refuse e) reach offset is = absurd cc
 reach_covered d low high (field order start n f) reach offset is =
-    covered_onward (span_of d start n) (number_at d order start n) (λ v. layout_reads d (f v)) offset
-    ((low ≤ offset) × (offset < high)) is
-    (λ here. let h = covered_part d start n offset here in (omega (arith, h.0, reach.0), omega (arith, h.1, reach.1)))
-    (λ v _ later. reach_covered d low high (f v) (reach.2 v) offset later)
+    between_onward low high start (start + n) (span_of d start n) (number_at d order start n) (λ v. layout_reads d (f v))
+    (between_part d start n) reach.0 reach.1 (λ v _. reach_covered d low high (f v) (reach.2 v)) offset is
 reach_covered d low high (reading r start f) reach offset is =
-    covered_onward (read_of d r start).marks (read_of d r start).answer (λ bs. layout_reads d (f bs)) offset
-    ((low ≤ offset) × (offset < high)) is
-    (λ here. let h = covered_reading d r start offset here in (omega (arith, h.0, reach.0), omega (arith, h.1, reach.1)))
-    (λ bs got later. reach_covered d low high (f bs) (reach.2 bs (read_most d r start bs got)) offset later)
+    between_onward low high start (start + most r) (read_of d r start).marks (read_of d r start).answer (λ bs. layout_reads d (f bs))
+    (between_reading d r start) reach.0 reach.1
+    (λ bs got. reach_covered d low high (f bs) (reach.2 bs (read_most d r start bs got))) offset is
 reach_covered d low high (begin_record t) reach offset is = reach_covered d low high t reach offset is
 
 -- what reads so far reads no farther

@@ -76,7 +76,8 @@ impl<'a> StreamSource<'a> {
     #[inline(always)]
     #[tactic(auto, unfolding(imagesize_source::specs::Input::span_at))]
     fn see(&mut self, start: u64, count: usize)
-        requires { (i : ℕ) → i < count → is_some (byte_at self.old.told self.old.start self.old.kept.now self.old.chunk.now (start + i)) ≡ true }
+        requires { (i : ℕ) → i < count → is_some (byte_at self.old.told self.old.start self.old.kept.now self.old.chunk.now (start + i))
+            ≡ true }
         ensures start { self.new.start ≡ self.old.start }
         ensures kept { self.new.kept.now ≡ self.old.kept.now }
         ensures chunk { self.new.chunk.now ≡ self.old.chunk.now }
@@ -93,7 +94,8 @@ impl<'a> StreamSource<'a> {
     // Records a span.
     #[inline(always)]
     fn push(&mut self, span: Span)
-        requires { (offset : ℕ) → has_offset span offset ≡ true → is_some (byte_at self.old.told self.old.start self.old.kept.now self.old.chunk.now offset) ≡ true }
+        requires { (offset : ℕ) → has_offset span offset ≡ true
+            → is_some (byte_at self.old.told self.old.start self.old.kept.now self.old.chunk.now offset) ≡ true }
         ensures start { self.new.start ≡ self.old.start }
         ensures kept { self.new.kept.now ≡ self.old.kept.now }
         ensures chunk { self.new.chunk.now ≡ self.old.chunk.now }
@@ -107,7 +109,8 @@ impl<'a> StreamSource<'a> {
     // Records a read whose first `count` bytes are known and whose next byte is missing.
     #[inline(always)]
     fn miss(&mut self, start: u64, count: usize, sure: usize, most: usize)
-        requires known { (i : ℕ) → i < count → is_some (byte_at self.old.told self.old.start self.old.kept.now self.old.chunk.now (start + i)) ≡ true }
+        requires known { (i : ℕ) → i < count
+            → is_some (byte_at self.old.told self.old.start self.old.kept.now self.old.chunk.now (start + i)) ≡ true }
         requires some { 0 < sure }
         requires among { sure ≤ most }
         requires fits { start + count + most ≤ self.old.told }
@@ -134,9 +137,12 @@ impl<'a> StreamSource<'a> {
     fn fill_known(&self, offset: u64, buffer: &mut [u8]) -> (usize, usize)
         ensures wanted { result.1 ≡ min (length buffer.new) (self.now.told - offset) }
         ensures within { result.0 ≤ result.1 }
-        ensures copied { take result.0 buffer.new ≡ part (stream_input self.now.told self.now.start self.now.kept.now self.now.chunk.now) offset result.0 }
-        ensures known { (i : ℕ) → i < result.0 → is_some (byte_at self.now.told self.now.start self.now.kept.now self.now.chunk.now (offset + i)) ≡ true }
-        ensures missing { result.0 < result.1 → is_some (byte_at self.now.told self.now.start self.now.kept.now self.now.chunk.now (offset + result.0)) ≡ false }
+        ensures copied { take result.0 buffer.new
+            ≡ part (stream_input self.now.told self.now.start self.now.kept.now self.now.chunk.now) offset result.0 }
+        ensures known { (i : ℕ) → i < result.0
+            → is_some (byte_at self.now.told self.now.start self.now.kept.now self.now.chunk.now (offset + i)) ≡ true }
+        ensures missing { result.0 < result.1
+            → is_some (byte_at self.now.told self.now.start self.now.kept.now self.now.chunk.now (offset + result.0)) ≡ false }
     {
         let wanted = count_there(self.told, offset, buffer.len());
         let found = self.gather(offset, &mut buffer[..wanted]);
@@ -147,9 +153,12 @@ impl<'a> StreamSource<'a> {
     fn gather(&self, offset: u64, buffer: &mut [u8]) -> usize
         requires { length buffer.old ≤ self.now.told - offset }
         ensures within { result ≤ length buffer.old }
-        ensures copied { take result buffer.new ≡ part (stream_input self.now.told self.now.start self.now.kept.now self.now.chunk.now) offset result }
-        ensures known { (i : ℕ) → i < result → is_some (byte_at self.now.told self.now.start self.now.kept.now self.now.chunk.now (offset + i)) ≡ true }
-        ensures missing { result < length buffer.old → is_some (byte_at self.now.told self.now.start self.now.kept.now self.now.chunk.now (offset + result)) ≡ false }
+        ensures copied { take result buffer.new
+            ≡ part (stream_input self.now.told self.now.start self.now.kept.now self.now.chunk.now) offset result }
+        ensures known { (i : ℕ) → i < result
+            → is_some (byte_at self.now.told self.now.start self.now.kept.now self.now.chunk.now (offset + i)) ≡ true }
+        ensures missing { result < length buffer.old
+            → is_some (byte_at self.now.told self.now.start self.now.kept.now self.now.chunk.now (offset + result)) ≡ false }
     {
         let first = self.known_from(offset);
         // Most records that miss a byte begin after the known ones. This saves a call that copies nothing.
@@ -168,8 +177,10 @@ impl<'a> StreamSource<'a> {
     #[inline(always)]
     #[tactic(auto, using(crate::proofs::Streaming::kept_known, crate::proofs::Streaming::chunk_known, crate::proofs::Streaming::before_none, crate::proofs::Streaming::behind_none))]
     fn known_from(&self, offset: u64) -> &'a [u8]
-        ensures known { (i : ℕ) → i < length result.now → byte_at self.now.told self.now.start self.now.kept.now self.now.chunk.now (offset + i) ≡ Some (slice_index result.now i) }
-        ensures none { length result.now ≡ 0 → is_some (byte_at self.now.told self.now.start self.now.kept.now self.now.chunk.now offset) ≡ false }
+        ensures known { (i : ℕ) → i < length result.now
+            → byte_at self.now.told self.now.start self.now.kept.now self.now.chunk.now (offset + i) ≡ Some (slice_index result.now i) }
+        ensures none { length result.now ≡ 0
+            → is_some (byte_at self.now.told self.now.start self.now.kept.now self.now.chunk.now offset) ≡ false }
         ensures run { result.now ≡ run_at self.now.start self.now.kept.now self.now.chunk.now offset }
     {
         if offset < self.start {
@@ -188,7 +199,8 @@ impl<'a> StreamSource<'a> {
     #[tactic(auto, using(crate::proofs::Streaming::first_known))]
     fn whole_from(&self, offset: u64, count: usize) -> Option<&'a [u8]>
         ensures long { IfSome result (λ found. length found.now ≡ count) }
-        ensures known { IfSome result (λ found. (i : ℕ) → i < count → byte_at self.now.told self.now.start self.now.kept.now self.now.chunk.now (offset + i) ≡ Some (slice_index found.now i)) }
+        ensures known { IfSome result (λ found. (i : ℕ) → i < count
+            → byte_at self.now.told self.now.start self.now.kept.now self.now.chunk.now (offset + i) ≡ Some (slice_index found.now i)) }
     {
         let run = self.known_from(offset);
         if run.len() < count {
@@ -254,7 +266,8 @@ impl<'a> StreamSource<'a> {
     fn ends_within(&self, offset: u64, run: &[u8], most: usize) -> bool
         requires { run.now ≡ run_at self.now.start self.now.kept.now self.now.chunk.now offset }
         ensures short { result ≡ true → length run.now < min most (self.now.told - offset) }
-        ensures unknown { result ≡ true → is_some (byte_at self.now.told self.now.start self.now.kept.now self.now.chunk.now (offset + length run.now)) ≡ false }
+        ensures unknown { result ≡ true
+            → is_some (byte_at self.now.told self.now.start self.now.kept.now self.now.chunk.now (offset + length run.now)) ≡ false }
     {
         if offset < self.start {
             return false;
@@ -268,9 +281,12 @@ impl<'a> StreamSource<'a> {
     // Records a read of a text of at most `most` bytes that misses a byte. `known` are its bytes up to that one. They do not end it.
     #[inline(always)]
     fn miss_text(&mut self, offset: u64, text: Text, known: &[u8], most: usize)
-        requires there { (i : ℕ) → i < length known.now → is_some (byte_at self.old.told self.old.start self.old.kept.now self.old.chunk.now (offset + i)) ≡ true }
-        requires copied { known.now ≡ part (stream_input self.old.told self.old.start self.old.kept.now self.old.chunk.now) offset (length known.now) }
-        requires unknown { is_some (byte_at self.old.told self.old.start self.old.kept.now self.old.chunk.now (offset + length known.now)) ≡ false }
+        requires there { (i : ℕ) → i < length known.now
+            → is_some (byte_at self.old.told self.old.start self.old.kept.now self.old.chunk.now (offset + i)) ≡ true }
+        requires copied { known.now ≡ part (stream_input self.old.told self.old.start self.old.kept.now self.old.chunk.now) offset
+            (length known.now) }
+        requires unknown { is_some (byte_at self.old.told self.old.start self.old.kept.now self.old.chunk.now (offset + length known.now))
+            ≡ false }
         requires short { length known.now < min most (self.old.told - offset) }
         requires open { is_ended text known.now ≡ false }
         ensures { Runs {X = List ℕ} (stream_state self.old.told self.old.start self.old.kept.now self.old.chunk.now self.old.log.spans self.old.missed)

@@ -22,7 +22,8 @@ pub fn read_on<R: Records>(
 ) -> Option<Result<R::Answer, Halt>>
     requires follows { CanFollow (chain_of 0 (R.said records.old)) }
     requires keeps { (held : List R.Held) × R.keeps records.old held stand.old.offset }
-    requires reaches { (held : List R.Held) (offset : ℕ) → Reach offset (offset + (length buffer.old + 1)) (R.said records.old held offset) }
+    requires reaches { (held : List R.Held) (offset : ℕ)
+        → Reach offset (offset + (length buffer.old + 1)) (R.said records.old held offset) }
     requires buffer { stand.old.passed - stand.old.start ≤ length buffer.old }
     requires fits { stand.old.passed + length chunk.now ≤ stand.old.told }
     ensures same { R.said records.new ≡ R.said records.old }
@@ -34,7 +35,8 @@ pub fn read_on<R: Records>(
     ensures unstopped { IfSome result (λ answer. is_stopped answer ≡ false) }
 
     // The read that a byte is missing for requests more than the bytes that arrived, and more than the records before it.
-    ensures ends { result ≡ None → (stand.new.passed < stand.new.end) × (stand.new.start < stand.new.end) × (stand.new.end ≤ stand.new.told) }
+    ensures ends { result ≡ None → (stand.new.passed < stand.new.end) × (stand.new.start < stand.new.end)
+        × (stand.new.end ≤ stand.new.told) }
 
     // If all bytes of the input arrived, there is a result.
     ensures whole { stand.old.told ≤ stand.old.passed + length chunk.now → result ≡ None → ⊥ }
@@ -54,7 +56,8 @@ pub fn read_on<R: Records>(
     // The buffer holds the bytes from the next record on, and not all bytes up to which that record is read.
     ensures starts { result ≡ None → stand.new.start ≡ stand.new.offset }
     ensures few { result ≡ None → (high : ℕ)
-        → ((held : List R.Held) → R.keeps records.new held stand.new.offset → Reach stand.new.offset high (R.said records.new held stand.new.offset))
+        → ((held : List R.Held) → R.keeps records.new held stand.new.offset
+        → Reach stand.new.offset high (R.said records.new held stand.new.offset))
         → stand.new.passed < high }
 
     // The result depends on a byte that has not arrived. It is in the next record, and the read that missed a byte requests it.

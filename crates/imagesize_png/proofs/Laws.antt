@@ -18,7 +18,7 @@ use Rattle.imagesize_source.specs.Agreement.{IsLocal}
 use Rattle.imagesize_source.specs.Counts.{AtMost}
 use Rattle.imagesize_source.specs.Extension.{Plain}
 use Rattle.imagesize_source.specs.Input.{part, span_of}
-use Rattle.imagesize_source.specs.Layout.Layout.{field, «done»}
+use Rattle.imagesize_source.specs.Layout.Layout.{«done»}
 use Rattle.imagesize_source.specs.Layout.{layout_reads}
 use Rattle.imagesize_source.specs.Numbers.{number}
 use Rattle.imagesize_source.specs.Halts.{error_of, with_error}
@@ -73,31 +73,19 @@ bytes_end d offset k e is = by_test (leb k (length d - offset)) is where
   by_test true is = absurd cc
   by_test false is = cc
 
-number_end : (d : List ℕ) (offset k : ℕ) (e : Halt) → number_at d Big offset k ≡ Err e → e ≡ halt.Ended
-unfolding number_at
-number_end d offset k e is = by_bytes (bytes_at d offset k) refl is where
-  by_bytes : (r : Result (List ℕ) Halt) → bytes_at d offset k ≡ r → map_answer (number Big) r ≡ Err e → e ≡ halt.Ended
-  by_bytes (Ok bs) same is = absurd cc
-  by_bytes (Err f) same is = let one : f ≡ e = cc in sym one ∙ bytes_end d offset k f same
-
 -- and so are the sides
-sides_end : (d : List ℕ) (e : Halt) → (layout_reads d png_sides).answer ≡ Err e → e ≡ halt.Ended
-sides_end d e is = by_width (number_at d Big 16 4) refl is where
-  by_height : (width : ℕ) (h : Result ℕ Halt) → number_at d Big 20 4 ≡ h
-      → ◌≡◌ {A = Result ImageSize Halt}
-      (go_on {Y = ImageSize} (span_of d 20 4) h
-      (λ height. layout_reads d (done (record { width = width; height = height })))).answer (Err e)
-      → e ≡ halt.Ended
-  by_height width (Ok height) same is = absurd cc
-  by_height width (Err f) same is = let one : f ≡ e = cc in sym one ∙ number_end d 20 4 f same
+abbrev side : List ℕ → Bool → ℕ → Result ℕ Halt
+side d there offset = map_answer (number Big) (cond there (Ok (part d offset 4)) (Err halt.Ended))
 
-  by_width : (w : Result ℕ Halt) → number_at d Big 16 4 ≡ w
-      → (go_on {Y = ImageSize} (span_of d 16 4) w
-      (λ width. layout_reads d (field Big 20 4 (λ height. done (record { width = width; height = height }))))).answer
-      ≡ Err e
-      → e ≡ halt.Ended
-  by_width (Ok width) same is = by_height width (number_at d Big 20 4) refl is
-  by_width (Err f) same is = let one : f ≡ e = cc in sym one ∙ number_end d 16 4 f same
+sides_end : (d : List ℕ) (e : Halt) → (layout_reads d png_sides).answer ≡ Err e → e ≡ halt.Ended
+unfolding number_at bytes_at
+sides_end d e is = by_tests (leb 4 (length d - 16)) (leb 4 (length d - 20)) is where
+  by_tests : (there also : Bool) → (go_on {Y = ImageSize} (span_of d 16 4) (side d there 16)
+      (λ width. go_on (span_of d 20 4) (side d also 20)
+      (λ height. layout_reads d (done (record { width = width; height = height }))))).answer ≡ Err e → e ≡ halt.Ended
+  by_tests true true is = absurd cc
+  by_tests true false is = cc
+  by_tests false also is = cc
 
 no_png : (d x : List ℕ) (is : Bool) → (layout_reads d (png_by is)).answer ≡ Err halt.NotSupported
     → (layout_reads (d ++ x) (png_by is)).answer ≡ Err halt.NotSupported
@@ -159,11 +147,10 @@ both_are p q same = (ap (λ (x : ℕ × ℕ). x.0) same, ap (λ (x : ℕ × ℕ)
 rises : (before after : Option ℕ) (taken k : ℕ) → drift after taken ≡ drift before 0 → taken ≤ k
     → RisesWithin before after k
 rises None None taken k same few = refl
-rises None (Some d) taken k same few = absurd cc
-rises (Some c) None taken k same few = absurd cc
 rises (Some c) (Some d) taken k same few =
     let is = both_are (d - taken, taken - d) (c - 0, 0 - c) cc in
     (omega (arith, is.0, is.1), omega (arith, is.0, is.1, few))
+rises _ _ taken k same few = absurd cc
 
 -- and how far a count rose
 pub png_counts : (telling mid : Option Telling) (count after : Option ℕ) (home : ℕ) (opened : Opened) (a b : State)

@@ -1,5 +1,6 @@
 -- Texts on one line.
 use Rattle.std.proofs.Common.{◌≡◌, ◌≢◌, ◌∙◌, ap, sym, refl, arith, rules, ℕ, zero, suc, ◌/◌, ◌%◌, ◌<◌, Bool, true, false, ◌||◌, ◌==◌, if◌then◌else◌, List, [], ◌∷◌, ◌++◌, length, get_or, Option, None, Some, Result, Ok, Err, IfSome, OnOk, codes, decimal, option_map, append-nil, append_assoc}
+use Rattle.std.proofs.lemmas.Bool.{cond_both}
 use Rattle.std.proofs.lemmas.Bool.Decides.{nat_tests}
 use Rattle.std.proofs.lemmas.List.{map-append}
 use Rattle.std.proofs.lemmas.List.Folds.{list_any-append}
@@ -12,13 +13,12 @@ use Rattle.std.specs.List.{FoldsTo, concat, list_any}
 use Rattle.imagesize_probe.specs.Line.{is_line_feed, one_line, refused_line, IsOneLine}
 use Rattle.imagesize_source.specs.Reason.{error_text, shown_byte, tag_text}
 use Rattle.imagesize_source.specs.declared.error.ImageError.{ImageError}
-use Rattle.imagesize_source.specs.declared.error.ImageError.TheVariants.{NotSupported, CorruptedImage, IoError}
-use Rattle.imagesize_source.specs.declared.error.Reason.TheVariants.{Fault, EndOfInput, NotEnoughData, BudgetSpent, Memory, NoDelimiter, NotUtf8, InvalidHeifBoxSize, InvalidJxlBoxSize, InvalidJxlSignature, InvalidTiffHeader, BigTiffOffsetSize, InvalidBigTiffHeader, InvalidIfdOffset, IfdTypeForStandardTiff, InvalidIfdType, InvalidIfdValueLength, NoDimensionsInIfd, InvalidVp8Tag, DataWindowNotFound, InvalidHdrIdentifier, InvalidHdrDimensionsLine, HdrDimensionsNotFound, PnmDimensionsNotFound}
+use Rattle.imagesize_source.specs.declared.error.ImageError.TheVariants.{IoError}
+use Rattle.imagesize_source.specs.declared.error.Reason.TheVariants.{Fault, BudgetSpent, NoDelimiter, InvalidHeifBoxSize, InvalidJxlBoxSize}
 
 -- what is written for a byte is no line feed
 no_feed : (b : Bool) (byte : ℕ) → is_line_feed byte ≡ b → is_line_feed (if b then 32 else byte) ≡ false
-no_feed true byte _ = refl
-no_feed false byte is = is
+no_feed b byte is = grind (arith, is)
 
 -- a text with its line feeds replaced has none
 pub one_line_plain : (text : List ℕ) → IsOneLine (one_line text)
@@ -75,25 +75,17 @@ kept_text None s t _ _ _ = tt
 kept_text (Some text) s t none intact wrote =
     kept_calls s wrote.parts t wrote.calls intact ∙ ap (λ l. l ++ concat wrote.parts) none ∙ wrote.whole
 
--- two texts without a line feed
-plain-append : (a b : List ℕ) → IsOneLine a → IsOneLine b → IsOneLine (a ++ b)
-plain-append a b first second = rw (list_any-append is_line_feed a b, first) second
-
 -- a digit is no line feed, and a number has none
 plain_glyph : (upper : Bool) (d : ℕ) → is_line_feed (digit_glyph upper d) ≡ false
-plain_glyph true d = grind (arith, nat_tests)
-plain_glyph false d = grind (arith, nat_tests)
+plain_glyph upper d = grind (arith, nat_tests)
 
 plain_digits : (k base : ℕ) (upper : Bool) (n : ℕ) (text : List ℕ) → IsOneLine text
     → IsOneLine (digits_onto k base upper n text)
 plain_digits zero base upper n text plain = plain
 plain_digits (suc k) base upper n text plain =
     let more : IsOneLine (digit_glyph upper (n % base) ∷ text) = rw (plain_glyph upper (n % base)) plain in
-    ends (digit_glyph upper (n % base) ∷ text) _ (n / base == 0) more (plain_digits k base upper (n / base) (digit_glyph upper (n % base) ∷ text) more)
-  where
-    ends : (a b : List ℕ) (last : Bool) → IsOneLine a → IsOneLine b → IsOneLine (if last then a else b)
-    ends a b true first _ = first
-    ends a b false _ second = second
+    cond_both (n / base == 0) (digit_glyph upper (n % base) ∷ text) _ IsOneLine (λ _. more)
+    (λ _. plain_digits k base upper (n / base) (digit_glyph upper (n % base) ∷ text) more)
 
 plain_decimal : (n : ℕ) → IsOneLine (decimal n)
 unfolding digits
@@ -109,63 +101,30 @@ plain_tag (byte ∷ tag) = rw (plain_shown byte) (plain_tag tag)
 
 -- the stated text of an error is without a line feed
 pub plain_error : (e : ImageError) → IfSome (error_text e) IsOneLine
-plain_error NotSupported = refl
-plain_error CorruptedImage = refl
 plain_error (IoError (Fault error)) = tt
-plain_error (IoError EndOfInput) = refl
-plain_error (IoError NotEnoughData) = refl
-plain_error (IoError (BudgetSpent budget)) =
-    plain-append (codes "Read budget of ") (decimal budget ++ codes " bytes is spent") refl
-    (plain-append (decimal budget) (codes " bytes is spent") (plain_decimal budget) refl)
-plain_error (IoError Memory) = refl
-plain_error (IoError (NoDelimiter max_size)) =
-    plain-append (codes "Delimiter not found within ") (decimal max_size ++ codes " bytes") refl
-    (plain-append (decimal max_size) (codes " bytes") (plain_decimal max_size) refl)
-plain_error (IoError NotUtf8) = refl
-plain_error (IoError (InvalidHeifBoxSize size)) =
-    plain-append (codes "Invalid heif box size: ") (decimal size) refl (plain_decimal size)
-plain_error (IoError (InvalidJxlBoxSize tag size)) =
-    plain-append (codes "Invalid size for ") (tag_text tag ++ (codes " box: " ++ decimal size)) refl
-    (plain-append (tag_text tag) (codes " box: " ++ decimal size) (plain_tag tag)
-    (plain-append (codes " box: ") (decimal size) refl (plain_decimal size)))
-plain_error (IoError InvalidJxlSignature) = refl
-plain_error (IoError InvalidTiffHeader) = refl
-plain_error (IoError BigTiffOffsetSize) = refl
-plain_error (IoError InvalidBigTiffHeader) = refl
-plain_error (IoError InvalidIfdOffset) = refl
-plain_error (IoError IfdTypeForStandardTiff) = refl
-plain_error (IoError InvalidIfdType) = refl
-plain_error (IoError InvalidIfdValueLength) = refl
-plain_error (IoError NoDimensionsInIfd) = refl
-plain_error (IoError InvalidVp8Tag) = refl
-plain_error (IoError DataWindowNotFound) = refl
-plain_error (IoError InvalidHdrIdentifier) = refl
-plain_error (IoError InvalidHdrDimensionsLine) = refl
-plain_error (IoError HdrDimensionsNotFound) = refl
-plain_error (IoError PnmDimensionsNotFound) = refl
+plain_error (IoError (BudgetSpent budget)) = simp (list_any-append, plain_decimal)
+plain_error (IoError (NoDelimiter max_size)) = simp (list_any-append, plain_decimal)
+plain_error (IoError (InvalidHeifBoxSize size)) = simp plain_decimal
+plain_error (IoError (InvalidJxlBoxSize tag size)) = simp (list_any-append, plain_decimal, plain_tag)
+plain_error _ = refl
 
 -- the line of an error with a stated text has that very text
 stated_line : (text : Option (List ℕ)) (name : List ℕ) (a b : Option (List ℕ)) → IfSome text IsOneLine
     → IfSome text (λ t. Appends a b (refused_line name (one_line t)))
-    → IfSome text (λ t. Appends a b (refused_line name t))
-stated_line None name a b _ _ = tt
-stated_line (Some text) name a b plain wrote = rw (plain_stays text plain) at wrote
+    → IfSome text (λ t. Appends a b (refused_line name t)) × IfSome (option_map (refused_line name) text) (Appends a b)
+stated_line None name a b _ _ = (tt, tt)
+stated_line (Some text) name a b plain wrote = let same = rw (plain_stays text plain) at wrote in (same, same)
 
-pub error_line : (e : ImageError) (name : List ℕ) (a b : Option (List ℕ)) (r : Result Bool Error)
-    → OnOk r (IfSome (error_text e) (λ t. Appends a b (refused_line name (one_line t))))
-    → OnOk r (IfSome (error_text e) (λ t. Appends a b (refused_line name t)))
-error_line e name a b (Err _) _ = tt
-error_line e name a b (Ok _) wrote = stated_line (error_text e) name a b (plain_error e) wrote
+module _ (e : ImageError) (name : List ℕ) (a b : Option (List ℕ)) where
+  pub error_line : (r : Result Bool Error)
+      → OnOk r (IfSome (error_text e) (λ t. Appends a b (refused_line name (one_line t))))
+      → OnOk r (IfSome (error_text e) (λ t. Appends a b (refused_line name t)))
+  error_line (Err _) _ = tt
+  error_line (Ok _) wrote = (stated_line (error_text e) name a b (plain_error e) wrote).0
 
--- the same, as the line of an answer
-pub error_answer : (e : ImageError) (name : List ℕ) (a b : Option (List ℕ)) (r : Result Bool Error)
-    → OnOk r (IfSome (error_text e) (λ t. Appends a b (refused_line name (one_line t))))
-    → OnOk r (IfSome (option_map (refused_line name) (error_text e)) (Appends a b))
-error_answer e name a b r wrote = answered (error_text e) r (error_line e name a b r wrote)
-  where
-    answered : (text : Option (List ℕ)) (r : Result Bool Error)
-        → OnOk r (IfSome text (λ t. Appends a b (refused_line name t)))
-        → OnOk r (IfSome (option_map (refused_line name) text) (Appends a b))
-    answered text (Err _) _ = tt
-    answered None (Ok _) _ = tt
-    answered (Some text) (Ok _) wrote = wrote
+  -- the same, as the line of an answer
+  pub error_answer : (r : Result Bool Error)
+      → OnOk r (IfSome (error_text e) (λ t. Appends a b (refused_line name (one_line t))))
+      → OnOk r (IfSome (option_map (refused_line name) (error_text e)) (Appends a b))
+  error_answer (Err _) _ = tt
+  error_answer (Ok _) wrote = (stated_line (error_text e) name a b (plain_error e) wrote).1

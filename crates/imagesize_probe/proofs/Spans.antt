@@ -1,5 +1,6 @@
 -- What `report_spans` writes, by what was found.
-use Rattle.std.proofs.Common.{◌≡◌, ℕ, ◌+◌, ◌<◌, Bool, false, List, [], ◌∷◌, ◌++◌, length, take, get_or, Option, None, Some, Result, Ok, Err, IsOk, IsSome, IsSomeAnd, IfSome, OnOk, IfOk, inl, is_ok, option_map, refl, rules, append_assoc}
+use Rattle.std.proofs.Common.{◌≡◌, ℕ, ◌+◌, ◌<◌, Bool, false, List, [], ◌∷◌, ◌++◌, length, take, get_or, Option, None, Some, Result, Ok, Err, IsOk, IsSome, IsSomeAnd, IfSome, OnOk, IfOk, inl, is_ok, option_map, refl, sym, ap, ◌∙◌, subst, rules, append_assoc}
+use Rattle.std.proofs.KnownBytes.{Appends-trans}
 use Rattle.std.proofs.lemmas.Grind.{take_at_read}
 use Rattle.std.specs.Result.{result_ok}
 use Rattle.std.specs.declared.io.Error.{Error}
@@ -9,28 +10,19 @@ use Rattle.imagesize.specs.Traced.{Traces}
 use Rattle.imagesize.specs.declared.trace.Trace.{Trace}
 use Rattle.imagesize.specs.declared.types.ImageType.{ImageType}
 use Rattle.imagesize_types.specs.declared.size.ImageSize.{ImageSize}
-use Rattle.imagesize_probe.proofs.Lines.{has_text, sized_kind}
+use Rattle.imagesize_probe.proofs.Lines.{line_there, sized_kind}
 use Rattle.imagesize_probe.specs.Line.{answer_line, refused_line, span_line, span_lines, ReportsSpans, TracesTo}
 use Rattle.imagesize_source.specs.Errors.{is_stopped}
 use Rattle.imagesize_source.specs.Reason.{error_text}
 use Rattle.imagesize_source.specs.declared.error.ImageError.{ImageError}
 use Rattle.imagesize_source.specs.declared.span.Span.{Span}
 
--- what was written at first, and then
-pub appended : (a b c : Option (List ℕ)) (first second whole : List ℕ) → Appends a b first → Appends b c second
-    → whole ≡ first ++ second
-    → Appends a c whole
-appended None b c first second whole _ _ _ = tt
-appended (Some a) None c first second whole wrote _ _ = absurd wrote
-appended (Some a) (Some b) None first second whole _ wrote _ = absurd wrote
-appended (Some a) (Some b) (Some c) first second whole wrote more is = search (rules, wrote, more, is, append_assoc)
-
 -- a line, where one is stated, and more behind it
 pub both_written : (text : Option (List ℕ)) (more : List ℕ) (a b c : Option (List ℕ)) → IfSome text (Appends a b)
     → Appends b c more →
     IfSome text (λ first. Appends a c (first ++ more))
 both_written None more a b c _ _ = tt
-both_written (Some text) more a b c wrote then_more = appended a b c text more (text ++ more) wrote then_more refl
+both_written (Some text) more a b c wrote then_more = Appends-trans a b c text more wrote then_more
 
 -- the lines of spans and of one more
 span_lines_push : (spans : List Span) (span : Span)
@@ -43,21 +35,9 @@ pub one_span : (spans : List Span) (i : ℕ) (other : Span) (a b c : Option (Lis
     Appends a b (span_lines (take i spans)) → Appends b c (span_line (get_or spans i other))
     → Appends a c (span_lines (take (i + 1) spans))
 one_span spans i other a b c there wrote more =
-    let one : take (i + 1) spans ≡ take i spans ++ get_or spans i other ∷ [] = (take_at_read spans i other there).1 in
-    rw one (appended a b c (span_lines (take i spans)) (span_line (get_or spans i other))
-    (span_lines (take i spans ++ get_or spans i other ∷ []))
-    wrote more (span_lines_push (take i spans) (get_or spans i other)))
-
--- of an answer that is no failure there is a line
-line_there : (name : List ℕ) (found : Option ImageType) (r : Result ImageSize ImageError) → (IsOk r → IsSome found) →
-    is_stopped r ≡ false → IsSome (answer_line name found r)
-line_there name (Some image) (Ok size) _ _ = refl
-line_there name None (Ok size) typed _ = (cc (typed refl))
-line_there name found (Err e) _ going = text_there name (error_text e) (has_text e going)
-  where
-    text_there : (name : List ℕ) (text : Option (List ℕ)) → IsSome text → IsSome (option_map (refused_line name) text)
-    text_there name (Some text) _ = refl
-    text_there name None has = (cc)
+    let one : span_lines (take (i + 1) spans) ≡ span_lines (take i spans) ++ span_line (get_or spans i other) =
+    ap span_lines (take_at_read spans i other there).1 ∙ span_lines_push (take i spans) (get_or spans i other) in
+    subst (Appends a c) (sym one) (Appends-trans a b c _ _ wrote more)
 
 -- a line that is stated, and more behind it
 more_behind : (text : Option (List ℕ)) (more : List ℕ) (old new : Option (List ℕ)) → IsSome text →
@@ -66,17 +46,10 @@ more_behind : (text : Option (List ℕ)) (more : List ℕ) (old new : Option (Li
 more_behind (Some text) more old new _ wrote = wrote
 more_behind None more old new has _ = (cc)
 
--- a size stands beside a type
-kind_there : {X : Type 0} (r : Result ImageSize ImageError) (found : Result X ImageError) → (IsOk r → IsOk found)
-    → IsOk r
-    → IsSome (result_ok found)
-kind_there r (Ok image) _ _ = refl
-kind_there r (Err e) typed ok = (cc (typed ok))
-
 pub trace_typed : {A : Type 0} (d : List ℕ) (t : Trace A) → Traces d t → OnOk t.answer (IsSome t.kind)
 trace_typed d t traces =
     rw traces.answer (rw traces.kind (on_ok (meaning d 0).answer (IsSome (result_ok (kind_of d 0).answer))
-    (kind_there (meaning d 0).answer (kind_of d 0).answer (sized_kind d 0))))
+    (sized_kind d 0)))
   where
     on_ok : (r : Result ImageSize ImageError) (P : Type 0) → (IsOk r → P) → OnOk r P
     on_ok (Ok size) P holds = holds refl
@@ -91,8 +64,7 @@ traced d name t old new sized traces wrote is =
     record {
       text = more_behind (answer_line name (result_ok (kind_of d 0).answer) (meaning d 0).answer)
           (span_lines (meaning d 0).marks) old new
-          (line_there name (result_ok (kind_of d 0).answer) (meaning d 0).answer
-          (kind_there (meaning d 0).answer (kind_of d 0).answer (sized_kind d 0)) (rw (← answer) traces.goes))
+          (line_there name _ (meaning d 0).answer (sized_kind d 0) (rw (← answer) traces.goes))
           (rw (← kind) (rw (← answer) (rw (← spans) wrote)));
       size = rw (← answer) is;
     }

@@ -1,6 +1,8 @@
 -- The lines of one name more.
 use Rattle.std.proofs.Common.{◌≡◌, ◌∙◌, ◌≤◌, ap, subst, sym, arith, ℕ, Bool, true, false, ◌||◌, not, List, [], ◌∷◌, ◌++◌, Option, None, Some, Result, Ok, Err, IsOkAnd, IsSomeAnd, OnOk, IfOk, IfSome, ◌⊎◌, codes, is_ok, option_map, inl, inr, refl, rules, ◌+◌, ◌<◌, length, map, take, get_or, append_assoc}
+use mathlib.Core.Bool.{or_assoc, or_comm}
 use mathlib.Core.Logic.{⊎_elim}
+use Rattle.std.proofs.KnownBytes.{Appends-kept, Appends-nil, Appends-trans}
 use Rattle.std.proofs.lemmas.Bool.{cases_lt}
 use Rattle.std.proofs.lemmas.Grind.{take_at_read}
 use Rattle.std.proofs.lemmas.List.{map-append, length-take, take_all}
@@ -25,50 +27,19 @@ use Rattle.imagesize_probe.specs.Status.{exit_status}
 wrote_both : (first second a b c d : Option (List ℕ)) → IfSome first (Appends a b) → Keeps b c
     → IfSome second (Appends c d) →
     IfSome (join_lines first second) (Appends a d)
-wrote_both None second a b c d _ _ _ = tt
-wrote_both (Some first) None a b c d _ _ _ = tt
-wrote_both (Some first) (Some second) None b c d _ _ _ = tt
-wrote_both (Some first) (Some second) (Some a) None c d wrote _ _ = absurd wrote
-wrote_both (Some first) (Some second) (Some a) (Some b) None d _ kept _ = absurd kept
-wrote_both (Some first) (Some second) (Some a) (Some b) (Some c) None _ _ more = absurd more
-wrote_both (Some first) (Some second) (Some a) (Some b) (Some c) (Some d) wrote kept more =
-    search (rules, wrote, kept, more, append_assoc)
-
--- no line was written
-wrote_none : (a : Option (List ℕ)) → Appends a a []
-wrote_none None = tt
-wrote_none (Some a) = search rules
+wrote_both (Some first) (Some second) a b c d wrote kept more =
+    Appends-trans a c d first second (Appends-kept a b c first wrote kept) more
+wrote_both _ _ a b c d _ _ _ = tt
 
 -- names of which it is told what is behind them have exactly their lines
 lines_written : (files : Files) (names : List (List ℕ)) (old new : Option (List ℕ)) (refused : Bool) →
     WritesEach (WritesLine (Some files)) names old new refused → WritesLines files names old new refused
-lines_written files [] old new refused (same, none) = (subst (λ x. Appends old x []) (sym same) (wrote_none old), none)
+lines_written files [] old new refused (same, none) = (subst (λ x. Appends old x []) (sym same) (Appends-nil old), none)
 lines_written files (name ∷ names) old new refused (mid, sent, sized, others, line, kept, rest, some) =
     let behind = lines_written files names sent new others rest in (
       wrote_both (line_behind name (files name)) (lines_of files names) old mid sent new line.told.0 kept behind.0,
       search (rules, some, line.told.1, behind.1),
     )
-
--- one name more of those that were taken
-one_name : {X : Type 0} (text_of : X → List ℕ) (names : List X) (i : ℕ) (name : X) (text : List ℕ) →
-    i < length names → name ≡ get_or names i name → text ≡ text_of name →
-    map text_of (take (i + 1) names) ≡ map text_of (take i names) ++ text ∷ []
-one_name text_of names i name text there at is =
-    let more : take (i + 1) names ≡ take i names ++ get_or names i name ∷ [] = (take_at_read names i name there).1 in
-    search (rules, more, ← at, is, map-append)
-
--- of none before it, one is refused where this one is
-refused_alone : (refused sized after : Bool) → refused ≡ false → after ≡ (refused || not sized)
-    → after ≡ (not sized || false)
-refused_alone refused true after none so = search (rules, none, so)
-refused_alone refused false after none so = search (rules, none, so)
-
--- one is refused where the first was, or one behind it
-refused_behind : (first refused others sized after : Bool) → refused ≡ (not first || others)
-    → after ≡ (refused || not sized) →
-    after ≡ (not first || (others || not sized))
-refused_behind true refused others sized after some so = search (rules, some, so)
-refused_behind false refused others sized after some so = search (rules, some, so)
 
 -- what is written of one name more was written, and sent on
 one_written : (writes : List ℕ → Option (List ℕ) → Option (List ℕ) → Bool → Type 0) (names : List (List ℕ))
@@ -76,27 +47,14 @@ one_written : (writes : List ℕ → Option (List ℕ) → Option (List ℕ) →
     (a b c d : Option (List ℕ)) (refused sized after : Bool) →
     WritesEach writes names a b refused → writes name b c sized → Keeps c d → after ≡ (refused || not sized) →
     WritesEach writes (names ++ name ∷ []) a d after
-one_written writes [] name a b c d refused sized after before wrote kept so = (
-  c,
-  d,
-  sized,
-  false,
-  subst (λ x. writes name x c sized) before.0 wrote,
-  kept,
-  (refl, refl),
-  refused_alone refused sized after before.1 so,
-)
+one_written writes [] name a b c d refused sized after before wrote kept so =
+    let refuses = so ∙ ap (λ r. r || not sized) before.1 ∙ or_comm false (not sized) in
+    (c, d, sized, false, subst (λ x. writes name x c sized) before.0 wrote, kept, (refl, refl), refuses)
 one_written writes (first ∷ names) name a b c d refused sized after
-    (mid, sent, was, others, line, on, rest, some) wrote kept so = (
-      mid,
-      sent,
-      was,
-      (others || not sized),
-      line,
-      on,
-      one_written writes names name sent b c d others sized (others || not sized) rest wrote kept refl,
-      refused_behind was refused others sized after some so,
-    )
+    (mid, sent, was, others, line, on, rest, some) wrote kept so =
+    let more = one_written writes names name sent b c d others sized (others || not sized) rest wrote kept refl in
+    let refuses = so ∙ ap (λ r. r || not sized) some ∙ or_assoc (not was) others (not sized) in
+    (mid, sent, was, (others || not sized), line, on, more, refuses)
 
 -- the same of the names that were taken
 pub one_more : {X : Type 0} (text_of : X → List ℕ) (names : List X) (i : ℕ) (name : X) (text : List ℕ) →
@@ -107,28 +65,19 @@ pub one_more : {X : Type 0} (text_of : X → List ℕ) (names : List X) (i : ℕ
     after ≡ (refused || not sized) →
     WritesEach writes (map text_of (take (i + 1) names)) a d after
 one_more text_of names i name text there at is writes a b c d refused sized after before wrote kept so =
+    let one : take (i + 1) names ≡ take i names ++ get_or names i name ∷ [] = (take_at_read names i name there).1 in
     let more : map text_of (take (i + 1) names) ≡ map text_of (take i names) ++ text ∷ [] =
-    one_name text_of names i name text
-    there at is in
+    search (rules, one, ← at, is, map-append) in
     rw more (one_written writes (map text_of (take i names)) text a b c d refused sized after before wrote kept so)
-
--- what is read of bytes shows whether they are too many, and is all of them where they are not
-shows_length : (d : List ℕ)
-    → (16777216 < length d → 16777216 < length (take 16777217 d)) × (length d ≤ 16777216 → take 16777217 d ≡ d)
-shows_length d = (
-  λ long. omega (arith, length-take 16777217 d, long),
-  λ short. take_all 16777217 d
-      (omega (arith, short)),
-)
 
 -- the lines of the bytes that were read are those of all
 whole_read : (d bytes name : List ℕ) (a b : Option (List ℕ)) (sized : Bool) → bytes ≡ take 16777217 d
     → ReportsWhole bytes name a b sized
     → ReportsWhole d name a b sized
 whole_read d bytes name a b sized is wrote = record {
-  long = λ long. wrote.long (rw is ((shows_length d).0 long));
+  long = λ long. wrote.long (rw is (omega (arith, length-take 16777217 d, long)));
   whole = λ short.
-      let same : bytes ≡ d = is ∙ (shows_length d).1 short in
+      let same : bytes ≡ d = is ∙ take_all 16777217 d (omega (arith, short)) in
       subst (λ x. ReportsSpans x name a b sized) same (wrote.whole (rw same short));
 }
 
@@ -140,18 +89,16 @@ behind_read (Err e) bytes name a b sized is wrote = absurd is
 -- a line alone has no spans below it
 line_alone : (name : List ℕ) (a b : Option (List ℕ)) (sized : Bool) → AppendsLine name a b sized
     → AppendsLines name a b sized
-line_alone name a b sized wrote = (b, [], wrote, wrote_none b)
+line_alone name a b sized wrote = (b, [], wrote, Appends-nil b)
 
 -- such lines are a line of the name and lines of spans
-long_lines : (name : List ℕ) (a b : Option (List ℕ)) (sized : Bool) → IsTooLong name a b sized
-    → AppendsLines name a b sized
-long_lines name a b true wrote = absurd (cc)
-long_lines name a b false wrote = (b, [], (codes "file is longer than 16777216 bytes", refl, wrote.text), wrote_none b)
+refused_lines : (name text : List ℕ) (a b : Option (List ℕ)) (sized : Bool) → IsOneLine text
+    → Appends a b (refused_line name text) → sized ≡ false → AppendsLines name a b sized
+refused_lines name text a b sized plain wrote refused = rw refused (b, [], (text, plain, wrote), Appends-nil b)
 
 lacking_lines : (name : List ℕ) (a b : Option (List ℕ)) (sized : Bool) → LacksMemory name a b sized
     → AppendsLines name a b sized
-lacking_lines name a b true wrote = absurd (cc)
-lacking_lines name a b false wrote = (b, [], (codes "Out of memory", refl, wrote.text), wrote_none b)
+lacking_lines name a b sized lacks = refused_lines name (codes "Out of memory") a b sized refl lacks.text lacks.refused
 
 -- what was appended whole was appended in two parts
 appended_apart : (a c : Option (List ℕ)) (first second : List ℕ) → Appends a c (first ++ second) →
@@ -166,13 +113,11 @@ answered_lines : (name : List ℕ) (found : Option ImageType) (r : Result ImageS
     IsSomeAnd (option_map (λ text. text ++ span_lines spans) (answer_line name found r)) (Appends a b) → sized ≡ is_ok r
     →
     AppendsLines name a b sized
-answered_lines name (Some image) (Ok size) spans a b true wrote _ =
+answered_lines name (Some image) (Ok size) spans a b sized wrote is =
     let (mid, first, second) = appended_apart a b (sized_line name image size) (span_lines spans) wrote in
-    (mid, spans, (image, size, first), second)
-answered_lines name (Some image) (Ok size) spans a b false wrote is = absurd (cc)
+    rw is (mid, spans, (image, size, first), second)
 answered_lines name None (Ok size) spans a b sized wrote is = absurd wrote
-answered_lines name found (Err e) spans a b true wrote is = absurd (cc)
-answered_lines name found (Err e) spans a b false wrote is = refused (error_text e) (plain_error e) wrote
+answered_lines name found (Err e) spans a b sized wrote is = rw is (refused (error_text e) (plain_error e) wrote)
   where
     refused : (text : Option (List ℕ)) → IfSome text IsOneLine →
         IsSomeAnd (option_map (λ text. text ++ span_lines spans) (option_map (refused_line name) text)) (Appends a b) →
@@ -192,7 +137,8 @@ traced_lines d name a b sized (inr (_, lacks)) = lacking_lines name a b sized la
 whole_lines : (d name : List ℕ) (a b : Option (List ℕ)) (sized : Bool) → ReportsWhole d name a b sized
     → AppendsLines name a b sized
 whole_lines d name a b sized wrote =
-    ⊎_elim (λ long. long_lines name a b sized (wrote.long long))
+    ⊎_elim (λ long. let is = wrote.long long in
+    refused_lines name (codes "file is longer than 16777216 bytes") a b sized refl is.text is.refused)
     (λ short. traced_lines d name a b sized (wrote.whole short))
     (cases_lt whole_length (length d))
 
@@ -218,15 +164,9 @@ refused_spans : (found : Result (List ℕ) ImageError) (name : List ℕ) (e : Im
     (found ≡ Err e) ⊎ (e ≡ IoError Memory) → IfSome (error_text e) (λ text. Appends a b (refused_line name text)) →
     AppendsLine name a b sized → sized ≡ false → SpansBehind name found a b sized
 refused_spans found name e a b sized (inl is) wrote line none =
-    subst (λ x. SpansBehind name x a b sized) (sym is) (inl (record {
-      text = wrote;
-      line = subst (λ x. AppendsLine name a b x) none line;
-      refused = none;
-    }))
-refused_spans found name e a b sized (inr is) wrote line none = lacks_behind found name a b sized (record {
-  text = subst (λ x. IfSome (error_text x) (λ text. Appends a b (refused_line name text))) is wrote;
-  refused = none;
-})
+    rw is (inl (record { text = wrote; line = subst (AppendsLine name a b) none line; refused = none }))
+refused_spans found name e a b sized (inr is) wrote line none =
+    lacks_behind found name a b sized (record { text = rw is at wrote; refused = none })
 
 -- the line of why nothing was read of a name
 pub spans_refused : (known : Option Files) (name : List ℕ) (e : ImageError) (a b : Option (List ℕ))
@@ -240,21 +180,17 @@ spans_refused (Some files) name e a b (Ok sized) none wrote line is = record {
   told = refused_spans (files name) name e a b sized none wrote line is;
 }
 
--- without the option the lines are exactly those of the names, where it is told what is behind them
-plain_lines : (files : Files) (spans : Bool) (names : List (List ℕ)) (old new : Option (List ℕ)) (refused : Bool)
-    → spans ≡ false →
-    WritesEach (WritesOne spans (Some files)) names old new refused → WritesLines files names old new refused
-plain_lines files false names old new refused _ wrote = lines_written files names old new refused wrote
-plain_lines files true names old new refused plain _ = absurd (cc)
-
--- and the status is by those that are refused
+-- Without the option the lines are exactly those of the names, where it is told what is behind them.
+-- The status is by those that are refused.
 pub plain_run : (files : Files) (arguments : List (List ℕ)) (old new : Option (List ℕ)) (r : Result ℕ Error) →
     IfOk r (RunsWith (Some files) arguments old new) → IfOk r (λ status. wants_spans arguments ≡ false →
     IfSome (lines_of files (names_in arguments)) (Appends old new)
     × (status ≡ exit_status (length (names_in arguments)) (is_any_refused files (names_in arguments))))
 plain_run files arguments old new (Err e) _ = tt
 plain_run files arguments old new (Ok status) ran = λ plain.
-    let lines = plain_lines files (wants_spans arguments) (names_in arguments) old new ran.refused plain ran.lines in
+    let each = subst (λ spans. WritesEach (WritesOne spans (Some files)) (names_in arguments) old new ran.refused) plain
+    ran.lines in
+    let lines = lines_written files (names_in arguments) old new ran.refused each in
     (lines.0, ran.ends ∙ ap (exit_status (length (names_in arguments))) lines.1)
 
 -- why a name was not opened is what is known of its file

@@ -13,7 +13,7 @@ mod report;
 mod run;
 
 use imagesize::{ImageError, ImageResult, Reason};
-use imagesize_io::FileReader;
+use imagesize_io::{Block, FileReader};
 use imagesize_io::file::length_of;
 use run::{Open, WHOLE, exit_code, run};
 use std::io::{self, BufWriter, ErrorKind, Printer, Read};
@@ -36,7 +36,7 @@ fn run_arguments(rt: &HostRuntime) -> io::Result<u8> {
     run(
         rt.alloc(),
         &arguments,
-        &mut Disk { rt },
+        &mut Disk { rt, block: None },
         &mut output,
         &mut rt.stderr(),
     )
@@ -66,6 +66,8 @@ fn or_memory<T, E: Drop>(made: Result<T, E>) -> ImageResult<T>
 #[derive(Drop)]
 struct Disk<'a, R> {
     rt: &'a R,
+    // The block of the last file, for the next one. It saves an allocation and 4 KiB of zeroes for each.
+    block: Option<Block>,
 }
 
 impl<R: Files + AllocGlobal> Open for Disk<'_, R> {
@@ -80,7 +82,16 @@ impl<R: Files + AllocGlobal> Open for Disk<'_, R> {
     {
         let file = fs::open(self.rt, name)?;
         let length = length_of(&file);
-        or_memory(FileReader::new(self.rt.alloc(), file, length))
+        match self.block.take() {
+            Some(block) => Ok(FileReader::over(block, file, length)),
+            None => or_memory(FileReader::new(self.rt.alloc(), file, length)),
+        }
+    }
+
+    fn close(&mut self, reader: FileReader<R::File>)
+        ensures { ◌≡◌ {A = Option Files} None None }
+    {
+        self.block = Some(reader.into_block());
     }
 
     fn load(&mut self, name: &str) -> ImageResult<Vec<u8>>

@@ -25,6 +25,12 @@ pub trait Open {
         ensures opens { OpensTo Self.Reader.telling (known self.old) name.now result }
         ensures keeps { known self.new ≡ known self.old };
 
+    /// Takes back a reader whose line is written. What it holds may serve the next one.
+    fn close(&mut self, _reader: Self::Reader)
+        ensures keeps { known self.new ≡ known self.old }
+    {
+    }
+
     /// The bytes for a name, at most one more than the greatest number whose spans are shown.
     fn load(&mut self, name: &str) -> ImageResult<Vec<u8>>
         ensures loads { IfOk result (λ bytes. Loads (known self.old) name.now bytes.items) }
@@ -118,7 +124,11 @@ fn write_line<O: Open, W: Write>(name: &str, opener: &mut O, output: &mut W) -> 
     ensures keeps { O.known opener.new ≡ O.known opener.old }
 {
     match opener.open(name) {
-        Ok(reader) => report(name, reader, output),
+        Ok(mut reader) => {
+            let sized = report(name, &mut reader, output);
+            opener.close(reader);
+            sized
+        }
         Err(error) => write_refusal(name, &error, output),
     }
 }

@@ -176,17 +176,22 @@ fn an_offset_behind_in_the_block_is_reached_with_no_call(rt: HostRuntime) -> Res
 
 #[test]
 fn a_block_is_small_at_the_start_and_after_a_seek(rt: HostRuntime) -> Result<(), Fail> {
-    let bytes = Vec::from_elem(rt.alloc(), 7u8, 40_000)?;
+    let bytes = Vec::from_elem(rt.alloc(), 7u8, 60_000)?;
     let inner = Cursor::new(bytes.as_slice());
-    let mut reader = FileReader::new(rt.alloc(), inner, Some(40_000))?;
-    assert!(rt; matches!(reader.read_told(&mut [0u8; 1]), Ok(1)));
-    assert_eq!(rt; reader.held().len(), 4095);
-    assert_eq!(rt; reader.seek_told(SeekFrom::Start(4096))?, 4096);
-    assert!(rt; matches!(reader.read_told(&mut [0u8; 1]), Ok(1)));
-    assert_eq!(rt; reader.held().len(), 8191);
-    assert_eq!(rt; reader.seek_told(SeekFrom::Start(20_000))?, 20_000);
-    assert!(rt; matches!(reader.read_told(&mut [0u8; 1]), Ok(1)));
-    assert_eq!(rt; reader.held().len(), 4095);
+    let mut reader = FileReader::new(rt.alloc(), inner, Some(60_000))?;
+    // The offset of each block, and how many bytes it has.
+    let blocks = [
+        (0u64, 4096usize),
+        (4096, 8192),
+        (12_288, 8192),
+        (50_000, 4096),
+        (54_096, 5904),
+    ];
+    for (offset, length) in blocks {
+        assert_eq!(rt; reader.seek_told(SeekFrom::Start(offset))?, offset);
+        assert!(rt; matches!(reader.read_told(&mut [0u8; 1]), Ok(1)));
+        assert_eq!(rt; reader.held().len(), length - 1);
+    }
     Ok(())
 }
 

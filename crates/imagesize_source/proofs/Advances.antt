@@ -1,12 +1,9 @@
 -- How a chain is seen to advance: by the layouts of its records.
-use Rattle.std.proofs.Common.{◌≡◌, ℕ, ◌<◌, ◌≤◌, List, [], ◌∷◌, length, Result, Ok, Err, refl, sym, ap, ◌∙◌, subst, arith}
-use Rattle.imagesize_source.specs.declared.halt.Halt.{Halt}
-use Rattle.imagesize_source.specs.declared.span.Span.{Span}
+use Rattle.std.proofs.Common.{◌≡◌, ℕ, ◌<◌, ◌≤◌, List, [], ◌∷◌, length, Ok, refl, sym, ap, ◌∙◌, subst, arith}
 use Rattle.imagesize_source.specs.Chain.{Said, Decided, Next, Chain, Advances}
-use Rattle.imagesize_source.specs.Input.{span_of}
 use Rattle.imagesize_source.specs.Layout.{Layout, done, refuse, field, reading, begin_record, layout_reads}
-use Rattle.imagesize_source.specs.Reading.{Reads, Reading, AllOf, PartOf, TextOf, go_on, number_at, read_of}
-use Rattle.imagesize_source.proofs.Extension.{bytes_ok, number_ok}
+use Rattle.imagesize_source.specs.Reading.{Reading, AllOf, PartOf, TextOf, number_at, read_of}
+use Rattle.imagesize_source.proofs.Extension.{bytes_ok, number_ok, onward_ok}
 use Rattle.imagesize_source.proofs.Runs.{part_is}
 use Rattle.imagesize_source.proofs.Counts.{text_length}
 use Rattle.imagesize_source.proofs.Parts.{part_length}
@@ -35,23 +32,13 @@ Begins q (field order offset k f) = (q ≤ offset) × (0 < k)
 Begins q (reading r offset f) = (q ≤ offset) × OrSome r (Tells (λ _. ⊥) (f []))
 Begins q (begin_record t) = Begins q t
 
-onward_tells : {C X Y : Type 0} (P : Type 0) (spans : List Span) (r : Result Y Halt) (f : Y → Reads (Said C X))
-    (s : Said C X)
-    → (go_on spans r f).answer ≡ Ok s → ((y : Y) → r ≡ Ok y → (f y).answer ≡ Ok s → P) → P
-onward_tells P spans (Ok y) f s is each = each y refl is
-onward_tells P spans (Err e) f s is each = absurd cc
-
 pub tells : {C X : Type 0} (P : ℕ → Type 0) (d : List ℕ) (t : Layout (Said C X)) (v : C) (q : ℕ) → Tells P t
     → (layout_reads d t).answer ≡ Ok (Next v q) → P q
 tells P d (done (Decided x)) v q h is = absurd cc
 tells P d (done (Next w offset)) v q h is = let same : offset ≡ q = cc in subst P same h
 tells P d (refuse e) v q h is = absurd cc
-tells P d (field order offset k f) v q h is =
-    onward_tells (P q) (span_of d offset k) (number_at d order offset k) (λ n. layout_reads d (f n))
-    (Next v q) is (λ n _ got. tells P d (f n) v q (h n) got)
-tells P d (reading r offset f) v q h is =
-    onward_tells (P q) (read_of d r offset).marks (read_of d r offset).answer (λ bs. layout_reads d (f bs))
-    (Next v q) is (λ bs _ got. tells P d (f bs) v q (h bs) got)
+tells P d (field order offset k f) v q h is = onward_ok (P q) _ _ _ (Next v q) is (λ n _ got. tells P d (f n) v q (h n) got)
+tells P d (reading r offset f) v q h is = onward_ok (P q) _ _ _ (Next v q) is (λ bs _ got. tells P d (f bs) v q (h bs) got)
 tells P d (begin_record t) v q h is = tells P d t v q h is
 
 -- where a reading gives a byte, there was one
@@ -66,20 +53,15 @@ some_byte d (TextOf t k) offset (b ∷ bs) h none is =
 
 -- where a layout tells a next offset, there was a byte
 begins : {C X : Type 0} (d : List ℕ) (t : Layout (Said C X)) (v : C) (q p : ℕ) → Begins q t
-    → (layout_reads d t).answer ≡ Ok (Next v p)
-    → q < length d
+    → (layout_reads d t).answer ≡ Ok (Next v p) → q < length d
 begins d (done (Decided x)) v q p h is = absurd cc
 begins d (done (Next w offset)) v q p h is = absurd h
 begins d (refuse e) v q p h is = absurd cc
 begins d (field order offset k f) v q p h is =
-    onward_tells (q < length d) (span_of d offset k) (number_at d order offset k)
-    (λ n. layout_reads d (f n)) (Next v p) is
-    (λ n got _. let here = h.0 in let some = h.1 in let all = number_ok d order offset k n got in
-    omega arith)
-begins d (reading r offset f) v q p h is =
-    onward_tells (q < length d) (read_of d r offset).marks (read_of d r offset).answer
-    (λ bs. layout_reads d (f bs)) (Next v p) is
-    (λ bs got told. let below = some_byte d r offset bs h.1 (λ none nothing. tells (λ _. ⊥) d (f []) v p nothing
+    onward_ok (q < length d) _ (number_at d order offset k) _ (Next v p) is
+    (λ n got _. omega (arith, h.0, h.1, number_ok d order offset k n got))
+begins d (reading r offset f) v q p h is = onward_ok (q < length d) _ _ _ (Next v p) is (λ bs got told.
+    let below = some_byte d r offset bs h.1 (λ none nothing. tells (λ _. ⊥) d (f []) v p nothing
     (sym (ap (λ bs. (layout_reads d (f bs)).answer) none) ∙ told)) got in omega (arith, h.0))
 begins d (begin_record t) v q p h is = begins d t v q p h is
 

@@ -3,10 +3,9 @@ use Rattle.std.proofs.Common.{◌≡◌, ℕ, ◌+◌, ◌-◌, ◌≤◌, List,
 use Rattle.imagesize_source.specs.Counts.{AtMost, CostsBy, IfBytes, IfRefused}
 use Rattle.imagesize_source.specs.declared.halt.Halt.{Halt}
 use Rattle.imagesize_source.specs.declared.span.Span.{Span}
-use Rattle.imagesize_source.specs.Input.{span_of}
 use Rattle.imagesize_source.specs.Layout.{Layout, layout_reads, bind}
 use Rattle.imagesize_source.specs.Layout.Layout.{«done», refuse, field, reading, begin_record}
-use Rattle.imagesize_source.specs.Reading.{Reads, Reading, AllOf, PartOf, TextOf, go_on, number_at, read_of, most}
+use Rattle.imagesize_source.specs.Reading.{Reads, Reading, AllOf, PartOf, TextOf, go_on, read_of, most}
 use Rattle.imagesize_source.specs.State.{total}
 use Rattle.imagesize_source.proofs.Counts.{of_bytes, total-span_of, total_reading}
 use Rattle.imagesize_source.proofs.Runs.{total-append}
@@ -16,17 +15,12 @@ abbrev pub bound_of : {X : Type 0} → (X → ℕ) → ℕ → Result X Halt →
 bound_of f e (Ok x) = f x
 bound_of f e (Err _) = e
 
--- what is owed of a reading, one by one
-refused : (P Q : Type 0) {e : Halt} (d : List ℕ) (r : Reading) (offset : ℕ) → IfRefused r P Q
-    → (read_of d r offset).answer ≡ Err e → P
-refused P Q d (AllOf k) offset h is = h.0
-refused P Q d (PartOf k) offset h is = absurd cc
-refused P Q d (TextOf t k) offset h is = absurd cc
-
-otherwise : (P Q : Type 0) (r : Reading) → IfRefused r P Q → Q
-otherwise P Q (AllOf k) h = h.1
-otherwise P Q (PartOf k) h = h
-otherwise P Q (TextOf t k) h = absurd h
+-- what is owed of a reading, where it succeeds and where it is refused
+owed : (P Q : Type 0) (d : List ℕ) (r : Reading) (offset : ℕ) → IfRefused r P Q
+    → Q × ((e : Halt) → (read_of d r offset).answer ≡ Err e → P)
+owed P Q d (AllOf k) offset h = (h.1, λ e is. h.0)
+owed P Q d (PartOf k) offset h = (h, λ e is. absurd cc)
+owed P Q d (TextOf t k) offset h = absurd h
 
 -- of less, and of both
 if_refused : {P Q P' Q' : Type 0} (r : Reading) → (P → P') → (Q → Q') → IfRefused r P Q → IfRefused r P' Q'
@@ -47,32 +41,24 @@ onward_costs f e u n spans (Ok x) g few enough next = omega (arith, next x, tota
 onward_costs f e u n spans (Err r) g few enough next = omega (arith, enough r refl)
 
 pub costs : {X : Type 0} (f : X → ℕ) (e u : ℕ) (d : List ℕ) (t : Layout X) → CostsBy f e u t
-    → u + total (layout_reads d t).marks ≤ bound_of f e
-    (layout_reads d t).answer
+    → u + total (layout_reads d t).marks ≤ bound_of f e (layout_reads d t).answer
 costs f e u d (done x) h = omega arith
 costs f e u d (refuse r) h = omega arith
 costs f e u d (field order offset n g) h =
-    onward_costs f e u n (span_of d offset n) (number_at d order offset n) (λ v. layout_reads d (g v))
-    (total-span_of d offset n) (λ _ _. h.0) (λ v. costs f e (u + n) d (g v) (h.1 v))
-costs f e u d (reading r offset g) h = onward_costs f e u (most r) (read_of d r offset).marks (read_of d r offset).answer
-    (λ bs. layout_reads d (g bs)) (total_reading d r offset)
-    (λ x is. refused (u + most r ≤ e) ((bs : List ℕ) → CostsBy f e (u + most r) (g bs))
-    {e = x} d r offset h is) (λ bs. costs f e (u + most r) d (g bs)
-    (otherwise (u + most r ≤ e) ((bs : List ℕ) → CostsBy f e (u + most r) (g bs)) r h bs))
+    onward_costs f e u n _ _ _ (total-span_of d offset n) (λ _ _. h.0) (λ v. costs f e (u + n) d (g v) (h.1 v))
+costs f e u d (reading r offset g) h =
+    let all = owed (u + most r ≤ e) ((bs : List ℕ) → CostsBy f e (u + most r) (g bs)) d r offset h in
+    onward_costs f e u (most r) _ _ _ (total_reading d r offset) all.1 (λ bs. costs f e (u + most r) d (g bs) (all.0 bs))
 costs f e u d (begin_record t) h = costs f e u d t h
 
 -- fewer bytes before cost no more
 pub costs_less : {X : Type 0} (f : X → ℕ) (e u v : ℕ) (t : Layout X) → u ≤ v → CostsBy f e v t → CostsBy f e u t
 costs_less f e u v (done x) le h = omega arith
 costs_less f e u v (refuse r) le h = omega arith
-costs_less f e u v (field order offset n g) le h = let here = h.0 in (
-  omega arith,
-  λ w. costs_less f e (u + n) (v + n) (g w) (omega arith)
-      (h.1 w),
-)
+costs_less f e u v (field order offset n g) le h =
+    (omega (arith, h.0), λ w. costs_less f e (u + n) (v + n) (g w) (omega arith) (h.1 w))
 costs_less f e u v (reading r offset g) le h =
-    if_refused r (λ here. omega arith) (λ rest bs. costs_less f e (u + most r) (v + most r)
-    (g bs) (omega arith) (rest bs)) h
+    if_refused r (λ here. omega arith) (λ rest bs. costs_less f e (u + most r) (v + most r) (g bs) (omega arith) (rest bs)) h
 costs_less f e u v (begin_record t) le h = costs_less f e u v t le h
 
 -- one layout behind another
@@ -80,10 +66,10 @@ pub costs_bind : {X Y : Type 0} (f : Y → ℕ) (e u j : ℕ) (t : Layout X) (g 
     → ((x : X) → CostsBy f e (u + j) (g x)) → CostsBy f e u (bind t g)
 costs_bind f e u j (done x) g few enough next = costs_less f e u (u + j) (g x) (omega arith) (next x)
 costs_bind f e u j (refuse r) g few enough next = omega arith
-costs_bind f e u j (field order offset n h) g few enough next = let here = few.0 in (
-  omega arith,
-  λ v. costs_bind f e (u + n) (j - n) (h v) g (few.1 v) (omega arith) (λ x. costs_less f e (u + n + (j - n)) (u + j)
-      (g x) (omega arith) (next x)),
+costs_bind f e u j (field order offset n h) g few enough next = (
+  omega (arith, few.0),
+  λ v. costs_bind f e (u + n) (j - n) (h v) g (few.1 v) (omega (arith, few.0))
+      (λ x. costs_less f e (u + n + (j - n)) (u + j) (g x) (omega (arith, few.0)) (next x)),
 )
 costs_bind f e u j (reading r offset h) g few enough next =
     let all = of_bytes r few in

@@ -1,10 +1,11 @@
 -- How many bytes are read, and how many offsets are seen.
-use Rattle.std.proofs.Common.{◌≡◌, ℕ, zero, suc, ◌+◌, ◌-◌, ◌*◌, ◌<◌, ◌≤◌, min, max, Bool, true, false, cond, eqb, ◌||◌, List, [], ◌∷◌, length, get_or, Result, Ok, Err, refl, sym, ap, ◌∙◌, arith}
+use Rattle.std.proofs.Common.{◌≡◌, ℕ, zero, suc, ◌+◌, ◌-◌, ◌*◌, ◌<◌, ◌≤◌, min, max, Bool, true, false, cond, ◌||◌, List, [], ◌∷◌, length, get_or, Result, Ok, Err, refl, ap, ◌∙◌, arith}
 use Rattle.std.proofs.Math.Nat.{add-zero, mul-add}
 use Rattle.std.proofs.lemmas.Bool.Decides.{nat_tests}
-use Rattle.std.proofs.lemmas.List.Sums.{sum_by-cons}
+use Rattle.std.proofs.lemmas.List.Sums.{sum_by-cons, sum_by-le-sum_by}
 use Rattle.std.specs.Prelude.{count_by}
 use Rattle.std.specs.List.{range_with_len}
+use Rattle.imagesize_source.proofs.Agreement.{span-some}
 use Rattle.imagesize_source.proofs.Runs.{total-append}
 use Rattle.imagesize_source.proofs.Texts.{front_length}
 use Rattle.imagesize_source.specs.declared.halt.Halt.{Halt}
@@ -14,31 +15,25 @@ use Rattle.imagesize_source.specs.Agreement.{has_offset, is_covered}
 use Rattle.imagesize_source.specs.Counts.{offsets, AtMost, Each, IfBytes}
 use Rattle.imagesize_source.specs.Input.{part, span_at, span_of}
 use Rattle.imagesize_source.specs.Layout.{Layout, done, refuse, field, reading, begin_record, layout_reads, bind}
-use Rattle.imagesize_source.specs.Reading.{Reads, Reading, AllOf, PartOf, TextOf, after_records, and_then, go_on, plus, number_at, text_part, read_of, most}
+use Rattle.imagesize_source.specs.Reading.{Reads, Reading, AllOf, PartOf, TextOf, after_records, and_then, go_on, plus, number_read, text_part, read_of, most}
 use Rattle.imagesize_source.specs.State.{State, state_after, step, total, new_bytes, front_after, place_after, place_by}
 use Rattle.imagesize_source.proofs.Marks.{plus-is}
 use Rattle.imagesize_source.proofs.Parts.{part_length}
 use Rattle.std.proofs.lemmas.Bool.{or_right}
 
-total_unless : (b : Bool) (offset n : ℕ) → (b ≡ true → n ≡ 0)
-    → total (cond b [] (record { start = offset; len = n } ∷ [])) ≡ n
-total_unless true offset n h = sym (h refl)
-total_unless false offset n h = add-zero n
-
 -- a span has no more bytes than were asked for
 pub total-span_at : (offset n : ℕ) → total (span_at offset n) ≡ n
 unfolding span_at
-total-span_at offset n = total_unless (eqb n 0) offset n (λ h. grind (arith, nat_tests))
+total-span_at offset zero = refl
+total-span_at offset (suc n) = ap total (span-some offset (suc n) (omega arith)) ∙ add-zero (suc n)
 
--- a reading has no more bytes than were asked for
-pub total-span_of : (d : List ℕ) (offset k : ℕ) → total (span_of d offset k) ≤ k
-unfolding span_of
-total-span_of d offset k = let n = total-span_at offset (min k (length d - offset)) in omega arith
-
--- it has those of them that are there
+-- a read has the requested bytes that the input has
 pub total_there : (d : List ℕ) (offset k : ℕ) → total (span_of d offset k) ≡ min k (length d - offset)
 unfolding span_of
 total_there d offset k = total-span_at offset (min k (length d - offset))
+
+pub total-span_of : (d : List ℕ) (offset k : ℕ) → total (span_of d offset k) ≤ k
+total-span_of d offset k = omega (arith, total_there d offset k)
 
 pub total_behind : (d : List ℕ) (offset k : ℕ) → total (span_of d offset k) ≤ length d - offset
 total_behind d offset k = omega (arith, total_there d offset k)
@@ -52,53 +47,15 @@ text_length d t offset k = front_length t (part d offset k)
 pub total_reading : (d : List ℕ) (r : Reading) (offset : ℕ) → total (read_of d r offset).marks ≤ most r
 total_reading d (AllOf k) offset = total-span_of d offset k
 total_reading d (PartOf k) offset = total-span_of d offset k
-total_reading d (TextOf t k) offset = omega (
-  arith,
-  total-span_at offset (length (text_part d t offset k)),
-  text_length d t offset k,
-  part_length d offset k,
-)
+total_reading d (TextOf t k) offset =
+    let few = text_length d t offset k in
+    omega (arith, total-span_at offset (length (text_part d t offset k)), part_length d offset k)
 
 -- what is owed of a reading of bytes
 pub of_bytes : {P : Type 0} (r : Reading) → IfBytes r P → P
 of_bytes (AllOf k) h = h
 of_bytes (PartOf k) h = h
 of_bytes (TextOf t k) h = absurd h
-
-if_bytes : {P Q : Type 0} (r : Reading) → (P → Q) → IfBytes r P → IfBytes r Q
-if_bytes (AllOf k) f h = f h
-if_bytes (PartOf k) f h = f h
-if_bytes (TextOf t k) f h = h
-
-onward_at_most : {X Y : Type 0} (spans : List Span) (r : Result X Halt) (f : X → Reads Y) (n k : ℕ) → total spans ≤ n
-    → n ≤ k
-    → ((x : X) → total (f x).marks ≤ k - n) → total (go_on spans r f).marks ≤ k
-onward_at_most spans (Ok x) f n k here fits rest = let all = total-append spans (f x).marks in let more = rest x in
-    omega arith
-onward_at_most spans (Err e) f n k here fits rest = omega arith
-
--- a layout that asks for at most k bytes reads no more of any input
-pub at_most : {X : Type 0} (d : List ℕ) (k : ℕ) (t : Layout X) → AtMost k t → total (layout_reads d t).marks ≤ k
-at_most d k (done x) h = omega arith
-at_most d k (refuse e) h = omega arith
-at_most d k (field order offset n f) h =
-    onward_at_most (span_of d offset n) (number_at d order offset n) (λ v. layout_reads d (f v)) n k
-    (total-span_of d offset n) h.0 (λ v. at_most d (k - n) (f v) (h.1 v))
-at_most d k (reading r offset f) h =
-    onward_at_most (read_of d r offset).marks (read_of d r offset).answer (λ bs. layout_reads d (f bs)) (most r) k
-    (total_reading d r offset) (of_bytes r h).0 (λ bs. at_most d (k - most r) (f bs) ((of_bytes r h).1 bs))
-at_most d k (begin_record t) h = at_most d k t h
-
-onward_within : {X Y : Type 0} (spans : List Span) (r : Result X Halt) (f : X → Reads Y) (j k : ℕ) → total spans ≤ j
-    → ((x : X) → r ≡ Ok x → total (f x).marks ≤ k) → total (go_on spans r f).marks ≤ j + k
-onward_within spans (Ok x) f j k one two = let all = total-append spans (f x).marks in let more = two x refl in
-    omega arith
-onward_within spans (Err e) f j k one two = omega arith
-
--- readings behind readings are at most as many as both
-pub then_within : {X Y : Type 0} (r : Reads X) (f : X → Reads Y) (j k : ℕ) → total r.marks ≤ j
-    → ((x : X) → r.answer ≡ Ok x → total (f x).marks ≤ k) → total (and_then r f).marks ≤ j + k
-then_within r f j k one two = onward_within r.marks r.answer f j k one two
 
 -- Readings are of at most so many bytes, and `each` for a record that is begun.
 abbrev pub Bounded : {X : Type 0} → ℕ → ℕ → Reads X → Type 0
@@ -120,6 +77,25 @@ pub bounded_then : {X Y : Type 0} (each j k : ℕ) (r : Reads X) (f : X → Read
     → ((x : X) → r.answer ≡ Ok x → Bounded k each (f x)) → Bounded (j + k) each (and_then r f)
 bounded_then each j k r f here rest = onward_bounded each j k r.begun r.marks r.answer f here rest
 
+-- readings behind readings are at most as many as both
+pub then_within : {X Y : Type 0} (r : Reads X) (f : X → Reads Y) (j k : ℕ) → total r.marks ≤ j
+    → ((x : X) → r.answer ≡ Ok x → total (f x).marks ≤ k) → total (and_then r f).marks ≤ j + k
+then_within r f j k one two = omega (arith, bounded_then 0 j k r f (omega arith) (λ x is. omega (arith, two x is)))
+
+-- a layout that asks for at most k bytes reads no more of any input
+pub at_most : {X : Type 0} (d : List ℕ) (k : ℕ) (t : Layout X) → AtMost k t → total (layout_reads d t).marks ≤ k
+at_most d k (done x) h = omega arith
+at_most d k (refuse e) h = omega arith
+at_most d k (field order offset n f) h =
+    let all = then_within (number_read d order offset n) (λ v. layout_reads d (f v)) n (k - n) (total-span_of d offset n)
+    (λ v is. at_most d (k - n) (f v) (h.1 v)) in
+    omega (arith, h.0)
+at_most d k (reading r offset f) h =
+    let all = then_within (read_of d r offset) (λ bs. layout_reads d (f bs)) (most r) (k - most r) (total_reading d r offset)
+    (λ bs is. at_most d (k - most r) (f bs) ((of_bytes r h).1 bs)) in
+    omega (arith, (of_bytes r h).0)
+at_most d k (begin_record t) h = at_most d k t h
+
 -- a layout that asks for at most so many bytes
 pub bounded_layout : {X : Type 0} (each k : ℕ) (d : List ℕ) (t : Layout X) → AtMost k t
     → Bounded k each (layout_reads d t)
@@ -139,107 +115,83 @@ bounded_each each d (reading r offset f) few = bounded_layout each 0 d (reading 
 pub at_most_more : {X : Type 0} (j k : ℕ) (t : Layout X) → j ≤ k → AtMost j t → AtMost k t
 at_most_more j k (done x) le h = tt
 at_most_more j k (refuse e) le h = tt
-at_most_more j k (field order offset n f) le h = let here = h.0 in (
-  omega arith,
-  λ v. at_most_more (j - n) (k - n) (f v) (omega arith)
-      (h.1 v),
-)
-at_most_more j k (reading r offset f) le h = if_bytes r (λ few. let here = few.0 in (
-  omega arith,
-  λ bs. at_most_more (j - most r) (k - most r) (f bs)
-      (omega arith) (few.1 bs),
-)) h
+at_most_more j k (field order offset n f) le h =
+    (omega (arith, h.0), λ v. at_most_more (j - n) (k - n) (f v) (omega arith) (h.1 v))
+at_most_more j k (reading (AllOf n) offset f) le h =
+    (omega (arith, h.0), λ bs. at_most_more (j - n) (k - n) (f bs) (omega arith) (h.1 bs))
+at_most_more j k (reading (PartOf n) offset f) le h =
+    (omega (arith, h.0), λ bs. at_most_more (j - n) (k - n) (f bs) (omega arith) (h.1 bs))
+at_most_more j k (reading (TextOf t n) offset f) le h = absurd h
 at_most_more j k (begin_record t) le h = at_most_more j k t le h
 
 -- a layout behind another asks for as many bytes as both
+bind_within : {X Y : Type 0} (j k m : ℕ) (t : Layout X) (g : X → Layout Y) → j + k ≤ m → AtMost j t
+    → ((x : X) → AtMost k (g x)) → AtMost m (bind t g)
+bind_within j k m (done x) g fits h rest = at_most_more k m (g x) (omega arith) (rest x)
+bind_within j k m (refuse e) g fits h rest = tt
+bind_within j k m (field order offset n f) g fits h rest =
+    (omega (arith, h.0), λ v. bind_within (j - n) k (m - n) (f v) g (omega (arith, h.0)) (h.1 v) rest)
+bind_within j k m (reading (AllOf n) offset f) g fits h rest =
+    (omega (arith, h.0), λ bs. bind_within (j - n) k (m - n) (f bs) g (omega (arith, h.0)) (h.1 bs) rest)
+bind_within j k m (reading (PartOf n) offset f) g fits h rest =
+    (omega (arith, h.0), λ bs. bind_within (j - n) k (m - n) (f bs) g (omega (arith, h.0)) (h.1 bs) rest)
+bind_within j k m (reading (TextOf t n) offset f) g fits h rest = absurd h
+bind_within j k m (begin_record t) g fits h rest = bind_within j k m t g fits h rest
+
 pub at_most_bind : {X Y : Type 0} (j k : ℕ) (t : Layout X) (g : X → Layout Y) → AtMost j t → ((x : X) → AtMost k (g x))
     → AtMost (j + k) (bind t g)
-at_most_bind j k (done x) g h rest = at_most_more k (j + k) (g x) (omega arith) (rest x)
-at_most_bind j k (refuse e) g h rest = tt
-at_most_bind j k (field order offset n f) g h rest = let here = h.0 in (
-  omega arith,
-  λ v. at_most_more (j - n + k) (j + k - n) (bind (f v) g) (omega arith)
-      (at_most_bind (j - n) k (f v) g (h.1 v) rest),
-)
-at_most_bind j k (reading r offset f) g h rest = if_bytes r (λ few. let here = few.0 in (
-  omega arith,
-  λ bs. at_most_more (j - most r + k) (j + k - most r)
-      (bind (f bs) g) (omega arith) (at_most_bind (j - most r) k (f bs) g (few.1 bs) rest),
-)) h
-at_most_bind j k (begin_record t) g h rest = at_most_bind j k t g h rest
+at_most_bind j k t g h rest = bind_within j k (j + k) t g (omega arith) h rest
 
 pub count-cons : (p : ℕ → Bool) (x : ℕ) (xs : List ℕ) → count_by p (x ∷ xs) ≡ cond (p x) 1 0 + count_by p xs
 count-cons p x xs = sum_by-cons (λ y. cond (p y) 1 0) x xs
 
 tests_or : (b c : Bool) → cond (b || c) 1 0 ≤ cond b 1 0 + cond c 1 0
-tests_or true c = omega arith
-tests_or false c = omega arith
+tests_or b c = grind arith
 
 count_or : (p q : ℕ → Bool) (xs : List ℕ) → count_by (λ x. p x || q x) xs ≤ count_by p xs + count_by q xs
 count_or p q [] = omega arith
 count_or p q (x ∷ xs) =
-    let one = count-cons (λ y. p y || q y) x xs in let left = count-cons p x xs in let right = count-cons q x xs in
-    let rest = count_or p q xs in let here = tests_or (p x) (q x) in omega arith
+    omega (arith, count-cons (λ y. p y || q y) x xs, count-cons p x xs, count-cons q x xs, count_or p q xs, tests_or (p x) (q x))
 
 pub tests_fewer : (b c : Bool) → (b ≡ true → c ≡ true) → cond b 1 0 ≤ cond c 1 0
-tests_fewer true true h = omega arith
-tests_fewer true false h = absurd (let no : false ≡ true = h refl in cc)
-tests_fewer false c h = omega arith
+tests_fewer b c h = grind arith
 
 -- what fewer offsets have is counted no more often
 pub count_fewer : (p q : ℕ → Bool) (xs : List ℕ) → ((x : ℕ) → p x ≡ true → q x ≡ true) → count_by p xs ≤ count_by q xs
-count_fewer p q [] h = omega arith
-count_fewer p q (x ∷ xs) h =
-    let left = count-cons p x xs in let right = count-cons q x xs in
-    let rest = count_fewer p q xs h in let here = tests_fewer (p x) (q x) (h x) in omega arith
+count_fewer p q xs h =
+    sum_by-le-sum_by (λ x. cond (p x) 1 0) (λ x. cond (q x) 1 0) xs (λ x. tests_fewer (p x) (q x) (h x))
 
 count_span : (s : Span) (a n : ℕ) → count_by (has_offset s) (range_with_len a n) ≤ (s.start + s.len) - max a s.start
 count_span s a zero = omega arith
 count_span s a (suc n) =
-    let one = count-cons (has_offset s) a (range_with_len (a + 1) n) in
-    let rest = count_span s (a + 1) n in
-    let here : cond (has_offset s a) 1 0 + ((s.start + s.len) - max (a + 1) s.start) ≤
-    (s.start + s.len) - max a s.start =
+    let here : cond (has_offset s a) 1 0 + ((s.start + s.len) - max (a + 1) s.start) ≤ (s.start + s.len) - max a s.start =
     grind (arith, nat_tests) in
-    omega arith
-
--- spans that have no offset which others have not have no more offsets
-pub offsets_fewer : (n : ℕ) (s t : List Span) → ((offset : ℕ) → is_covered s offset ≡ true → is_covered t offset ≡ true)
-    → offsets n s ≤ offsets n t
-offsets_fewer n s t h = count_fewer (is_covered s) (is_covered t) (range_with_len 0 n) h
+    omega (arith, count-cons (has_offset s) a (range_with_len (a + 1) n), count_span s (a + 1) n)
 
 -- one more span has no more offsets than it is long
-pub offsets_more : (n : ℕ) (s : Span) (spans : List Span) → offsets n (s ∷ spans) ≤ s.len + offsets n spans
+offsets_more : (n : ℕ) (s : Span) (spans : List Span) → offsets n (s ∷ spans) ≤ s.len + offsets n spans
 offsets_more n s spans =
-    let both = count_or (has_offset s) (is_covered spans) (range_with_len 0 n) in
-    let here = count_span s 0 n in omega arith
+    omega (arith, count_or (has_offset s) (is_covered spans) (range_with_len 0 n), count_span s 0 n)
 
 -- the spans have no more offsets than they are long
-pub offsets_total : (n : ℕ) (spans : List Span) → offsets n spans ≤ total spans
-offsets_total n [] = let none = count_fewer (λ _. false) (has_offset (record { start = 0; len = 0 })) (range_with_len 0 n)
-    (λ x h. absurd cc) in let empty = count_span (record { start = 0; len = 0 }) 0 n in omega arith
-offsets_total n (s ∷ spans) = let here = offsets_more n s spans in let rest = offsets_total n spans in omega arith
+offsets_total : (n : ℕ) (spans : List Span) → offsets n spans ≤ total spans
+offsets_total n [] =
+    let none = count_fewer (λ _. false) (has_offset (record { start = 0; len = 0 })) (range_with_len 0 n) (λ x h. absurd cc) in
+    omega (arith, count_span (record { start = 0; len = 0 }) 0 n)
+offsets_total n (s ∷ spans) = omega (arith, offsets_more n s spans, offsets_total n spans)
 
 -- the span of the first bytes that a source holds
-abbrev pub front_span : State → Span
+abbrev front_span : State → Span
 front_span a = record { start = 0; len = a.front }
 
 -- one reading covers no offset that the front afterwards and the bytes that it took do not cover
-step_covers : (front offset n at : ℕ) → has_offset (record { start = 0; len = front }) at || has_offset
-    (record { start = offset; len = n }) at ≡ true
+step_covers : (front offset n at : ℕ) (rest : Bool)
+    → has_offset (record { start = 0; len = front }) at || (has_offset (record { start = offset; len = n }) at || rest) ≡ true
     → has_offset (record {
       start = max (front_after front offset n) offset;
       len = new_bytes front offset n - (front_after front offset n - front);
-    }) at || has_offset (record { start = 0; len = front_after front offset n }) at ≡ true
-step_covers front offset n at h = grind (arith, nat_tests)
-
-joined : (b c rest b' c' : Bool) → (b || c ≡ true → b' || c' ≡ true) → b || (c || rest) ≡ true
-    → b' || (c' || rest) ≡ true
-joined b c rest true c' h is = refl
-joined b c rest false true h is = refl
-joined true c rest false false h is = absurd (let no : false ≡ true = h refl in cc)
-joined false true rest false false h is = absurd (let no : false ≡ true = h refl in cc)
-joined false false rest false false h is = is
+    }) at || (has_offset (record { start = 0; len = front_after front offset n }) at || rest) ≡ true
+step_covers front offset n at rest h = grind (arith, nat_tests)
 
 -- what one reading adds to the offsets and to the bytes taken
 step_covers_all : (n : ℕ) (a : State) (s : Span) (spans : List Span) → a.frame.counts ≡ true
@@ -250,24 +202,20 @@ step_covers_all n a s spans counts =
     let m : ℕ = new_bytes a.front s.start s.len in
     let more : Span = record { start = max w s.start; len = m - (w - a.front) } in
     let after : Span = record { start = 0; len = w } in
-    let fewer : offsets n (front_span a ∷ s ∷ spans) ≤ offsets n (more ∷ after ∷ spans) =
-    offsets_fewer n (front_span a ∷ s ∷ spans) (more ∷ after ∷ spans)
-    (λ at h. joined (has_offset (front_span a) at) (has_offset s at) (is_covered spans at) (has_offset more at)
-    (has_offset after at)
-    (step_covers a.front s.start s.len at) h) in
+    let fewer = count_fewer (is_covered (front_span a ∷ s ∷ spans)) (is_covered (more ∷ after ∷ spans)) (range_with_len 0 n)
+    (λ at h. step_covers a.front s.start s.len at (is_covered spans at) h) in
     let one = offsets_more n more (after ∷ spans) in
     let grows : w - a.front ≤ m = grind (arith, nat_tests) in
     let above : a.front ≤ w = grind (arith, nat_tests) in
     rw counts (omega arith)
 
 -- what the front or the spans cover was taken
-pub covers_past : (n : ℕ) (a : State) (spans : List Span) → a.frame.counts ≡ true
+covers_past : (n : ℕ) (a : State) (spans : List Span) → a.frame.counts ≡ true
     → offsets n (front_span a ∷ spans) + a.taken
     ≤ (state_after a spans).taken + a.front
 unfolding state_after
-covers_past n a [] counts = let front = offsets_total n (front_span a ∷ []) in omega arith
-covers_past n a (s ∷ spans) counts =
-    let here = step_covers_all n a s spans counts in let rest = covers_past n (step a s) spans counts in omega arith
+covers_past n a [] counts = omega (arith, offsets_total n (front_span a ∷ []))
+covers_past n a (s ∷ spans) counts = omega (arith, step_covers_all n a s spans counts, covers_past n (step a s) spans counts)
 
 -- the place of a source that counts is that of the spans
 pub place_past : (a : State) (spans : List Span) → a.frame.counts ≡ true
@@ -293,7 +241,6 @@ pub offsets_past : (n : ℕ) (a : State) (spans : List Span) → a.frame.counts 
     → offsets n spans + a.taken
     ≤ (state_after a spans).taken
 offsets_past n a spans counts none =
-    let all = covers_past n a spans counts in
-    let fewer = offsets_fewer n spans (front_span a ∷ spans)
+    let fewer = count_fewer (is_covered spans) (is_covered (front_span a ∷ spans)) (range_with_len 0 n)
     (λ at h. or_right (has_offset (front_span a) at) (is_covered spans at) h) in
-    omega arith
+    omega (arith, covers_past n a spans counts)

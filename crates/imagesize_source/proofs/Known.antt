@@ -1,10 +1,11 @@
 -- Which bytes parts know.
-use Rattle.std.proofs.lemmas.Bool.{cases_lt}
-use Rattle.std.proofs.Common.{◌≡◌, ℕ, zero, suc, ◌+◌, ◌-◌, ◌<◌, ◌≤◌, Bool, true, false, ◌||◌, cond, leb, List, [], ◌∷◌, ◌++◌, length, drop, get_or, slice_index, None, Some, is_some, refl, sym, ap, ◌∙◌, subst, arith, min, take, ◌⊎◌, inl, inr}
+use Rattle.std.proofs.lemmas.Bool.{cases_Bool, cond_both}
+use Rattle.std.proofs.Common.{◌≡◌, ℕ, ◌+◌, ◌-◌, ◌<◌, ◌≤◌, true, false, ◌||◌, List, [], ◌∷◌, ◌++◌, length, drop, get_or, slice_index, Option, Some, is_some, refl, sym, ap, ◌∙◌, subst, arith, min, take, inl, inr}
 use Rattle.std.specs.Prelude.{unwrap_or}
 use Rattle.std.proofs.lemmas.Bool.Decides.{nat_tests}
-use Rattle.std.proofs.lemmas.List.{length-append, take_all, length-drop, drop_all}
+use Rattle.std.proofs.lemmas.List.{length-append, take_all, length-drop, drop_min, get_or_append_left}
 use Rattle.std.proofs.lemmas.List.FromFn.{length-map-range_with_len, get_or-map-range_with_len}
+use Rattle.std.proofs.Math.Bool.{or-false, or_assoc}
 use Rattle.std.proofs.Math.Seq.{drop-append_seam}
 use Rattle.imagesize_source.specs.declared.span.Span.{Span}
 use Rattle.imagesize_source.specs.Agreement.{is_covered, has_offset}
@@ -27,116 +28,73 @@ filled_at n spans bytes offset below =
 reaches_below : (n : ℕ) (s : Span) (offset : ℕ) → reaches n s offset ≡ true → offset < n
 reaches_below n s offset is = grind (arith, nat_tests)
 
+-- the byte comes from the first part, or from the later ones
+in_parts : (P : Option ℕ → Type 0) (n : ℕ) (s : Span) (spans : List Span) (bytes : List ℕ) (offset : ℕ)
+    → (reaches n s offset ≡ true → P (byte_of bytes (offset - s.start)))
+    → (reaches n s offset ≡ false → P (byte_in_parts n spans (drop (length_within n s) bytes) offset))
+    → P (byte_in_parts n (s ∷ spans) bytes offset)
+in_parts P n s spans bytes offset = cond_both (reaches n s offset) _ _ P
+
 pub known_below : (n : ℕ) (spans : List Span) (bytes : List ℕ) (offset : ℕ)
     → is_some (byte_in_parts n spans bytes offset) ≡ true → offset < n
-known_below n [] bytes offset is = absurd cc
-known_below n (s ∷ spans) bytes offset is =
-    by_test (reaches n s offset) refl (known_below n spans (drop (length_within n s) bytes) offset) is where
-      by_test : (test : Bool) → reaches n s offset ≡ test
-          → (is_some (byte_in_parts n spans (drop (length_within n s) bytes) offset) ≡ true → offset < n)
-          → is_some (cond test (byte_of bytes (offset - s.start))
-          (byte_in_parts n spans (drop (length_within n s) bytes) offset)) ≡ true → offset < n
-      by_test true has later is = reaches_below n s offset has
-      by_test false has later is = later is
-
--- the first bytes are those of the first part
-front_byte : (xs ys : List ℕ) (i : ℕ) → i < length xs → get_or (xs ++ ys) i 0 ≡ get_or xs i 0
-front_byte [] ys i below = absurd (omega (arith, below))
-front_byte (x ∷ xs) ys zero below = refl
-front_byte (x ∷ xs) ys (suc i) below = front_byte xs ys i (omega (arith, below))
+known_below n [] bytes offset = λ is. absurd cc
+known_below n (s ∷ spans) bytes offset =
+    in_parts (λ o. is_some o ≡ true → offset < n) n s spans bytes offset (λ has is. reaches_below n s offset has)
+    (λ misses. known_below n spans (drop (length_within n s) bytes) offset)
 
 offset_in : (n : ℕ) (s : Span) (offset : ℕ) → reaches n s offset ≡ true
     → (s.start + (offset - s.start) ≡ offset) × (offset - s.start < length_within n s)
 offset_in n s offset is = (grind (arith, nat_tests), grind (arith, nat_tests))
 
+-- a list of bytes gives those that are there
 byte_some : (bytes : List ℕ) (i b : ℕ) → byte_of bytes i ≡ Some b → get_or bytes i 0 ≡ b
-byte_some bytes i b is = by_test (leb (suc i) (length bytes)) is where
-  by_test : (test : Bool) → cond test (Some (get_or bytes i 0)) None ≡ Some b → get_or bytes i 0 ≡ b
-  by_test true is = cc
-  by_test false is = absurd cc
+byte_some bytes i b is = grind (arith, nat_tests)
+
+pub byte_there : (bytes : List ℕ) (i : ℕ) → i < length bytes → byte_of bytes i ≡ Some (get_or bytes i 0)
+byte_there bytes i below = grind (arith, nat_tests)
+
+-- the bytes of the later parts
+later_bytes : (d : List ℕ) (s : Span) (spans : List Span) (bytes : List ℕ) → bytes_of d (s ∷ spans) ≡ bytes
+    → bytes_of d spans ≡ drop (length_within (length d) s) bytes
+later_bytes d s spans bytes parts =
+    sym (drop-append_seam (part d s.start s.len) (bytes_of d spans))
+    ∙ ap (λ k. drop k (part d s.start s.len ++ bytes_of d spans)) (part_length d s.start s.len)
+    ∙ ap (drop (length_within (length d) s)) parts
 
 -- an input that has the parts has each byte that is known
 pub has_known : (d : List ℕ) (spans : List Span) (bytes : List ℕ) (offset b : ℕ) → bytes_of d spans ≡ bytes
     → byte_in_parts (length d) spans bytes offset ≡ Some b → slice_index d offset ≡ b
-has_known d [] bytes offset b parts is = absurd cc
-has_known d (s ∷ spans) bytes offset b parts is =
-    by_test (reaches (length d) s offset) refl
-    (has_known d spans (drop (length_within (length d) s) bytes) offset b) is where
-      first : List ℕ
-      first = part d s.start s.len
+has_known d [] bytes offset b parts = λ is. absurd cc
+has_known d (s ∷ spans) bytes offset b parts =
+    in_parts (λ o. o ≡ Some b → slice_index d offset ≡ b) (length d) s spans bytes offset (λ has is.
+    let at = offset_in (length d) s offset has in
+    let i : ℕ = offset - s.start in
+    ap (slice_index d) (sym at.0) ∙ sym (part_at d s.start s.len i (omega (arith, at.1)))
+    ∙ sym (get_or_append_left (part d s.start s.len) (bytes_of d spans) 0 i (omega (arith, at.1, part_length d s.start s.len)))
+    ∙ ap (λ bs. get_or bs i 0) parts ∙ byte_some bytes i b is)
+    (λ misses. has_known d spans (drop (length_within (length d) s) bytes) offset b (later_bytes d s spans bytes parts))
 
-      by_test : (test : Bool) → reaches (length d) s offset ≡ test
-          → (bytes_of d spans ≡ drop (length_within (length d) s) bytes
-          → byte_in_parts (length d) spans (drop (length_within (length d) s) bytes) offset ≡ Some b
-          → slice_index d offset ≡ b)
-          → cond test (byte_of bytes (offset - s.start))
-          (byte_in_parts (length d) spans (drop (length_within (length d) s) bytes) offset) ≡ Some b
-          → slice_index d offset ≡ b
-      by_test true has later is =
-          let at = offset_in (length d) s offset has in
-          let below : offset - s.start < length first = omega (arith, at.1, part_length d s.start s.len) in
-          let small : offset - s.start < s.len = omega (arith, at.1) in
-          sym (part_at d s.start s.len (offset - s.start) small ∙ ap (slice_index d) at.0)
-          ∙ sym (front_byte first (bytes_of d spans) (offset - s.start) below)
-          ∙ ap (λ bs. get_or bs (offset - s.start) 0) parts ∙ byte_some bytes (offset - s.start) b is
-      by_test false has later is =
-          let rest : bytes_of d spans ≡ drop (length_within (length d) s) bytes =
-          sym (drop-append_seam first (bytes_of d spans))
-          ∙ ap (λ k. drop k (first ++ bytes_of d spans)) (part_length d s.start s.len)
-          ∙ ap (drop (length_within (length d) s)) parts in
-          later rest is
+misses_it : (n : ℕ) (s : Span) (offset : ℕ) → offset < n → reaches n s offset ≡ false → has_offset s offset ≡ false
+misses_it n s offset below misses = grind (arith, nat_tests)
 
--- and each offset of its parts is known
-pub covered_known : (d : List ℕ) (spans : List Span) (bytes : List ℕ) (offset : ℕ) → bytes_of d spans ≡ bytes
-    → offset < length d
-    → is_covered spans offset ≡ true → is_some (byte_in_parts (length d) spans bytes offset) ≡ true
-covered_known d [] bytes offset parts below is = absurd cc
-covered_known d (s ∷ spans) bytes offset parts below is = by_test (reaches (length d) s offset) refl
-    (λ rest. covered_known d spans (drop (length_within (length d) s) bytes) offset rest below) where
-      first : List ℕ
-      first = part d s.start s.len
-
-      not_first : reaches (length d) s offset ≡ false → has_offset s offset ≡ false
-      not_first misses = grind (arith, nat_tests)
-
-      later : (test : Bool) → has_offset s offset ≡ test → test ≡ false → test || is_covered spans offset ≡ true
-          → is_covered spans offset ≡ true
-      later true has misses is = absurd cc
-      later false has misses is = is
-
-      by_test : (test : Bool) → reaches (length d) s offset ≡ test
-          → (bytes_of d spans ≡ drop (length_within (length d) s) bytes → is_covered spans offset ≡ true
-          → is_some (byte_in_parts (length d) spans (drop (length_within (length d) s) bytes) offset) ≡ true)
-          → is_some (cond test (byte_of bytes (offset - s.start))
-          (byte_in_parts (length d) spans (drop (length_within (length d) s) bytes) offset)) ≡ true
-      by_test true has on =
-          let at = offset_in (length d) s offset has in
-          let long : length bytes ≡ length first + length (bytes_of d spans) = ap length (sym parts)
-          ∙ length-append first (bytes_of d spans) in
-          let there : leb (suc (offset - s.start)) (length bytes) ≡ true =
-          (let below : offset - s.start < length bytes = omega (arith, at.1, long, part_length d s.start s.len) in
-          grind (arith, nat_tests)) in
-          ap (λ (test : Bool). is_some (cond test (Some (get_or bytes (offset - s.start) 0)) None)) there
-      by_test false has on =
-          let rest : bytes_of d spans ≡ drop (length_within (length d) s) bytes =
-          sym (drop-append_seam first (bytes_of d spans))
-          ∙ ap (λ k. drop k (first ++ bytes_of d spans)) (part_length d s.start s.len)
-          ∙ ap (drop (length_within (length d) s)) parts in
-          on rest
-          (later (has_offset s offset) refl (not_first has) is)
+no_byte_free : (d : List ℕ) (spans : List Span) (bytes : List ℕ) (offset : ℕ) → bytes_of d spans ≡ bytes → offset < length d
+    → is_some (byte_in_parts (length d) spans bytes offset) ≡ false → is_covered spans offset ≡ false
+no_byte_free d [] bytes offset parts below = λ none. refl
+no_byte_free d (s ∷ spans) bytes offset parts below =
+    in_parts (λ o. is_some o ≡ false → is_covered (s ∷ spans) offset ≡ false) (length d) s spans bytes offset (λ has none.
+    let at = offset_in (length d) s offset has in
+    let long = ap length (sym parts) ∙ length-append (part d s.start s.len) (bytes_of d spans) in
+    let some = byte_there bytes (offset - s.start) (omega (arith, at.1, long, part_length d s.start s.len)) in
+    absurd (let no : true ≡ false = sym (ap is_some some) ∙ none in cc))
+    (λ misses none. ap (λ b. b || is_covered spans offset) (misses_it (length d) s offset below misses)
+    ∙ no_byte_free d spans (drop (length_within (length d) s) bytes) offset (later_bytes d s spans bytes parts) below none)
 
 -- no part has an offset that is not known
 pub unknown_free : (d : List ℕ) (n : ℕ) (spans : List Span) (bytes : List ℕ) (offset : ℕ) → HasParts d n spans bytes
     → offset < n
     → is_some (byte_in_parts n spans bytes offset) ≡ false → is_covered spans offset ≡ false
-unknown_free d n spans bytes offset has below none = by_test (is_covered spans offset) refl where
-  by_test : (test : Bool) → is_covered spans offset ≡ test → test ≡ false
-  by_test false is = refl
-  by_test true is =
-      let some = covered_known d spans bytes offset has.bytes (omega (arith, below, has.as_long)) is in
-      let no : is_some (byte_in_parts n spans bytes offset) ≡ true =
-      ap (λ m. is_some (byte_in_parts m spans bytes offset)) (sym has.as_long) ∙ some in
-      absurd (let both : false ≡ true = sym none ∙ no in cc)
+unknown_free d n spans bytes offset has below none =
+    no_byte_free d spans bytes offset has.bytes (omega (arith, below, has.as_long)) (rw has.as_long none)
 
 pub span_known : (n : ℕ) (spans : List Span) (bytes : List ℕ) (start count : ℕ) (s : Span)
     → ((i : ℕ) → i < count → is_some (byte_in_parts n spans bytes (start + i)) ≡ true) → s.start ≡ start → s.len ≡ count
@@ -148,35 +106,25 @@ span_known n spans bytes start count s so at long offset has =
     subst (λ p. is_some (byte_in_parts n spans bytes p) ≡ true) same
     (so (offset - start) (omega (arith, above, below, at, long)))
 
+covered_after : (log : List Span) (s : Span) (offset : ℕ)
+    → is_covered (log ++ s ∷ []) offset ≡ (is_covered log offset || has_offset s offset)
+covered_after [] s offset = or-false (has_offset s offset)
+covered_after (x ∷ log) s offset =
+    ap (λ b. has_offset x offset || b) (covered_after log s offset) ∙ sym (or_assoc (has_offset x offset) _ _)
+
 pub pushed_known : (n : ℕ) (spans : List Span) (bytes : List ℕ) (log more : List Span) (s : Span)
     → AllKnown n spans bytes log
     → ((offset : ℕ) → has_offset s offset ≡ true → is_some (byte_in_parts n spans bytes offset) ≡ true)
     → more ≡ log ++ s ∷ [] → AllKnown n spans bytes more
 pushed_known n spans bytes log more s all also is offset here =
-    by_part (is_covered log offset) refl (has_offset s offset) refl where
-      split : (xs : List Span) → is_covered (xs ++ s ∷ []) offset ≡ is_covered xs offset || (has_offset s offset || false)
-      split [] = refl
-      split (x ∷ xs) =
-          let Goal : Bool → Type 0 = λ b. b || is_covered (xs ++ s ∷ []) offset
-          ≡ (b || is_covered xs offset) || (has_offset s offset || false) in
-          elim (has_offset x offset) as Goal [ true ↦ refl | false ↦ split xs ]
-
-      by_part : (first : Bool) → is_covered log offset ≡ first → (last : Bool) → has_offset s offset ≡ last
-          → is_some (byte_in_parts n spans bytes offset) ≡ true
-      by_part true is_first last is_last = all offset is_first
-      by_part false is_first true is_last = also offset is_last
-      by_part false is_first false is_last =
-          absurd (let none : is_covered more offset ≡ false = ap (λ l. is_covered l offset) is ∙ split log
-          ∙ ap (λ b. b || (has_offset s offset || false)) is_first ∙ ap (λ b. b || false) is_last in
-          let no : true ≡ false = sym here ∙ none in cc)
+    let apart = ap (λ l. is_covered l offset) is ∙ covered_after log s offset in
+    elim (cases_Bool (is_covered log offset)) [
+      | inl before ↦ all offset before
+      | inr after ↦ also offset (sym (ap (λ b. b || has_offset s offset) after) ∙ sym apart ∙ here)
+    ]
 
 -- what stands behind so many bytes, by the slice that the code takes
 pub slice_behind : (bs : List ℕ) (k : ℕ)
     → take (length bs - min k (length bs)) (drop (min k (length bs)) bs) ≡ drop k bs
 slice_behind bs k = take_all (length bs - min k (length bs)) (drop (min k (length bs)) bs)
-    (omega (arith, length-drop (min k (length bs)) bs))
-    ∙ by_far (cases_lt k (length bs))
-  where
-    by_far : (k < length bs) ⊎ (length bs ≤ k) → drop (min k (length bs)) bs ≡ drop k bs
-    by_far (inl less) = let all : min k (length bs) ≡ k = omega (arith, less) in ap (λ j. drop j bs) all
-    by_far (inr far) = drop_all (min k (length bs)) bs (omega (arith, far)) ∙ sym (drop_all k bs far)
+    (omega (arith, length-drop (min k (length bs)) bs)) ∙ drop_min k bs

@@ -1,21 +1,21 @@
 -- What a layout says of an input.
-use Rattle.std.proofs.Common.{◌≡◌, ℕ, ◌+◌, ◌-◌, ◌<◌, ◌≤◌, min, Bool, true, false, eqb, List, [], ◌++◌, length, take, Option, None, Some, Result, Ok, Err, refl, sym, ap, ◌∙◌, subst, arith, append_assoc}
+use Rattle.std.proofs.Common.{◌≡◌, ℕ, ◌+◌, ◌-◌, ◌≤◌, min, true, eqb, List, [], ◌++◌, length, take, Option, Result, Ok, Err, inl, inr, refl, sym, ap, ◌∙◌, subst, arith, append_assoc}
+use Rattle.std.proofs.lemmas.Bool.{cond-false, cond-true, le-leb, lt-leb}
+use Rattle.std.proofs.lemmas.Bool.Decides.{eqb_tells}
 use Rattle.std.proofs.lemmas.List.{length-take, take_all, drop_all, append-nil}
 use Rattle.std.proofs.Math.Seq.{take-nil}
-use Rattle.std.proofs.lemmas.Bool.Decides.{nat_tests}
 use Rattle.imagesize_source.specs.declared.span.Span.{Span}
 use Rattle.imagesize_source.specs.declared.halt.Halt.{Halt}
 use Rattle.imagesize_source.specs.Input.{part, span_of, span_at}
 use Rattle.imagesize_source.specs.Layout.{Layout, layout_reads, bind, whole, if_there, some_where}
 use Rattle.imagesize_source.specs.Layout.Layout.{«done», refuse, field, reading, begin_record}
-use Rattle.imagesize_source.specs.Reading.{Reads, after_records, and_then, gives, just, uncounted, go_on, map_answer, put_behind, number_at, part_read, read_of}
+use Rattle.imagesize_source.specs.Reading.{Reads, after_records, and_then, gives, just, uncounted, go_on, map_answer, put_behind, part_read}
 use Rattle.imagesize_source.specs.State.{State, Runs, Missed, total, state_after}
 use Rattle.imagesize_source.proofs.Marks.{plus-assoc, plus-zero}
 use Rattle.imagesize_source.proofs.Runs.{answered, part_is, runs_refused}
 
 behind-onward : {Y Z : Type 0} (marks more : List Span) (r : Result Y Halt) (g : Y → Reads Z)
-    → put_behind marks (go_on more r g)
-    ≡ go_on (marks ++ more) r g
+    → put_behind marks (go_on more r g) ≡ go_on (marks ++ more) r g
 behind-onward marks more (Ok y) g = ap (λ m. record (g y) { marks = m }) (sym (append_assoc marks more (g y).marks))
 behind-onward marks more (Err e) g = refl
 
@@ -37,16 +37,19 @@ then_then r f g both is =
     ∙ ap (λ n. record (go_on w.marks w.answer g) { begun = n })
     (sym (plus-assoc r.begun w.begun (go_on w.marks w.answer g).begun))
 
--- what goes on from the same answer
-onward_alike : {X Y : Type 0} (marks : List Span) (r : Result X Halt) (f g : X → Reads Y)
-    → ((x : X) → r ≡ Ok x → f x ≡ g x)
-    → go_on marks r f ≡ go_on marks r g
-onward_alike marks (Ok x) f g same = ap (put_behind marks) (same x refl)
-onward_alike marks (Err e) f g same = refl
+-- what holds behind an answer and behind a refusal holds of what goes on
+pub on_answer : {X Y : Type 0} (P : Reads Y → Type 0) (spans : List Span) (r : Result X Halt) (f : X → Reads Y)
+    → ((x : X) → r ≡ Ok x → P (put_behind spans (f x)))
+    → ((e : Halt) → r ≡ Err e → P (just (Err e) spans))
+    → P (go_on spans r f)
+on_answer P spans (Ok x) f answered refused = answered x refl
+on_answer P spans (Err e) f answered refused = refused e refl
 
+-- what goes on from the same answer
 pub then_alike : {X Y : Type 0} (r : Reads X) (f g : X → Reads Y) → ((x : X) → r.answer ≡ Ok x → f x ≡ g x)
     → and_then r f ≡ and_then r g
-then_alike r f g same = ap (after_records r.begun) (onward_alike r.marks r.answer f g same)
+then_alike r f g same = on_answer (λ w. after_records r.begun w ≡ and_then r g) r.marks r.answer f
+    (λ x is. rw (is, same x is) refl) (λ e is. rw is refl)
 
 -- an answer that is given as it is
 onward_gives : {X : Type 0} (marks : List Span) (r : Result X Halt) → go_on marks r gives ≡ just r marks
@@ -62,39 +65,24 @@ pub over-bind : {X Y : Type 0} (d : List ℕ) (t : Layout X) (f : X → Layout Y
     → layout_reads d (bind t f) ≡ and_then (layout_reads d t) (λ x. layout_reads d (f x))
 over-bind d (done x) f = refl
 over-bind d (refuse e) f = refl
-over-bind d (field order offset k g) f =
-    onward-and_then (span_of d offset k) (number_at d order offset k) (λ v. layout_reads d (g v))
-    (λ x. layout_reads d (f x)) (λ v. layout_reads d (bind (g v) f)) (λ v. over-bind d (g v) f)
-over-bind d (reading r offset g) f =
-    onward-and_then (read_of d r offset).marks (read_of d r offset).answer (λ bs. layout_reads d (g bs))
-    (λ x. layout_reads d (f x)) (λ bs. layout_reads d (bind (g bs) f)) (λ bs. over-bind d (g bs) f)
+over-bind d (field order offset k g) f = onward-and_then _ _ _ _ _ (λ v. over-bind d (g v) f)
+over-bind d (reading r offset g) f = onward-and_then _ _ _ _ _ (λ bs. over-bind d (g bs) f)
 over-bind d (begin_record t) f = ap (after_records 1) (over-bind d t f)
 
-whole-all : (k : ℕ) (bs : List ℕ) → k ≤ length bs → whole k bs ≡ Some bs
-whole-all k bs all = grind (arith, nat_tests)
-
-whole-some : (k : ℕ) (bs : List ℕ) → length bs < k → whole k bs ≡ None
-whole-some k bs short = grind (arith, nat_tests)
-
 -- of a reading: all of the bytes are there, or some are missing
+whole_front : (buffer : List ℕ) (n : ℕ) → n ≤ length buffer
+    → whole (length buffer) (take n buffer) ≡ some_where buffer (eqb n (length buffer))
+whole_front buffer n fits = elim (eqb_tells n (length buffer)) [
+  | inl all ↦ rw (all.0, take_all n buffer (omega (arith, all.1))) (cond-true _ _ _ (le-leb (length buffer) (length buffer) (omega arith)))
+  | inr some ↦ rw some.0 (cond-false _ _ _ (lt-leb (length buffer) _ (omega (arith, length-take n buffer, fits, some.1))))
+]
+
 pub whole_read : {a b : State} (d buffer : List ℕ) (offset n : ℕ) → n ≤ length buffer
     → Runs a b (Ok (take n buffer)) (part_read d offset (length buffer))
     → Runs a b (Ok (some_where buffer (eqb n (length buffer)))) (layout_reads d (if_there offset (length buffer) done))
-whole_read {a} {b} d buffer offset n fits h = by_test (eqb n (length buffer)) refl where
-  by_test : (all : Bool) → eqb n (length buffer) ≡ all
-      → Runs a b (Ok (some_where buffer all)) (layout_reads d (if_there offset (length buffer) done))
-  by_test true is =
-      let same : take n buffer ≡ buffer = take_all n buffer (grind (arith, nat_tests)) in
-      answered (Ok (Some buffer)) (layout_reads d (if_there offset (length buffer) done)) h (append-nil _)
-      (λ read. ap (λ bs. Ok (whole (length buffer) bs)) (part_is read ∙ same)
-      ∙ ap Ok (whole-all (length buffer) buffer (omega arith)))
-      refl refl tt
-  by_test false is =
-      let short : n < length buffer = grind (arith, nat_tests) in
-      answered (Ok None) (layout_reads d (if_there offset (length buffer) done)) h (append-nil _)
-      (λ read. ap Ok (whole-some (length buffer) (part d offset (length buffer))
-      (omega (arith, length-take n buffer, ap length (part_is read)))))
-      refl refl tt
+whole_read d buffer offset n fits h =
+    answered (Ok (some_where buffer (eqb n (length buffer)))) (layout_reads d (if_there offset (length buffer) done)) h
+    (append-nil _) (λ read. ap Ok (ap (whole (length buffer)) (part_is read) ∙ whole_front buffer n fits)) refl refl tt
 
 -- a reading that was stopped found none
 pub whole_stopped : {X : Type 0} {a b : State} (d : List ℕ) (offset k : ℕ) (found : X → Option (List ℕ))

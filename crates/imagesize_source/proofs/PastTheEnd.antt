@@ -1,6 +1,6 @@
 -- Readings beyond the end of the input.
-use Rattle.std.proofs.Common.{◌≡◌, ℕ, ◌-◌, ◌^◌, ◌<◌, ◌≤◌, min, Bool, true, false, leb, List, [], length, Option, Result, Err, refl, sym, ap, ◌∙◌, arith}
-use Rattle.std.proofs.lemmas.Bool.Decides.{nat_tests}
+use Rattle.std.proofs.Common.{◌≡◌, ℕ, ◌-◌, ◌^◌, ◌<◌, ◌≤◌, min, List, [], length, Option, Result, Err, inl, inr, refl, sym, ap, ◌∙◌, arith}
+use Rattle.std.proofs.lemmas.Bool.{cases_lt, cond-false, lt-leb}
 use Rattle.imagesize_source.specs.declared.endian.Endian.{Endian}
 use Rattle.imagesize_source.specs.declared.halt.Halt.{Halt}
 use Rattle.imagesize_source.specs.declared.halt.Halt.TheVariants.{Ended}
@@ -16,14 +16,12 @@ pub saturated_by : {X : Type 0} {a b : State} {r : Result X Halt} (f : ℕ → L
     (offset at : ℕ)
     → ((d : List ℕ) (p : ℕ) → length d ≤ p → uncounted (f p d) ≡ other) → Runs a b r (f at a.held.input)
     → at ≡ min offset (2 ^ 64 - 1) → Runs a b r (f offset a.held.input)
-saturated_by {a} f other offset at beyond h is =
-    runs_as (f offset a.held.input) h
-    (λ honest. within a.held.input (h.sound honest).1 (leb offset (2 ^ 64 - 1)) refl) where
-      within : (d : List ℕ) → length d < 2 ^ 63 → (is_within : Bool) → leb offset (2 ^ 64 - 1) ≡ is_within
-          → uncounted (f at d) ≡ uncounted (f offset d)
-      within d short true fits = ap (λ p. uncounted (f p d)) (grind (arith, nat_tests))
-      within d short false far = beyond d at (grind (arith, nat_tests))
-          ∙ sym (beyond d offset (grind (arith, nat_tests)))
+saturated_by {a} f other offset at beyond h is = runs_as (f offset a.held.input) h (λ honest.
+    let short = (h.sound honest).1 in
+    elim (cases_lt (2 ^ 64 - 1) offset) [
+      | inl far ↦ beyond a.held.input at (omega (arith, is, far, short)) ∙ sym (beyond a.held.input offset (omega (arith, far, short)))
+      | inr within ↦ ap (λ p. uncounted (f p a.held.input)) (omega (arith, is, within))
+    ])
 
 -- no byte is there
 part_beyond : (d : List ℕ) (offset k : ℕ) → length d ≤ offset → part_read d offset k ≡ gives []
@@ -35,8 +33,7 @@ there_beyond d offset k f h = rw (no_part d offset k h, no_span d offset k h) re
 
 bytes_at_beyond : (d : List ℕ) (offset k : ℕ) → length d ≤ offset → 0 < k → bytes_at d offset k ≡ Err Ended
 unfolding bytes_at
-bytes_at_beyond d offset k h some = let test : leb k (length d - offset) ≡ false = grind (arith, nat_tests) in
-    rw test refl
+bytes_at_beyond d offset k h some = cond-false _ _ _ (lt-leb k (length d - offset) (omega (arith, h, some)))
 
 -- a layout that reads bytes beyond the end of the input is refused there, and has no mark of them
 pub bytes_beyond : {X : Type 0} (d : List ℕ) (offset k : ℕ) (f : List ℕ → Layout X) → length d ≤ offset → 0 < k

@@ -1,36 +1,29 @@
 -- What is read of the bytes that a source holds, and what it is for that source.
-use Rattle.std.proofs.Common.{◌≡◌, ℕ, ◌+◌, ◌-◌, ◌^◌, ◌<◌, ◌≤◌, min, max, Bool, true, false, cond, leb, List, [], ◌∷◌, ◌++◌, length, take, drop, None, Result, Ok, Err, refl, sym, ap, ◌∙◌, subst, arith}
+use Rattle.std.proofs.Common.{◌≡◌, ℕ, ◌+◌, ◌-◌, ◌^◌, ◌<◌, ◌≤◌, true, false, List, [], ◌∷◌, ◌++◌, length, take, drop, None, Result, Ok, Err, refl, sym, ap, ◌∙◌, subst, arith}
 use Rattle.std.proofs.lemmas.Bool.Decides.{nat_tests}
-use Rattle.std.proofs.lemmas.List.{drop-take, length-drop, length-take, take-append-drop, take_all}
-use Rattle.std.proofs.Math.Seq.{drop-drop}
+use Rattle.std.proofs.lemmas.List.{length-drop, length-take, take_all}
 use Rattle.imagesize_source.specs.declared.halt.Halt.{Halt}
-use Rattle.imagesize_source.specs.declared.halt.Halt.TheVariants.{Failed}
 use Rattle.imagesize_source.specs.declared.span.Span.{Span}
 use Rattle.imagesize_source.specs.declared.text.Text.{Text}
 use Rattle.imagesize_source.specs.Input.{part, span_at}
 use Rattle.imagesize_source.specs.Reading.{Reads, is_faulted, part_read, text_part, text_read}
 use Rattle.imagesize_source.specs.Shown.{AreShown}
 use Rattle.imagesize_source.specs.Layout.{Layout, layout_reads}
-use Rattle.imagesize_source.specs.State.{State, Held, Backing, Shown, Runs, Follows, EndedBy, front_after, new_bytes, place_after, shown_state, shown_by, rejoined, state_after, step, total}
+use Rattle.imagesize_source.specs.State.{State, Held, Runs, Follows, EndedBy, front_after, new_bytes, place_after, shown_state, shown_by, rejoined, state_after, step, total}
 use Rattle.imagesize_source.specs.Text.{is_ended, text_front}
 use Rattle.imagesize_source.proofs.Agreement.{span-some, whole_span}
 use Rattle.imagesize_source.proofs.Counts.{total-span_at}
-use Rattle.imagesize_source.proofs.Parts.{part_front}
+use Rattle.imagesize_source.proofs.KnownReadings.{part_split}
+use Rattle.imagesize_source.proofs.Parts.{part_behind, part_front}
 use Rattle.imagesize_source.proofs.Texts.{front_more}
 use Rattle.std.specs.Prelude.{IfErr, option_map}
 
 -- a read past the first bytes that are kept leaves them as they are
 kept_front : (front offset n : ℕ) → front ≤ 32 → 32 ≤ offset → front_after front offset n ≡ front
-kept_front front offset n few far = by_test (leb offset front) refl where
-  by_test : (b : Bool) → leb offset front ≡ b → cond b (max front (min 32 (offset + n))) front ≡ front
-  by_test false is = refl
-  by_test true is = let near : offset ≤ front = grind (arith, nat_tests) in omega (arith, near, few, far)
+kept_front front offset n few far = grind (arith, nat_tests)
 
 moved_place : (front place offset n : ℕ) → front ≤ 32 → 32 ≤ offset → 0 < n → place_after front place offset n ≡ offset + n
-moved_place front place offset n few far some = by_test (leb (offset + n) (max offset front)) refl where
-  by_test : (b : Bool) → leb (offset + n) (max offset front) ≡ b → cond b place (offset + n) ≡ offset + n
-  by_test false is = refl
-  by_test true is = absurd (let near : offset + n ≤ max offset front = grind (arith, nat_tests) in omega (arith, near, few, far, some))
+moved_place front place offset n few far some = grind (arith, nat_tests)
 
 -- the state after a read past the first bytes
 shown_state_after : (told budget front : ℕ) (held : Held) (taken place offset n : ℕ) → front ≤ 32 → 32 ≤ offset → 0 < n
@@ -60,40 +53,18 @@ shown_reads told budget front held taken place offset n got reads sound few far 
   ended = tt;
 }
 
--- a read that fails
-pub shown_fails : {X : Type 0} (told budget front : ℕ) (held : Held) (taken place : ℕ) (reads : Reads X)
-    → (held.honest ≡ true → (told ≡ length held.input) × (length held.input < 2 ^ 63))
-    → Runs (shown_state told budget front held taken place) (shown_state told budget front held taken place) (Err Failed) reads
-shown_fails told budget front held taken place reads sound = record {
-  sound = sound;
-  sound_after = sound;
-  frame = refl;
-  taken = omega arith;
-  within = λ honest. omega arith;
-  answer = λ honest goes_on. absurd cc;
-  state = λ honest goes_on. absurd cc;
-  fault = λ honest faults. refl;
-  misses = λ honest faults. record { told = tt };
-  ended = record { budget = λ is. absurd cc; fault = λ is. tt };
-}
-
 -- bytes from a later offset on are shown, too
 pub shown_behind : (held : Held) (start : ℕ) (bytes : List ℕ) (told offset ahead : ℕ) → AreShown held start bytes told
     → offset ≡ start + ahead → ahead ≤ length bytes
     → AreShown held offset (take (length bytes - ahead) (drop ahead bytes)) told
-unfolding part
 shown_behind held start bytes told offset ahead shown at within = λ honest.
     let known = shown honest in
-    let rest : List ℕ = take (length bytes - ahead) (drop ahead bytes) in
-    let all : rest ≡ drop ahead bytes = take_all (length bytes - ahead) (drop ahead bytes) (omega (arith, length-drop ahead bytes)) in
-    let long : length rest ≡ length bytes - ahead = ap length all ∙ length-drop ahead bytes in
-    let split : ahead + (length bytes - ahead) ≡ length bytes = omega (arith, within) in (
-      all ∙ ap (drop ahead) known.0
-          ∙ ap (λ k. drop ahead (take k (drop start held.input))) (sym split)
-          ∙ drop-take ahead (length bytes - ahead) (drop start held.input)
-          ∙ ap (take (length bytes - ahead)) (drop-drop ahead start held.input)
-          ∙ ap (λ k. take k (drop (start + ahead) held.input)) (sym long)
-          ∙ ap (λ o. take (length rest) (drop o held.input)) (sym at),
+    let m : ℕ = length bytes - ahead in
+    let all : take m (drop ahead bytes) ≡ drop ahead bytes = take_all m (drop ahead bytes) (omega (arith, length-drop ahead bytes)) in
+    let long : length (take m (drop ahead bytes)) ≡ m = ap length all ∙ length-drop ahead bytes in
+    let split : ahead + m ≡ length bytes = omega (arith, within) in (
+      all ∙ ap (drop ahead) known.0 ∙ ap (λ k. drop ahead (part held.input start k)) (sym split)
+          ∙ part_behind held.input start ahead m ∙ rw (at, long) refl,
       known.1,
       known.2,
     )
@@ -120,37 +91,23 @@ pub shown_text : (held : Held) (offset n : ℕ) (t : Text) (bytes buffer : List 
     × ((text_read held.input t offset (length buffer)).marks ≡ span_at offset n)
 unfolding text_part
 shown_text held offset n t bytes buffer told shown there fits copied ended whole honest =
-    let known = shown honest in
-    let front : take n (part held.input offset (length buffer)) ≡ take n bytes =
-    part_front held.input offset n (length buffer) fits
-    ∙ sym (part_front held.input offset n (length bytes) there) ∙ ap (take n) (sym known.0) in
-    let all = sym (take-append-drop n (part held.input offset (length buffer))) in
-    let text : text_front t (part held.input offset (length buffer)) ≡ take n buffer =
-    ap (text_front t) (all ∙ ap (λ xs. xs ++ drop n (part held.input offset (length buffer))) front)
-    ∙ front_more t (take n bytes) (drop n (part held.input offset (length buffer))) ended ∙ whole ∙ sym copied in (
-      ap Ok text,
-      ap (λ xs. span_at offset (length xs)) text ∙ ap (span_at offset) (omega (arith, length-take n buffer, fits)),
-    )
-
--- the front that such a source keeps, and what it claims
-front_of : Backing → ℕ
-front_of (Shown front held) = front
-front_of _ = 0
-
-claim_of : Held → Backing → Held
-claim_of other (Shown front held) = held
-claim_of other _ = other
+    let d : List ℕ = held.input in
+    let k : ℕ = length buffer in
+    let front : part d offset n ≡ take n bytes = sym (part_front d offset n (length bytes) there) ∙ ap (take n) (sym (shown honest).0) in
+    let text : text_front t (part d offset k) ≡ take n buffer =
+    rw (part_split d offset k n fits, front) (front_more t (take n bytes) (drop n (part d offset k)) ended ∙ whole ∙ sym copied) in
+    (ap Ok text, ap (λ xs. span_at offset (length xs)) text ∙ ap (span_at offset) (omega (arith, length-take n buffer, fits)))
 
 -- reads change nothing else of the bytes that a source holds
 pub shown_again : (told budget front : ℕ) (held : Held) (taken place : ℕ) (a : State)
     → (shown_state told budget front held taken place).frame ≡ (shown_by a).frame
     → shown_state told budget front held taken place ≡ shown_by (rejoined a taken place)
-unfolding front_of claim_of
 shown_again told budget front held taken place a same =
     let told_is : told ≡ a.frame.told = ap (λ f. f.told) same in
     let budget_is : budget ≡ a.frame.budget = ap (λ f. f.budget) same in
-    let front_is : front ≡ a.front = ap (λ f. front_of f.backing) same in
-    let held_is : held ≡ a.held = ap (λ f. claim_of held f.backing) same in
+    let backing = ap (λ f. f.backing) same in
+    let front_is : front ≡ a.front = cc in
+    let held_is : held ≡ a.held = cc in
     rw (told_is, budget_is, front_is, held_is) refl
 
 -- two sources that count are changed alike by reads
@@ -163,45 +120,35 @@ same_after a h [] counts counts' plain front taken place = rw (front, taken, pla
 same_after a h (s ∷ marks) counts counts' plain front taken place =
     same_after (step a s) (step h s) marks counts counts' (ap (option_map (λ spans. spans ++ s ∷ [])) plain)
     (rw (counts, counts', front) refl) (rw (counts, counts', front, taken) refl) (rw (counts, counts', front, place) refl)
-    ∙ ap (λ o. record a {
-      front = (state_after (step h s) marks).front;
-      taken = (state_after (step h s) marks).taken;
-      place = (state_after (step h s) marks).place;
-      recorded = o;
-    }) (ap (option_map (λ spans. spans ++ s ∷ [])) plain ∙ sym plain)
+    ∙ rw plain refl
 
 -- what a call over the bytes that a source holds is for the source
-pub from_shown : {X : Type 0} {a h b : State} (r : Result X Halt) (t : Layout X) → a.frame.counts ≡ true → a.recorded ≡ None
-    → h ≡ shown_by a → b ≡ shown_by (rejoined a b.taken b.place) → is_faulted r ≡ false
-    → Follows h b r t → Follows a (rejoined a b.taken b.place) r t
-from_shown {X} {a} {h} {b} r t counts plain shown again no_fault given = back (subst (λ s. Follows s b r t) shown given) where
-  ended_as : (r : Result X Halt) → is_faulted r ≡ false → IfErr r (EndedBy b) → IfErr r (EndedBy (rejoined a b.taken b.place))
-  ended_as (Ok x) calm ended = tt
-  ended_as (Err halt) calm ended = record {
-    budget = λ spent. (counts, sym (ap (λ s. s.frame.budget) again) ∙ (ended.budget spent).1);
-    fault = λ failed. absurd (let no : true ≡ false = sym failed ∙ calm in cc);
-  }
-
-  back : Follows (shown_by a) b r t → Follows a (rejoined a b.taken b.place) r t
-  back run = record {
-    sound = run.sound;
-    sound_after = run.sound;
-    frame = refl;
-    taken = run.taken;
-    within = run.within;
-    answer = run.answer;
-    state = λ honest goes_on.
-        ap (λ n. record a { front = n; taken = b.taken; place = b.place }) (sym (ap (λ s. s.front) again))
-        ∙ ap (λ s. record a { front = s.front; taken = s.taken; place = s.place }) (run.state honest goes_on)
-        ∙ sym (same_after a (shown_by a) (layout_reads a.held.input t).marks counts refl plain refl refl refl);
-    fault = λ honest faults. absurd (let no : true ≡ false = sym faults ∙ no_fault in cc);
-    misses = λ honest faults. absurd (let no : true ≡ false = sym faults ∙ no_fault in cc);
-    ended = ended_as r no_fault run.ended;
-  }
-
 pub record_back : {X : Type 0} {told budget front : ℕ} {held : Held} {taken place : ℕ} {b h : State} (r : Result X Halt)
     (t : Layout X) → b.frame.counts ≡ true → b.recorded ≡ None → h ≡ shown_by b → is_faulted r ≡ false
     → Follows h (shown_state told budget front held taken place) r t → Follows b (rejoined b taken place) r t
 record_back {X} {told} {budget} {front} {held} {taken} {place} {b} {h} r t counts plain shown no_fault given =
-    from_shown r t counts plain shown (shown_again told budget front held taken place b (given.frame ∙ ap (λ s. s.frame) shown))
-    no_fault given
+    back (subst (λ s. Follows s (shown_state told budget front held taken place) r t) shown given) where
+      ended_as : (r : Result X Halt) → is_faulted r ≡ false → budget ≡ b.frame.budget
+          → IfErr r (EndedBy (shown_state told budget front held taken place)) → IfErr r (EndedBy (rejoined b taken place))
+      ended_as (Ok x) calm same ended = tt
+      ended_as (Err halt) calm same ended = record {
+        budget = λ spent. (counts, sym same ∙ (ended.budget spent).1);
+        fault = λ failed. absurd (let no : true ≡ false = sym failed ∙ calm in cc);
+      }
+
+      back : Follows (shown_by b) (shown_state told budget front held taken place) r t → Follows b (rejoined b taken place) r t
+      back run = let again = shown_again told budget front held taken place b run.frame in record {
+        sound = run.sound;
+        sound_after = run.sound;
+        frame = refl;
+        taken = run.taken;
+        within = run.within;
+        answer = run.answer;
+        state = λ honest goes_on.
+            ap (λ n. record b { front = n; taken = taken; place = place }) (sym (ap (λ s. s.front) again))
+            ∙ ap (λ s. record b { front = s.front; taken = s.taken; place = s.place }) (run.state honest goes_on)
+            ∙ sym (same_after b (shown_by b) (layout_reads b.held.input t).marks counts refl plain refl refl refl);
+        fault = λ honest faults. absurd (let no : true ≡ false = sym faults ∙ no_fault in cc);
+        misses = λ honest faults. absurd (let no : true ≡ false = sym faults ∙ no_fault in cc);
+        ended = ended_as r no_fault (ap (λ s. s.frame.budget) again) run.ended;
+      }

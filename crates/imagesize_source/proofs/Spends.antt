@@ -1,11 +1,11 @@
 -- Readings that go forward spend the bytes of an input, each byte once.
-use Rattle.std.proofs.Common.{◌≡◌, ℕ, ◌+◌, ◌-◌, ◌≤◌, List, [], ◌∷◌, ◌++◌, length, Option, None, Some, Result, Ok, Err, refl, ap, ◌∙◌, arith}
+use Rattle.std.proofs.Common.{◌≡◌, ℕ, ◌+◌, ◌-◌, ◌≤◌, List, length, Option, None, Some, Result, Ok, Err, refl, ap, arith}
 use Rattle.imagesize_source.specs.declared.halt.Halt.{Halt}
 use Rattle.imagesize_source.specs.declared.span.Span.{Span}
 use Rattle.imagesize_source.specs.Chain.{Said, Decided, Next, Chain, Along, start, next_record, verdict, chain_from, chain_at, Advances}
 use Rattle.imagesize_source.specs.Input.{span_of}
 use Rattle.imagesize_source.specs.Layout.{Layout, done, refuse, field, reading, begin_record, layout_reads}
-use Rattle.imagesize_source.specs.Reading.{Reads, Reading, AllOf, PartOf, TextOf, go_on, and_then, number_at, read_of, text_part}
+use Rattle.imagesize_source.specs.Reading.{Reads, Reading, AllOf, PartOf, TextOf, go_on, and_then, read_of, text_part}
 use Rattle.imagesize_source.specs.State.{total}
 use Rattle.imagesize_source.proofs.ChainLaws.{chain_induction}
 use Rattle.imagesize_source.proofs.Chains.{chain_next, chain_stop}
@@ -50,29 +50,18 @@ not_before_left : (n q : ℕ) (next : Option ℕ) → NotBefore q next → left_
 not_before_left n q None h = omega arith
 not_before_left n q (Some offset) h = omega arith
 
--- a reading has no more bytes than there are behind its offset
-reading_left : (d : List ℕ) (r : Reading) (offset : ℕ) → total (read_of d r offset).marks ≤ length d - offset
-reading_left d (AllOf k) offset = omega (arith, total_there d offset k)
-reading_left d (PartOf k) offset = omega (arith, total_there d offset k)
-reading_left d (TextOf t k) offset = omega (
-  arith,
-  total-span_at offset (length (text_part d t offset k)),
-  text_length d t offset k,
-  part_length d offset k,
-)
-
--- and leaves those behind them
+-- a reading leaves the bytes behind those that it leads over
 reading_spends : (d : List ℕ) (r : Reading) (offset : ℕ) (bs : List ℕ) → (read_of d r offset).answer ≡ Ok bs
     → total (read_of d r offset).marks + (length d - (offset + passed r bs)) ≤ length d - offset
 reading_spends d (AllOf k) offset bs is = omega (arith, total_there d offset k)
 reading_spends d (PartOf k) offset bs is = omega (arith, total_there d offset k)
-reading_spends d (TextOf t k) offset bs is = omega (
-  arith,
-  ap length (part_is is),
-  total-span_at offset (length (text_part d t offset k)),
-  text_length d t offset k,
-  part_length d offset k,
-)
+reading_spends d (TextOf t k) offset bs is = omega (arith, ap length (part_is is), total-span_at, text_length d t offset k, part_length)
+
+-- and has no more of them than there are
+reading_left : (d : List ℕ) (r : Reading) (offset : ℕ) → total (read_of d r offset).marks ≤ length d - offset
+reading_left d (AllOf k) offset = omega (arith, total_there d offset k)
+reading_left d (PartOf k) offset = omega (arith, total_there d offset k)
+reading_left d (TextOf t k) offset = omega (arith, reading_spends d (TextOf t k) offset (text_part d t offset k) refl)
 
 onward_spends : {X Y : Type 0} (n q : ℕ) (to : Y → Option ℕ) (spans : List Span) (r : Result X Halt) (f : X → Reads Y)
     (next : X → ℕ) → total spans ≤ n - q → ((x : X) → r ≡ Ok x → total spans + (n - next x) ≤ n - q)
@@ -87,13 +76,11 @@ pub spends : {X : Type 0} (d : List ℕ) (to : X → Option ℕ) (q : ℕ) (t : 
 spends d to q (done x) h = omega (arith, not_before_left (length d) q (to x) h)
 spends d to q (refuse e) h = omega arith
 spends d to q (field order offset k f) h =
-    onward_spends (length d) q to (span_of d offset k) (number_at d order offset k) (λ v. layout_reads d (f v))
-    (λ _. offset + k)
+    onward_spends (length d) q to (span_of d offset k) _ _ (λ _. offset + k)
     (omega (arith, h.0, total_there d offset k)) (λ v _. omega (arith, h.0, total_there d offset k))
     (λ v _. spends d to (offset + k) (f v) (h.1 v))
 spends d to q (reading r offset f) h =
-    onward_spends (length d) q to (read_of d r offset).marks (read_of d r offset).answer (λ bs. layout_reads d (f bs))
-    (λ bs. offset + passed r bs)
+    onward_spends (length d) q to (read_of d r offset).marks _ _ (λ bs. offset + passed r bs)
     (omega (arith, h.0, reading_left d r offset)) (λ bs is. omega (arith, h.0, reading_spends d r offset bs is))
     (λ bs _. spends d to (offset + passed r bs) (f bs) (h.1 bs))
 spends d to q (begin_record t) h = spends d to q t h
@@ -116,33 +103,15 @@ verdict_left n to (Ok (Decided x)) r is = let same : r ≡ Ok x = cc in ap (left
 verdict_left n to (Ok (Next v offset)) r is = absurd cc
 verdict_left n to (Err e) r is = let same : r ≡ Err e = cc in ap (left n to) same
 
--- a chain of records that do spends the bytes from its first offset on
-pub chain_spends : {C X : Type 0} (c : Chain C X) (d : List ℕ) (to : X → Option ℕ) → Advances c d
-    → ((t : Along C) → Spends (length d) t.offset (said_to to) (next_record c d t))
-    → Spends (length d) c.first to (chain_at c d)
-chain_spends {C} {X} c d to adv each = chain_induction c d (λ t. Spends (length d) t.offset to (chain_from c d t)) adv
-    (λ t v offset is later.
-    let u : Along C = record { held = t.held ++ v ∷ []; offset = offset } in
-    let next = chain_next c d t v offset adv is in
-    let all : total (chain_from c d t).marks ≡ total (next_record c d t).marks + total (chain_from c d u).marks =
-    ap (λ w. total w.marks) next ∙ total-append (next_record c d t).marks (chain_from c d u).marks in
-    let same : left (length d) to (chain_from c d t).answer ≡ left (length d) to (chain_from c d u).answer =
-    ap (λ w. left (length d) to w.answer) next in
-    let here : left (length d) (said_to to) (next_record c d t).answer ≡ length d - offset =
-    ap (left (length d) (said_to to)) is in
-    omega (arith, each t))
-    (λ t r is.
-    let last = chain_stop c d t r is in
-    let all : total (chain_from c d t).marks ≡ total (next_record c d t).marks = ap (λ w. total w.marks) last in
-    let same : left (length d) to (chain_from c d t).answer ≡ left (length d) to r =
-    ap (λ w. left (length d) to w.answer) last in
-    let here = verdict_left (length d) to (next_record c d t).answer r is in
-    omega (arith, each t))
-    (start c)
-
--- by the layouts of its records, which each go forward
+-- a chain of records that each go forward spends the bytes from its first offset on
 pub chain_onto : {C X : Type 0} (c : Chain C X) (d : List ℕ) (to : X → Option ℕ) → Advances c d
     → ((held : List C) (offset : ℕ) → Onto (said_to to) offset (c.said held offset))
     → Spends (length d) c.first to (chain_at c d)
-chain_onto c d to adv each =
-    chain_spends c d to adv (λ t. spends d (said_to to) t.offset (c.said t.held t.offset) (each t.held t.offset))
+chain_onto {C} {X} c d to adv onto = chain_induction c d (λ t. Spends (length d) t.offset to (chain_from c d t)) adv
+    (λ t v offset is later. rw (chain_next c d t v offset adv is)
+    (omega (arith, each t, later, ap (left (length d) (said_to to)) is, total-append)))
+    (λ t r is. rw (chain_stop c d t r is) (omega (arith, each t, verdict_left (length d) to (next_record c d t).answer r is)))
+    (start c)
+  where
+    each : (t : Along C) → Spends (length d) t.offset (said_to to) (next_record c d t)
+    each t = spends d (said_to to) t.offset (c.said t.held t.offset) (onto t.held t.offset)

@@ -1,56 +1,24 @@
 -- A text at the front of some bytes, and what bytes behind it change.
-use Rattle.std.proofs.Common.{◌≡◌, ℕ, suc, ◌+◌, ◌-◌, ◌<◌, ◌≤◌, min, Bool, true, false, ◌||◌, not, cond, leb, List, [], ◌∷◌, ◌++◌, length, take, drop, None, Some, refl, sym, ap, ◌∙◌, arith, append_assoc}
-use Rattle.std.proofs.lemmas.List.{length-append, length-drop, length-take, take-append-drop, take_all}
-use Rattle.std.proofs.Math.Seq.{take-append_seam}
+use Rattle.std.proofs.Common.{◌≡◌, ℕ, suc, ◌+◌, ◌-◌, ◌<◌, ◌≤◌, Bool, true, false, ◌&&◌, ◌||◌, not, cond, List, [], ◌∷◌, ◌++◌, length, take, drop, None, Some, inl, inr, one-add, refl, sym, ap, ◌∙◌, arith, append_assoc}
+use Rattle.std.proofs.lemmas.Bool.{cases_Bool, cond_both, or_parts}
+use Rattle.std.proofs.lemmas.List.{length-append, length-drop, length-take, take-append-drop, take_all, take_at, take_rest}
 use Rattle.std.proofs.lemmas.Bool.Decides.{nat_tests}
 use Rattle.std.specs.Char.{is_ascii_whitespace}
 use Rattle.std.specs.List.{list_any, position, position_or_len}
 use Rattle.imagesize_source.specs.declared.text.Text.{Text}
 use Rattle.imagesize_source.specs.declared.text.Text.TheVariants.{Line, Word}
-use Rattle.imagesize_source.specs.Text.{space_before, delimits, front_through, text_front, is_ended}
+use Rattle.imagesize_source.specs.Text.{space_before, delimits, front_through, has_begun, text_front, is_ended}
 
 -- one more byte than so many
-take-more : {b : ℕ} (n : ℕ) (bs : List ℕ) → take (1 + n + 1) (b ∷ bs) ≡ b ∷ take (n + 1) bs
-take-more {b} n bs = let same : 1 + n + 1 ≡ suc (n + 1) = omega arith in ap (λ k. take k (b ∷ bs)) same
+one_more : (n : ℕ) → 1 + n + 1 ≡ suc (n + 1)
+one_more n = omega arith
 
 -- a byte that passes is the last, and one that does not goes before the rest
 pub through-cons : (p : ℕ → Bool) (b : ℕ) (bs : List ℕ)
     → front_through p (b ∷ bs) ≡ cond (p b) (b ∷ []) (b ∷ front_through p bs)
-through-cons p b bs =
-    let Goal : Bool → Type 0 = λ is. take (cond (not is) (1 + position_or_len p bs) 0 + 1) (b ∷ bs)
-    ≡ cond is (b ∷ []) (b ∷ front_through p bs)
-    in
-    elim (p b) as Goal [ true ↦ refl | false ↦ take-more (position_or_len p bs) bs ]
-
--- what follows a byte that passes is not looked at
-through_more : (p : ℕ → Bool) (bs more : List ℕ) → list_any p bs ≡ true
-    → front_through p (bs ++ more) ≡ front_through p bs
-through_more p [] more some = absurd cc
-through_more p (b ∷ bs) more some =
-    let Goal : Bool → Type 0 = λ is. is || list_any p bs ≡ true
-    → cond is (b ∷ []) (b ∷ front_through p (bs ++ more)) ≡ cond is (b ∷ [])
-    (b ∷ front_through p bs) in
-    let cases : Goal (p b) =
-    elim (p b) as Goal [ true ↦ λ _. refl | false ↦ λ h. ap (λ xs. b ∷ xs) (through_more p bs more h) ] in
-    through-cons p b (bs ++ more) ∙ cases some ∙ sym (through-cons p b bs)
-
--- where none passes, all are before the end
-through_all : (p : ℕ → Bool) (bs : List ℕ) → list_any p bs ≡ false → front_through p bs ≡ bs
-through_all p [] none = refl
-through_all p (b ∷ bs) none =
-    let Goal : Bool → Type 0 = λ is. is || list_any p bs ≡ false → cond is (b ∷ []) (b ∷ front_through p bs) ≡ b ∷ bs in
-    let cases : Goal (p b) =
-    elim (p b) as Goal [ true ↦ λ h. absurd cc | false ↦ λ h. ap (λ xs. b ∷ xs) (through_all p bs h) ] in
-    through-cons p b bs ∙ cases none
-
--- the byte that passes is among them
-through_any : (p : ℕ → Bool) (bs : List ℕ) → list_any p (front_through p bs) ≡ list_any p bs
-through_any p [] = refl
-through_any p (b ∷ bs) =
-    let Goal : Bool → Type 0 = λ is. p b ≡ is
-    → list_any p (cond is (b ∷ []) (b ∷ front_through p bs)) ≡ is || list_any p bs in
-    let cases : Goal (p b) = elim (p b) as Goal [ true ↦ λ is. rw is refl | false ↦ λ is. rw is (through_any p bs) ] in
-    ap (list_any p) (through-cons p b bs) ∙ cases refl
+through-cons p b bs = cond_both (p b) (b ∷ []) (b ∷ front_through p bs) (λ bytes. front_through p (b ∷ bs) ≡ bytes)
+    (λ is. rw is refl)
+    (λ is. rw (is, one_more) refl)
 
 -- a line is no white space and its bytes
 pub line_front : (delimiter : ℕ) (bs : List ℕ)
@@ -58,119 +26,134 @@ pub line_front : (delimiter : ℕ) (bs : List ℕ)
 unfolding text_front
 line_front delimiter bs = refl
 
--- what stands at an offset, as a text whose bytes begin there
-cut_at : (p : ℕ → Bool) (n : ℕ) (bs : List ℕ) → List ℕ
-cut_at p n bs = take n bs ++ front_through p (drop n bs)
-
-skip-cons : (p : ℕ → Bool) (b : ℕ) (bs : List ℕ)
-    → cut_at p (position_or_len (λ x. not (p x)) (b ∷ bs)) (b ∷ bs) ≡ cond (p b)
-    (b ∷ cut_at p (position_or_len (λ x. not (p x)) bs) bs) (b ∷ front_through p bs)
-unfolding cut_at
-skip-cons p b bs =
-    let n : ℕ = position_or_len (λ x. not (p x)) bs in
-    let one : 1 + n ≡ suc n = omega arith in
-    let Goal : Bool → Type 0 = λ is. p b ≡ is
-    → cut_at p (cond (not (not is)) (1 + n) 0) (b ∷ bs) ≡ cond is (b ∷ cut_at p n bs)
-    (b ∷ front_through p bs) in
-    let cases : Goal (p b) = elim (p b) as Goal [
-      | true ↦ λ is. ap (λ k. cut_at p k (b ∷ bs)) one
-      | false ↦ λ is. through-cons p b bs
-          ∙ ap (λ test. cond test (b ∷ []) (b ∷ front_through p bs)) is
-    ] in
-    cases refl
-
-any-cons : (p : ℕ → Bool) (b : ℕ) (bs : List ℕ)
-    → list_any p (drop (position_or_len (λ x. not (p x)) (b ∷ bs)) (b ∷ bs)) ≡ cond (p b)
-    (list_any p (drop (position_or_len (λ x. not (p x)) bs) bs)) (list_any p bs)
-any-cons p b bs =
-    let n : ℕ = position_or_len (λ x. not (p x)) bs in
-    let one : 1 + n ≡ suc n = omega arith in
-    let Goal : Bool → Type 0 = λ is. p b ≡ is → list_any p (drop (cond (not (not is)) (1 + n) 0) (b ∷ bs)) ≡ cond is
-    (list_any p (drop n bs)) (list_any p bs) in
-    let cases : Goal (p b) = elim (p b) as Goal [
-      | true ↦ λ is. ap (λ k. list_any p (drop k (b ∷ bs))) one
-      | false ↦ λ is.
-          ap (λ test. test || list_any p bs) is
-    ] in
-    cases refl
-
 -- a byte of white space goes before a word, and any other begins it
 pub word_front : (b : ℕ) (bs : List ℕ)
     → text_front Word (b ∷ bs) ≡ cond (is_ascii_whitespace b) (b ∷ text_front Word bs)
     (b ∷ front_through is_ascii_whitespace bs)
-unfolding text_front cut_at
-word_front b bs = skip-cons is_ascii_whitespace b bs
+unfolding text_front
+word_front b bs = cond_both (is_ascii_whitespace b) (b ∷ text_front Word bs) (b ∷ front_through is_ascii_whitespace bs)
+    (λ bytes. text_front Word (b ∷ bs) ≡ bytes)
+    (λ is. rw (is, one-add) refl)
+    (λ is. rw (is, is, one_more) refl)
 
 pub word_ended : (b : ℕ) (bs : List ℕ) → is_ended Word (b ∷ bs) ≡ cond (is_ascii_whitespace b) (is_ended Word bs)
     (list_any is_ascii_whitespace bs)
 unfolding is_ended
-word_ended b bs = any-cons is_ascii_whitespace b bs
+word_ended b bs = cond_both (is_ascii_whitespace b) (is_ended Word bs) (list_any is_ascii_whitespace bs)
+    (λ ended. is_ended Word (b ∷ bs) ≡ ended)
+    (λ is. rw (is, one-add) refl)
+    (λ is. rw (is, is) refl)
 
 pub no_front : text_front Word [] ≡ []
 unfolding text_front
 no_front = refl
 
-no_end : is_ended Word [] ≡ false
+-- ---- a text byte by byte
+
+-- The bytes of a text up to and with the one that ends it: the first that passes after the text has begun. A byte that does not
+-- pass begins it.
+abbrev pub cut : (ℕ → Bool) → Bool → List ℕ → List ℕ
+cut p begun [] = []
+cut p begun (b ∷ bs) = b ∷ cond (begun && p b) [] (cut p (begun || not (p b)) bs)
+
+-- whether one of the bytes ends it
+abbrev pub met : (ℕ → Bool) → Bool → List ℕ → Bool
+met p begun [] = false
+met p begun (b ∷ bs) = begun && p b || met p (begun || not (p b)) bs
+
+-- whether it has begun after these bytes
+abbrev pub begins : (ℕ → Bool) → Bool → List ℕ → Bool
+begins p begun [] = begun
+begins p begun (b ∷ bs) = begins p (begun || not (p b)) bs
+
+-- whether it has begun before its first byte
+abbrev pub at_once : Text → Bool
+at_once (Line delimiter) = true
+at_once Word = false
+
+pub through_is : (p : ℕ → Bool) (bs : List ℕ) → front_through p bs ≡ cut p true bs
+through_is p [] = refl
+through_is p (b ∷ bs) = through-cons p b bs
+    ∙ elim (p b) as (λ is. cond is (b ∷ []) (b ∷ front_through p bs) ≡ b ∷ cond is [] (cut p true bs)) [
+      | true ↦ refl
+      | false ↦ ap (λ xs. b ∷ xs) (through_is p bs)
+    ]
+
+pub any_is : (p : ℕ → Bool) (bs : List ℕ) → list_any p bs ≡ met p true bs
+any_is p [] = refl
+any_is p (b ∷ bs) = ap (λ is. p b || is) (any_is p bs)
+
+pub front_is : (t : Text) (bs : List ℕ) → text_front t bs ≡ cut (delimits t) (at_once t) bs
+front_is (Line delimiter) bs = line_front delimiter bs ∙ through_is (delimits (Line delimiter)) bs
+front_is Word [] = no_front
+front_is Word (b ∷ bs) = word_front b bs
+    ∙ elim (is_ascii_whitespace b) as (λ is. cond is (b ∷ text_front Word bs) (b ∷ front_through is_ascii_whitespace bs)
+    ≡ b ∷ cut is_ascii_whitespace (not is) bs) [
+      | true ↦ ap (λ xs. b ∷ xs) (front_is Word bs)
+      | false ↦ ap (λ xs. b ∷ xs) (through_is is_ascii_whitespace bs)
+    ]
+
+pub ended_is : (t : Text) (bs : List ℕ) → is_ended t bs ≡ met (delimits t) (at_once t) bs
 unfolding is_ended
-no_end = refl
+ended_is (Line delimiter) bs = any_is (delimits (Line delimiter)) bs
+ended_is Word [] = refl
+ended_is Word (b ∷ bs) = word_ended b bs ∙ elim (is_ascii_whitespace b)
+    as (λ is. cond is (is_ended Word bs) (list_any is_ascii_whitespace bs) ≡ met is_ascii_whitespace (not is) bs)
+    [ true ↦ ended_is Word bs | false ↦ any_is is_ascii_whitespace bs ]
+
+pub begun_stays : (p : ℕ → Bool) (bs : List ℕ) → begins p true bs ≡ true
+begun_stays p [] = refl
+begun_stays p (b ∷ bs) = begun_stays p bs
+
+pub begun_is : (bs : List ℕ) → begins is_ascii_whitespace false bs ≡ has_begun bs
+begun_is [] = refl
+begun_is (b ∷ bs) = elim (is_ascii_whitespace b) as (λ is. begins is_ascii_whitespace (not is) bs ≡ not is || has_begun bs)
+    [ true ↦ begun_is bs | false ↦ begun_stays is_ascii_whitespace bs ]
 
 -- what follows the byte that ends a text is not looked at
-word_more : (bs more : List ℕ) → is_ended Word bs ≡ true → text_front Word (bs ++ more) ≡ text_front Word bs
-word_more [] more some = absurd (let no = no_end in cc)
-word_more (b ∷ bs) more some =
-    let Goal : Bool → Type 0 = λ is. cond is (is_ended Word bs) (list_any is_ascii_whitespace bs) ≡ true
-    → cond is (b ∷ text_front Word (bs ++ more)) (b ∷ front_through is_ascii_whitespace (bs ++ more))
-    ≡ cond is (b ∷ text_front Word bs)
-    (b ∷ front_through is_ascii_whitespace bs) in
-    let cases : Goal (is_ascii_whitespace b) = elim (is_ascii_whitespace b) as Goal [
-      | true ↦ λ h. ap (λ xs. b ∷ xs) (word_more bs more h)
-      | false ↦ λ h. ap (λ xs. b ∷ xs) (through_more is_ascii_whitespace bs more h)
-    ] in
-    word_front b (bs ++ more) ∙ cases (sym (word_ended b bs) ∙ some) ∙ sym (word_front b bs)
-
-pub front_more : (t : Text) (bs more : List ℕ) → is_ended t bs ≡ true → text_front t (bs ++ more) ≡ text_front t bs
-unfolding text_front is_ended
-front_more (Line delimiter) bs more some = through_more (delimits (Line delimiter)) bs more some
-front_more Word bs more some = word_more bs more some
+cut_more : (p : ℕ → Bool) (begun : Bool) (bs more : List ℕ) → met p begun bs ≡ true → cut p begun (bs ++ more) ≡ cut p begun bs
+cut_more p begun [] more some = absurd cc
+cut_more p begun (b ∷ bs) more some = (elim (begun && p b) as (λ is. is || met p (begun || not (p b)) bs ≡ true
+    → b ∷ cond is [] (cut p (begun || not (p b)) (bs ++ more)) ≡ b ∷ cond is [] (cut p (begun || not (p b)) bs)) [
+      | true ↦ λ h. refl
+      | false ↦ λ h. ap (λ xs. b ∷ xs) (cut_more p (begun || not (p b)) bs more h)
+    ]) some
 
 -- where nothing ends it, all bytes are of the text
-word_all : (bs : List ℕ) → is_ended Word bs ≡ false → text_front Word bs ≡ bs
-word_all [] none = no_front
-word_all (b ∷ bs) none =
-    let Goal : Bool → Type 0 = λ is. cond is (is_ended Word bs) (list_any is_ascii_whitespace bs) ≡ false
-    → cond is (b ∷ text_front Word bs) (b ∷ front_through is_ascii_whitespace bs) ≡ b ∷ bs in
-    let cases : Goal (is_ascii_whitespace b) = elim (is_ascii_whitespace b) as Goal [
-      | true ↦ λ h. ap (λ xs. b ∷ xs) (word_all bs h)
-      | false ↦ λ h. ap (λ xs. b ∷ xs) (through_all is_ascii_whitespace bs h)
-    ] in
-    word_front b bs ∙ cases (sym (word_ended b bs) ∙ none)
-
-pub front_all : (t : Text) (bs : List ℕ) → is_ended t bs ≡ false → text_front t bs ≡ bs
-unfolding text_front is_ended
-front_all (Line delimiter) bs none = through_all (delimits (Line delimiter)) bs none
-front_all Word bs none = word_all bs none
+cut_all : (p : ℕ → Bool) (begun : Bool) (bs : List ℕ) → met p begun bs ≡ false → cut p begun bs ≡ bs
+cut_all p begun [] none = refl
+cut_all p begun (b ∷ bs) none =
+    let parts = or_parts (begun && p b) (met p (begun || not (p b)) bs) none in
+    rw (parts.0, cut_all p (begun || not (p b)) bs parts.1) refl
 
 -- the byte that ends a text is of the text
-word_any : (bs : List ℕ) → is_ended Word (text_front Word bs) ≡ is_ended Word bs
-word_any [] = ap (is_ended Word) no_front
-word_any (b ∷ bs) =
-    let Goal : Bool → Type 0 = λ is. is_ascii_whitespace b ≡ is
-    → is_ended Word (cond is (b ∷ text_front Word bs) (b ∷ front_through is_ascii_whitespace bs))
-    ≡ cond is (is_ended Word bs)
-    (list_any is_ascii_whitespace bs) in
-    let cases : Goal (is_ascii_whitespace b) = elim (is_ascii_whitespace b) as Goal [
-      | true ↦ λ is. word_ended b (text_front Word bs) ∙ ap (λ test. cond test (is_ended Word (text_front Word bs))
-          (list_any is_ascii_whitespace (text_front Word bs))) is ∙ word_any bs
-      | false ↦ λ is. word_ended b (front_through is_ascii_whitespace bs)
-          ∙ ap (λ test. cond test (is_ended Word (front_through is_ascii_whitespace bs))
-          (list_any is_ascii_whitespace (front_through is_ascii_whitespace bs))) is ∙ through_any is_ascii_whitespace bs
-    ] in
-    ap (is_ended Word) (word_front b bs) ∙ cases refl ∙ sym (word_ended b bs)
+met_cut : (p : ℕ → Bool) (begun : Bool) (bs : List ℕ) → met p begun (cut p begun bs) ≡ met p begun bs
+met_cut p begun [] = refl
+met_cut p begun (b ∷ bs) = elim (begun && p b) as (λ is. is || met p (begun || not (p b))
+    (cond is [] (cut p (begun || not (p b)) bs)) ≡ is || met p (begun || not (p b)) bs)
+    [ true ↦ refl | false ↦ met_cut p (begun || not (p b)) bs ]
+
+-- if the first bytes do not end a text, it goes on after them
+pub goes_behind : (p : ℕ → Bool) (begun : Bool) (xs ys : List ℕ) → met p begun xs ≡ false
+    → (met p begun (xs ++ ys) ≡ met p (begins p begun xs) ys) × (cut p begun (xs ++ ys) ≡ xs ++ cut p (begins p begun xs) ys)
+goes_behind p begun [] ys none = (refl, refl)
+goes_behind p begun (x ∷ xs) ys none =
+    let parts = or_parts (begun && p x) (met p (begun || not (p x)) xs) none in
+    let rest = goes_behind p (begun || not (p x)) xs ys parts.1 in
+    rw parts.0 (rest.0, ap (λ bs. x ∷ bs) rest.1)
+
+-- ---- the texts that contracts name
+
+pub front_more : (t : Text) (bs more : List ℕ) → is_ended t bs ≡ true → text_front t (bs ++ more) ≡ text_front t bs
+front_more t bs more some = front_is t (bs ++ more)
+    ∙ cut_more (delimits t) (at_once t) bs more (sym (ended_is t bs) ∙ some) ∙ sym (front_is t bs)
+
+pub front_all : (t : Text) (bs : List ℕ) → is_ended t bs ≡ false → text_front t bs ≡ bs
+front_all t bs none = front_is t bs ∙ cut_all (delimits t) (at_once t) bs (sym (ended_is t bs) ∙ none)
 
 pub front_any : (t : Text) (bs : List ℕ) → is_ended t (text_front t bs) ≡ is_ended t bs
-unfolding text_front is_ended
-front_any (Line delimiter) bs = through_any (delimits (Line delimiter)) bs
-front_any Word bs = word_any bs
+front_any t bs =
+    rw (ended_is t (text_front t bs), ended_is t bs, front_is t bs) (met_cut (delimits t) (at_once t) bs)
 
 -- a text that is ended stays so
 pub ended_more : (t : Text) (xs ys : List ℕ) → is_ended t xs ≡ true → is_ended t (xs ++ ys) ≡ true
@@ -193,20 +176,17 @@ front_front t bs some =
     let split = front_first t bs in
     sym (front_more t (text_front t bs) split.0 (front_any t bs ∙ some)) ∙ ap (text_front t) split.1
 
--- bytes that begin with a text, where it is ended or they are as many, have it too
-pub front_same : (t : Text) (bs cs : List ℕ) → length cs ≡ length bs
+-- if no more bytes begin with the text of some bytes, they have the same text
+pub front_same : (t : Text) (bs cs : List ℕ) → length cs ≤ length bs
     → take (length (text_front t bs)) cs ≡ text_front t bs
     → text_front t cs ≡ text_front t bs
-front_same t bs cs long same = by_end (is_ended t bs) refl where
-  by_end : (is : Bool) → is_ended t bs ≡ is → text_front t cs ≡ text_front t bs
-  by_end true some =
-      let n : ℕ = length (text_front t bs) in
+front_same t bs cs few same = elim (cases_Bool (is_ended t bs)) [
+  | inl some ↦ (let n : ℕ = length (text_front t bs) in
       ap (text_front t) (sym (take-append-drop n cs)) ∙ ap (λ xs. text_front t (xs ++ drop n cs)) same
-      ∙ front_more t (text_front t bs) (drop n cs) (front_any t bs ∙ some) ∙ front_front t bs some
-  by_end false none =
-      let all : text_front t bs ≡ bs = front_all t bs none in
-      let is : cs ≡ bs = sym (take_all (length (text_front t bs)) cs (omega (arith, ap length all))) ∙ same ∙ all in
-      ap (text_front t) is
+      ∙ front_more t (text_front t bs) (drop n cs) (front_any t bs ∙ some) ∙ front_front t bs some)
+  | inr none ↦ (let all : text_front t bs ≡ bs = front_all t bs none in
+      ap (text_front t) (sym (take_all (length (text_front t bs)) cs (omega (arith, ap length all))) ∙ same ∙ all))
+]
 
 -- it is no longer than they are
 pub front_length : (t : Text) (bs : List ℕ) → length (text_front t bs) ≤ length bs
@@ -215,54 +195,28 @@ front_length t bs = let split = front_first t bs in
 
 -- where a position is found, or none is
 pub found : (p : ℕ → Bool) (bs : List ℕ) (i : ℕ) → position p bs ≡ Some i → (position_or_len p bs ≡ i) × (i < length bs)
-found p bs i is = by_test (leb (suc (position_or_len p bs)) (length bs)) refl is where
-  by_test : (test : Bool) → leb (suc (position_or_len p bs)) (length bs) ≡ test
-      → cond test (Some (position_or_len p bs)) None ≡ Some i
-      → (position_or_len p bs ≡ i) × (i < length bs)
-  by_test true below same = let at : position_or_len p bs ≡ i = cc in (at, grind (arith, nat_tests))
-  by_test false beyond same = absurd cc
+found p bs i is = grind (arith, nat_tests)
 
 pub not_found : (p : ℕ → Bool) (bs : List ℕ) → position p bs ≡ None → length bs ≤ position_or_len p bs
-not_found p bs is = by_test (leb (suc (position_or_len p bs)) (length bs)) refl is where
-  by_test : (test : Bool) → leb (suc (position_or_len p bs)) (length bs) ≡ test
-      → cond test (Some (position_or_len p bs)) None ≡ None
-      → length bs ≤ position_or_len p bs
-  by_test true below same = absurd cc
-  by_test false beyond same = grind (arith, nat_tests)
+not_found p bs is = grind (arith, nat_tests)
 
--- how long a word is, whose first byte stands there
-word_length : (bs : List ℕ) (start : ℕ) → position (λ b. not (is_ascii_whitespace b)) bs ≡ Some start
-    → length (text_front Word bs)
-    ≡ start + min (position_or_len is_ascii_whitespace (drop start bs) + 1) (length bs - start)
-unfolding text_front
-word_length bs start begins =
-    let at = found (λ b. not (is_ascii_whitespace b)) bs start begins in
-    let n : ℕ = position_or_len is_ascii_whitespace (drop start bs) + 1 in
-    ap (λ k. length (take k bs ++ front_through is_ascii_whitespace (drop k bs))) at.0
-    ∙ length-append (take start bs) (take n (drop start bs))
-    ∙ omega (arith, length-take start bs, length-take n (drop start bs), length-drop start bs, at.1)
-
--- the length of a word that ends
+-- the length of a word that ends, by the offsets of its first byte and of the white space after it
 pub word_closed : (bs : List ℕ) (start i : ℕ) → position (λ b. not (is_ascii_whitespace b)) bs ≡ Some start
     → position is_ascii_whitespace (take (length bs - start) (drop start bs)) ≡ Some i
     → start + i + 1 ≡ length (text_front Word bs)
+unfolding text_front
 word_closed bs start i begins closes =
-    let all : take (length bs - start) (drop start bs) ≡ drop start bs = take_all (length bs - start) (drop start bs)
-    (omega (arith, length-drop start bs)) in
-    let at = found is_ascii_whitespace (drop start bs) i (sym (ap (position is_ascii_whitespace) all) ∙ closes) in
-    let n = at.0 in
-    omega (
-      arith,
-      word_length bs start begins,
-      length-drop start bs,
-      at.1,
-      (found (λ b. not (is_ascii_whitespace b)) bs start begins).1,
-    )
+    let n : ℕ = position_or_len is_ascii_whitespace (drop start bs) + 1 in
+    let begin = found (λ b. not (is_ascii_whitespace b)) bs start begins in
+    let close = found is_ascii_whitespace (drop start bs) i (rw (take_rest bs start) at closes) in
+    sym (ap (λ k. length (take k bs ++ front_through is_ascii_whitespace (drop k bs))) begin.0
+    ∙ length-append (take start bs) (take n (drop start bs))
+    ∙ omega (arith, length-take start bs, length-take n (drop start bs), length-drop start bs, begin.1, close.0, close.1))
 
 -- the text is as many of the first bytes
 pub front_take : (t : Text) (bs : List ℕ) → take (length (text_front t bs)) bs ≡ text_front t bs
-front_take t bs = let split = front_first t bs in ap (take (length (text_front t bs))) (sym split.1)
-    ∙ take-append_seam (text_front t bs)
-    split.0
+front_take t bs =
+    let split = front_first t bs in
+    ap (take (length (text_front t bs))) (sym split.1) ∙ take_at (text_front t bs) split.0 (length (text_front t bs)) refl
 
 pub ruleset fronts = (line_front, front_length)

@@ -44,7 +44,8 @@ pub trait Records {
         requires { (held : List Self.Held) × keeps self.now held offset }
         ensures same { said self.new ≡ said self.old }
         ensures nears { IfOk result (λ found. Nears (S.state source.old) (S.state source.new) offset (said_at offset found)) }
-        ensures keeps { (held : List Self.Held) → keeps self.old held offset → IfOk result (λ found. KeepsOn (keeps self.new) held (said_at offset found)) }
+        ensures keeps { (held : List Self.Held) → keeps self.old held offset
+            → IfOk result (λ found. KeepsOn (keeps self.new) held (said_at offset found)) }
 
         // If the read fails, the same value can read the record again.
         ensures stays { (held : List Self.Held) → keeps self.old held offset → IfErr result (λ _. keeps self.new held offset) }
@@ -92,7 +93,8 @@ pub fn walk_on<S: Source, R: Records>(
         → Runs (S.state source.old) (S.state source.new) result
         (chain_from (chain_of first (R.said records.old)) (S.state source.old).held.input (record { held = held; offset = offset.old })) }
     ensures stands { (first : ℕ) (held : List R.Held) → R.keeps records.old held offset.old → is_faulted result ≡ true
-        → Stood (chain_of first (R.said records.old)) (λ behind. R.keeps records.new behind offset.new) (S.state source.old) (S.state source.new)
+        → Stood (chain_of first (R.said records.old)) (λ behind. R.keeps records.new behind offset.new) (S.state source.old)
+        (S.state source.new)
         (record { held = held; offset = offset.old }) offset.new }
 {
     let mut at = *offset;

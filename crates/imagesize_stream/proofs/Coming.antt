@@ -1,48 +1,39 @@
 -- What more bytes leave of what the bytes so far tell.
-use Rattle.std.proofs.Common.{◌≡◌, ℕ, ◌-◌, ◌≤◌, Bool, List, [], ◌∷◌, ◌++◌, length, take, drop, Option, Some, None, Result, Ok, Err, refl, sym, ap, ◌∙◌, subst, arith}
+use Rattle.std.proofs.Common.{◌≡◌, ℕ, ◌+◌, ◌-◌, ◌≤◌, Bool, List, [], ◌∷◌, ◌++◌, length, take, Option, Some, None, Result, Ok, refl, sym, ap, ◌∙◌, arith}
 use Rattle.std.proofs.lemmas.List.{length-append, length-take}
 use Rattle.std.specs.Result.{result_ok}
-use Rattle.imagesize.specs.Meaning.{meaning_reads}
-use Rattle.imagesize.specs.Parted.{has_texts, texts_as}
+use Rattle.imagesize.specs.Meaning.{kind_reads, meaning_reads}
+use Rattle.imagesize.specs.Parted.{has_texts, texts_as, texts_of}
 use Rattle.imagesize.specs.declared.types.ImageType.{ImageType}
 use Rattle.imagesize_pieces.proofs.Beginning.{begins_left}
-use Rattle.imagesize_pieces.specs.Stream.{Begins, Says, Streams}
-use Rattle.imagesize.specs.Meaning.{kind_reads}
+use Rattle.imagesize_pieces.specs.Standing.{Stands}
+use Rattle.imagesize_pieces.specs.Stream.{Begins, Says}
+use Rattle.imagesize_pieces.specs.declared.stand.Stand.{Stand}
 use Rattle.imagesize_source.specs.Layout.{layout_reads}
 use Rattle.imagesize_source.specs.Outcome.{stated}
-use Rattle.imagesize_stream.proofs.Hearing.{opened_behind}
-use Rattle.imagesize_stream.specs.Probe.{IfAwaiting}
+use Rattle.imagesize_source.proofs.Marks.{behind-behind}
+use Rattle.imagesize_stream.proofs.Hearing.{opened_behind, type_is}
+use Rattle.imagesize_stream.proofs.Opened.{opened_rest}
 use Rattle.imagesize_stream.specs.Steps.{Awaits, IsSteady, awaited_said, is_text}
 use Rattle.imagesize_stream.specs.Streamed.{opening}
 use Rattle.imagesize_stream.specs.declared.awaited.Awaited.{Awaited}
 use Rattle.imagesize_stream.specs.declared.front.Opening.TheVariants as opened
 use Rattle.imagesize_stream.specs.declared.stage.Stage.{Stage}
-use Rattle.imagesize_stream.specs.declared.stage.Stage.TheVariants.{Done, First, Footer, Records}
-use Rattle.imagesize_source.specs.Reading.{Reads}
+use Rattle.imagesize_stream.specs.declared.stage.Stage.TheVariants.{Records}
+use Rattle.imagesize_source.specs.Reading.{Reads, uncounted}
 use Rattle.imagesize_source.specs.declared.halt.Halt.{Halt}
 use Rattle.imagesize_stream.specs.Heard.{SizeIs, TypeIs, TypeMissing}
-use Rattle.imagesize_stream.specs.Probe.{TypeSays, texts_by}
+use Rattle.imagesize_stream.specs.Probe.{CameBy, CameTo, IfAwaiting, TypeSays, texts_by}
 use Rattle.imagesize_types.specs.declared.size.ImageSize.{ImageSize}
 
 pub type_on : (front chunk : List ℕ) (told now : ℕ) (kind : Option ImageType) → now ≡ told → TypeIs front told kind
     → TypeIs (front ++ chunk) now kind
-type_on front chunk told now kind same is d begins =
-    is d (begins_left front chunk told d (subst (λ k. Begins (front ++ chunk) k d) same begins))
+type_on front chunk told now kind same is d begins = is d (begins_left front chunk told d (rw same at begins))
 
-pub size_on : (front chunk : List ℕ) (told now : ℕ) (size : Result ImageSize Halt) → now ≡ told → SizeIs front told size
-    → SizeIs (front ++ chunk) now size
-size_on front chunk told now size same is d begins =
-    is d (begins_left front chunk told d (subst (λ k. Begins (front ++ chunk) k d) same begins))
-
-pub says_on : (front chunk : List ℕ) (told now : ℕ) (kind : Option ImageType) → now ≡ told → TypeSays front told kind
-    → TypeSays (front ++ chunk) now kind
-says_on front chunk told now None same says = tt
-says_on front chunk told now (Some type) same says = type_on front chunk told now (Some type) same says
-
-pub size_by : (front : List ℕ) (told now : ℕ) (size : Result ImageSize Halt) → now ≡ told
-    → Says front told (λ d. meaning_reads d 0) size → SizeIs front now size
-size_by front told now size same says d begins =
-    ap (λ (r : Reads ImageSize). r.answer) (says.is d (subst (λ k. Begins front k d) same begins))
+pub says_on : (front chunk : List ℕ) (told : ℕ) (kind : Option ImageType) → TypeSays front told kind
+    → TypeSays (front ++ chunk) told kind
+says_on front chunk told None says = tt
+says_on front chunk told (Some type) says = type_on front chunk told told (Some type) refl says
 
 -- a walk that begins where the first bytes say
 pub opened_came : (buffer : List ℕ) (passed start told offset : ℕ) (next : Awaited) (type : ImageType) → start ≡ 0
@@ -50,55 +41,56 @@ pub opened_came : (buffer : List ℕ) (passed start told offset : ℕ) (next : A
     → Says (take passed buffer) told (λ d. kind_reads d 0) (Ok type)
     → Says (take passed buffer) told (λ d. layout_reads d (opening type)) (Ok (opened.Records next offset))
     → is_text next ≡ has_texts type
-    → Streams 0 awaited_said (λ held. Awaits (has_texts type) next held offset) start offset told passed (take (passed - start) buffer)
-    (λ d. meaning_reads d 0) (take passed buffer)
-opened_came buffer passed start told offset next type first within steady says size texts = record {
-  held = next ∷ [];
-  known = (refl, steady, texts);
-  as_many = omega (arith, length-take passed buffer, within);
-  rest =
-      let all : passed - start ≡ passed = omega (arith, first) in
-      ap (λ k. take k buffer) all ∙ ap (λ k. drop k (take passed buffer)) (sym first);
-  before = says.marks ++ size.marks;
-  resumes = λ d begins. opened_behind (take passed buffer) told type says (opened.Records next offset) size d begins;
-}
+    → CameBy (Records next) (Some type) start offset passed told buffer (take passed buffer)
+opened_came buffer passed start told offset next type first within steady says size texts = (
+  type_is (take passed buffer) told (Ok type) says,
+  record {
+    held = next ∷ [];
+    known = (refl, steady, texts);
+    as_many = omega (arith, length-take passed buffer, within);
+    rest = let all : passed - 0 ≡ passed = omega arith in rw (first, all) refl;
+    before = says.marks ++ size.marks;
+    resumes = λ d begins.
+        opened_behind (take passed buffer) told type says (Ok (opened.Records next offset)) size d begins
+        ∙ behind-behind says.marks size.marks (uncounted (opened_rest d (opened.Records next offset)));
+  },
+)
 
 pub awaiting_all : {P : Type 0} (stage : Stage) → P → IfAwaiting stage P
-awaiting_all First p = p
-awaiting_all (Records next) p = p
-awaiting_all (Footer size) p = p
-awaiting_all (Done size) p = tt
+awaiting_all stage p = grind arith
 
 pub awaiting_map : {P Q : Type 0} (stage : Stage) → (P → Q) → IfAwaiting stage P → IfAwaiting stage Q
-awaiting_map First f p = f p
-awaiting_map (Records next) f p = f p
-awaiting_map (Footer size) f p = f p
-awaiting_map (Done size) f p = tt
-
--- the records of a walk are texts, or none is, by the type
-pub texts_over : (kind : Option ImageType) (texts : Bool) (next : Awaited) (start offset told passed : ℕ)
-    (kept : List ℕ) (whole : List ℕ → Reads ImageSize) (front : List ℕ) → is_text next ≡ texts
-    → Streams 0 awaited_said (λ held. Awaits (texts_by kind) next held offset) start offset told passed kept whole front
-    → (texts_by kind ≡ texts)
-    × Streams 0 awaited_said (λ held. Awaits texts next held offset) start offset told passed kept whole front
-texts_over kind texts next start offset told passed kept whole front is came =
-    let same : texts_by kind ≡ texts = sym came.known.2 ∙ is in (
-      same,
-      subst (λ t. Streams 0 awaited_said (λ held. Awaits t next held offset) start offset told passed kept whole front)
-          same came,
-    )
-
-pub texts_back : (kind : Option ImageType) (texts : Bool) (next : Awaited) (start offset told passed : ℕ)
-    (kept : List ℕ) (whole : List ℕ → Reads ImageSize) (front : List ℕ) → texts_by kind ≡ texts
-    → Streams 0 awaited_said (λ held. Awaits texts next held offset) start offset told passed kept whole front
-    → Streams 0 awaited_said (λ held. Awaits (texts_by kind) next held offset) start offset told passed kept whole front
-texts_back kind texts next start offset told passed kept whole front same came =
-    subst (λ t. Streams 0 awaited_said (λ held. Awaits t next held offset) start offset told passed kept whole front)
-    (sym same) came
+awaiting_map stage f p = grind arith
 
 pub texts_stated : (r : Result ImageType Halt) → texts_as (stated r) ≡ texts_by (result_ok r)
-texts_stated (Ok type) = refl
-texts_stated (Err e) = refl
+texts_stated r = grind arith
+
+-- whether an input has texts is known by its type
+pub texts_known : (kind : Option ImageType) (front d : List ℕ) (told : ℕ) → TypeIs front told kind → Begins front told d
+    → texts_by kind ≡ texts_of d
+texts_known kind front d told type begins = ap texts_by (sym (type d begins)) ∙ sym (texts_stated (kind_reads d 0).answer)
+
+-- the records of a walk are texts, or none is, by the type
+module _ (kind : Option ImageType) (texts : Bool) (next : Awaited) (old : Stand) (buffer front chunk : List ℕ)
+    (is : is_text next ≡ texts) (came : CameTo (Records next) kind old buffer front) where
+  pub texts_same : texts_by kind ≡ texts
+  texts_same = sym came.1.known.2 ∙ is
+
+  pub stands : Stands 0 awaited_said (λ held offset. Awaits texts next held offset) old buffer (λ d. meaning_reads d 0) front
+  stands = rw texts_same at came.1
+
+  -- where the walk ends
+  pub walked : (now : ℕ) (size : Result ImageSize Halt) → now ≡ old.told → old.passed + length chunk ≤ old.told
+      → Says (front ++ chunk) old.told (λ d. meaning_reads d 0) size
+      → TypeIs (front ++ chunk) now kind × SizeIs (front ++ chunk) now size × (length (front ++ chunk) ≤ now)
+  walked now size same fits says = (
+    type_on front chunk old.told now kind same came.0,
+    λ d begins. ap (λ (r : Reads ImageSize). r.answer) (says.is d (rw same at begins)),
+    omega (arith, came.1.as_many, length-append front chunk, fits, same),
+  )
+
+  pub texts_are : (d : List ℕ) → Begins (front ++ chunk) old.told d → texts ≡ texts_of d
+  texts_are d begins = sym texts_same ∙ texts_known kind front d old.told came.0 (begins_left front chunk old.told d begins)
 
 -- where no more bytes come, a type that was missing still is
 pub missing_on : (image : Option ImageType) (front none : List ℕ) (told : ℕ) → length none ≡ 0

@@ -1,5 +1,5 @@
 -- What a chunk that ends before the next record leaves.
-use Rattle.std.proofs.Common.{◌≡◌, ℕ, suc, leb, ◌+◌, ◌-◌, ◌<◌, min, max, Bool, true, ◌&&◌, List, [], ◌∷◌, ◌++◌, length, Option, refl, sym, ap, ◌∙◌, subst, arith}
+use Rattle.std.proofs.Common.{◌≡◌, ℕ, suc, leb, ◌+◌, ◌-◌, ◌<◌, min, max, Bool, true, ◌&&◌, List, [], ◌∷◌, ◌++◌, length, Option, refl, sym, ap, subst, arith}
 use Rattle.std.proofs.lemmas.Bool.Decides.{nat_tests}
 use Rattle.std.proofs.lemmas.List.{length-append}
 use Rattle.std.specs.List.{list_any}
@@ -33,13 +33,13 @@ first_any d offset n (done x) first P here = absurd first
 first_any d offset n (refuse e) first P here = absurd first
 first_any d offset n (field order p k f) first P here =
     onward_any (span_of d p k) (number_read d order p k).answer (λ v. layout_reads d (f v)) P
-    (ap (λ q. list_any P (span_of d q k)) first.0 ∙ ap (λ m. list_any P (span_of d offset m)) first.1 ∙ here)
+    (rw (first.0, first.1) here)
 first_any d offset n (reading (AllOf k) p f) first P here =
     onward_any (span_of d p k) (read_of d (AllOf k) p).answer (λ bs. layout_reads d (f bs)) P
-    (ap (λ q. list_any P (span_of d q k)) first.0 ∙ ap (λ m. list_any P (span_of d offset m)) first.1 ∙ here)
+    (rw (first.0, first.1) here)
 first_any d offset n (reading (PartOf k) p f) first P here =
     onward_any (span_of d p k) (read_of d (PartOf k) p).answer (λ bs. layout_reads d (f bs)) P
-    (ap (λ q. list_any P (span_of d q k)) first.0 ∙ ap (λ m. list_any P (span_of d offset m)) first.1 ∙ here)
+    (rw (first.0, first.1) here)
 first_any d offset n (reading (TextOf t k) p f) first P here = absurd first
 first_any d offset n (begin_record t) first P here = first_any d offset n t first P here
 

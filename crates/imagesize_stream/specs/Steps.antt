@@ -1,5 +1,5 @@
 -- The record that a stream waits for, as one sequence for all formats whose size is in records.
-use Rattle.std.specs.Prelude.{◌≡◌, ℕ, ◌+◌, ◌-◌, ◌*◌, ◌++◌, length, take, replicate, ◌<◌, ◌≤◌, ◌==◌, Bool, true, false, List, Option, None, Some, Result, Err, codes, ok_or, unwrap_or, if◌then◌else◌}
+use Rattle.std.specs.Prelude.{◌≡◌, ℕ, ◌+◌, ◌-◌, ◌*◌, ◌++◌, length, take, replicate, ◌<◌, ◌≤◌, ◌==◌, Bool, true, false, List, Option, None, Some, Result, Err, IfOk, codes, ok_or, unwrap_or, if◌then◌else◌}
 use Rattle.std.specs.Coded.{Unit-prop, le_prop, ×_prop}
 use Rattle.std.specs.List.{last_or}
 use Rattle.std.specs.Str.{trim}
@@ -9,7 +9,9 @@ use Rattle.imagesize_source.specs.Layout.Layout.{field, «done»}
 use Rattle.imagesize_source.specs.declared.halt.Halt.{Halt}
 use Rattle.imagesize_source.specs.declared.halt.Halt.TheVariants.{Corrupted, Ended, NoDimensionsInIfd}
 use Rattle.imagesize_source.specs.Reading.{map_answer}
-use Rattle.imagesize_source.specs.Walk.{chain_of}
+use Rattle.imagesize_source.specs.Paying.{Nears}
+use Rattle.imagesize_source.specs.State.{State, Follows}
+use Rattle.imagesize_source.specs.Walk.{chain_of, said_at}
 use Rattle.imagesize_source.specs.declared.text.Text.{Text}
 use Rattle.imagesize_source.specs.declared.text.Text.TheVariants as text
 use Rattle.imagesize_source.specs.declared.walk.Found.{Found}
@@ -244,3 +246,15 @@ StaysSteady texts (Next next offset) = IsSteady next offset × (is_text next ≡
 -- `next` is the record after those that hold these
 abbrev pub Awaits : Bool → Awaited → List Awaited → ℕ → Type 0
 Awaits texts next held offset = (last_awaited held ≡ next) × IsSteady next offset × (is_text next ≡ texts)
+
+-- What was found at an offset led the walk nearer to its end. `next` is the record after it.
+abbrev pub LeadsNearer : Awaited → ℕ → State → State → Result (Found (Unit {0}) ImageSize) Halt → Type 0
+LeadsNearer next offset a b r = IfOk (leading_to next r) (λ found. Nears a b offset (said_at offset found))
+
+-- what then holds of that record
+abbrev pub LeadsSteady : Bool → Awaited → ℕ → Result (Found (Unit {0}) ImageSize) Halt → Type 0
+LeadsSteady texts next offset r = IfOk (leading_to next r) (λ found. StaysSteady texts (said_at offset found))
+
+-- a call read the record `now`, and `next` is the one after it
+abbrev pub ReadsStep : Awaited → Awaited → ℕ → State → State → Result (Found (Unit {0}) ImageSize) Halt → Type 0
+ReadsStep now next offset a b r = Follows a b (map_answer (said_at offset) (leading_to next r)) (step now offset)

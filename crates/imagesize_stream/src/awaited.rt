@@ -1,12 +1,12 @@
 //! The record that a stream waits for, in each format whose size is in records.
 ghost use Rattle.std.specs.Prelude.{◌≡◌, ℕ, ◌<◌, ◌≤◌, length, [], true, false, IfErr, IfOk, IfSome};
 ghost use Rattle.imagesize_source.specs.Layout.{bind};
-ghost use Rattle.imagesize_source.specs.Paying.{Nears, Paid};
+ghost use Rattle.imagesize_source.specs.Paying.{Paid};
 ghost use Rattle.imagesize_source.specs.Reading.{is_stopped, map_answer, number_read};
 ghost use Rattle.imagesize_source.specs.State.{Follows, Runs};
 ghost use Rattle.imagesize_source.specs.Walk.{said_at};
 ghost use Rattle.imagesize_stream.specs.Skips.{ReadsFirst, ReadsText};
-ghost use Rattle.imagesize_stream.specs.Steps.{IsSmall, IsSteady, StaysSteady, after, decides, ends_with, first_text, is_text, kept_of, leading_to, names_of, reach_at, step, word_leads};
+ghost use Rattle.imagesize_stream.specs.Steps.{IsSmall, IsSteady, LeadsNearer, LeadsSteady, ReadsStep, after, decides, ends_with, first_text, is_text, kept_of, leading_to, names_of, reach_at, step, word_leads};
 ghost use Rattle.imagesize_texts.specs.Texts.{read_word_of};
 ghost use Rattle.imagesize_walked.specs.Tiff.{entry_bytes, head_bytes, value_bytes};
 ghost use Rattle.imagesize_stream.specs.declared.awaited.Awaited.TheVariants as awaited;
@@ -175,10 +175,10 @@ impl Awaited {
         buffer: &mut [u8; WORD_ROOM],
     ) -> Result<Found<(), ImageSize>, Halt>
         requires { is_text self.old ≡ true }
-        ensures nears { IfOk (leading_to self.new result) (λ found. Nears (S.state source.old) (S.state source.new) offset (said_at offset found)) }
-        ensures steady { IfOk (leading_to self.new result) (λ found. StaysSteady true (said_at offset found)) }
+        ensures nears { LeadsNearer self.new offset (S.state source.old) (S.state source.new) result }
+        ensures steady { LeadsSteady true self.new offset result }
         ensures stays { IfErr result (λ _. self.new ≡ self.old) }
-        ensures runs { Follows (S.state source.old) (S.state source.new) (map_answer (said_at offset) (leading_to self.new result)) (step self.old offset) }
+        ensures runs { ReadsStep self.old self.new offset (S.state source.old) (S.state source.new) result }
     {
         match *self {
             Awaited::Attribute { long } => read_attribute(source, offset, long, buffer),
@@ -199,10 +199,10 @@ impl Awaited {
     ) -> Result<Found<(), ImageSize>, Halt>
         requires steady { IsSteady self.old offset }
         requires other { is_text self.old ≡ false }
-        ensures nears { IfOk (leading_to self.new result) (λ found. Nears (S.state source.old) (S.state source.new) offset (said_at offset found)) }
-        ensures steady { IfOk (leading_to self.new result) (λ found. StaysSteady false (said_at offset found)) }
+        ensures nears { LeadsNearer self.new offset (S.state source.old) (S.state source.new) result }
+        ensures steady { LeadsSteady false self.new offset result }
         ensures stays { IfErr result (λ _. self.new ≡ self.old) }
-        ensures runs { Follows (S.state source.old) (S.state source.new) (map_answer (said_at offset) (leading_to self.new result)) (step self.old offset) }
+        ensures runs { ReadsStep self.old self.new offset (S.state source.old) (S.state source.new) result }
     {
         match self {
             Awaited::Segment { depth } => read_segment(depth, source, offset),
@@ -248,8 +248,9 @@ fn read_same<R: Records<Held = (), Answer = ImageSize>, S: Source>(
     offset: u64,
 ) -> Result<Found<(), ImageSize>, Halt>
     requires keeps { R.keeps records.old [] offset }
-    ensures nears { (next : Awaited) → IfOk (leading_to next result) (λ found. Nears (S.state source.old) (S.state source.new) offset (said_at offset found)) }
-    ensures runs { (next : Awaited) → Follows (S.state source.old) (S.state source.new) (map_answer (said_at offset) (leading_to next result))
+    ensures nears { (next : Awaited) → LeadsNearer next offset (S.state source.old) (S.state source.new) result }
+    ensures runs { (next : Awaited)
+        → Follows (S.state source.old) (S.state source.new) (map_answer (said_at offset) (leading_to next result))
         (bind (R.said records.old [] offset) (after (λ _. next) decides)) }
 {
     records.read_record(source, offset)
@@ -261,10 +262,11 @@ fn read_segment<S: Source>(
     offset: u64,
 ) -> Result<Found<(), ImageSize>, Halt>
     requires { depth.old < offset }
-    ensures nears { IfOk (leading_to (awaited.Segment depth.new) result) (λ found. Nears (S.state source.old) (S.state source.new) offset (said_at offset found)) }
-    ensures steady { IfOk (leading_to (awaited.Segment depth.new) result) (λ found. StaysSteady false (said_at offset found)) }
+    ensures nears { LeadsNearer (awaited.Segment depth.new) offset (S.state source.old) (S.state source.new) result }
+    ensures steady { LeadsSteady false (awaited.Segment depth.new) offset result }
     ensures stays { IfErr result (λ _. depth.new ≡ depth.old) }
-    ensures runs { Follows (S.state source.old) (S.state source.new) (map_answer (said_at offset) (leading_to (awaited.Segment depth.new) result)) (step (awaited.Segment depth.old) offset) }
+    ensures runs { ReadsStep (awaited.Segment depth.old) (awaited.Segment depth.new) offset (S.state source.old) (S.state source.new)
+        result }
 {
     let mut segments = Segments { depth: *depth };
     match segments.read_segment(source, offset)? {
@@ -282,9 +284,9 @@ fn read_attribute<S: Source>(
     long: bool,
     buffer: &mut [u8; WORD_ROOM],
 ) -> Result<Found<(), ImageSize>, Halt>
-    ensures nears { IfOk (leading_to (awaited.Attribute long) result) (λ found. Nears (S.state source.old) (S.state source.new) offset (said_at offset found)) }
-    ensures steady { IfOk (leading_to (awaited.Attribute long) result) (λ found. StaysSteady true (said_at offset found)) }
-    ensures runs { Follows (S.state source.old) (S.state source.new) (map_answer (said_at offset) (leading_to (awaited.Attribute long) result)) (step (awaited.Attribute long) offset) }
+    ensures nears { LeadsNearer (awaited.Attribute long) offset (S.state source.old) (S.state source.new) result }
+    ensures steady { LeadsSteady true (awaited.Attribute long) offset result }
+    ensures runs { ReadsStep (awaited.Attribute long) (awaited.Attribute long) offset (S.state source.old) (S.state source.new) result }
 {
     exr::read_attribute(source, offset, names_of(long), buffer)
 }
@@ -311,9 +313,9 @@ fn read_line<S: Source>(
     offset: u64,
     buffer: &mut [u8; WORD_ROOM],
 ) -> Result<Found<(), ImageSize>, Halt>
-    ensures nears { IfOk (leading_to awaited.Line result) (λ found. Nears (S.state source.old) (S.state source.new) offset (said_at offset found)) }
-    ensures steady { IfOk (leading_to awaited.Line result) (λ found. StaysSteady true (said_at offset found)) }
-    ensures runs { Follows (S.state source.old) (S.state source.new) (map_answer (said_at offset) (leading_to awaited.Line result)) (step awaited.Line offset) }
+    ensures nears { LeadsNearer awaited.Line offset (S.state source.old) (S.state source.new) result }
+    ensures steady { LeadsSteady true awaited.Line offset result }
+    ensures runs { ReadsStep awaited.Line awaited.Line offset (S.state source.old) (S.state source.new) result }
 {
     hdr::read_line(source, offset, &mut buffer[..LINE_ROOM])
 }
@@ -325,10 +327,10 @@ fn read_word<S: Source>(
     offset: u64,
     buffer: &mut [u8; WORD_ROOM],
 ) -> Result<Found<(), ImageSize>, Halt>
-    ensures nears { IfOk (leading_to next.new result) (λ found. Nears (S.state source.old) (S.state source.new) offset (said_at offset found)) }
-    ensures steady { IfOk (leading_to next.new result) (λ found. StaysSteady true (said_at offset found)) }
+    ensures nears { LeadsNearer next.new offset (S.state source.old) (S.state source.new) result }
+    ensures steady { LeadsSteady true next.new offset result }
     ensures stays { IfErr result (λ _. next.new ≡ next.old) }
-    ensures runs { Follows (S.state source.old) (S.state source.new) (map_answer (said_at offset) (leading_to next.new result)) (step awaited.Word offset) }
+    ensures runs { ReadsStep awaited.Word next.new offset (S.state source.old) (S.state source.new) result }
 {
     let word = util::read_word(source, offset, buffer)?;
     *next = behind_word(&word);
@@ -366,10 +368,10 @@ fn read_comment<S: Source>(
     offset: u64,
     buffer: &mut [u8; WORD_ROOM],
 ) -> Result<Found<(), ImageSize>, Halt>
-    ensures nears { IfOk (leading_to next.new result) (λ found. Nears (S.state source.old) (S.state source.new) offset (said_at offset found)) }
-    ensures steady { IfOk (leading_to next.new result) (λ found. StaysSteady true (said_at offset found)) }
+    ensures nears { LeadsNearer next.new offset (S.state source.old) (S.state source.new) result }
+    ensures steady { LeadsSteady true next.new offset result }
     ensures stays { IfErr result (λ _. next.new ≡ next.old) }
-    ensures runs { Follows (S.state source.old) (S.state source.new) (map_answer (said_at offset) (leading_to next.new result)) (step awaited.Comment offset) }
+    ensures runs { ReadsStep awaited.Comment next.new offset (S.state source.old) (S.state source.new) result }
 {
     let taken = util::pass_line_capped(source, offset, b'\n', buffer)?;
     *next = Awaited::Word;
@@ -386,9 +388,9 @@ fn read_height<S: Source>(
     width: Option<usize>,
     buffer: &mut [u8; WORD_ROOM],
 ) -> Result<Found<(), ImageSize>, Halt>
-    ensures nears { IfOk (leading_to (awaited.Height width) result) (λ found. Nears (S.state source.old) (S.state source.new) offset (said_at offset found)) }
-    ensures steady { IfOk (leading_to (awaited.Height width) result) (λ found. StaysSteady true (said_at offset found)) }
-    ensures runs { Follows (S.state source.old) (S.state source.new) (map_answer (said_at offset) (leading_to (awaited.Height width) result)) (step (awaited.Height width) offset) }
+    ensures nears { LeadsNearer (awaited.Height width) offset (S.state source.old) (S.state source.new) result }
+    ensures steady { LeadsSteady true (awaited.Height width) offset result }
+    ensures runs { ReadsStep (awaited.Height width) (awaited.Height width) offset (S.state source.old) (S.state source.new) result }
 {
     let word = util::read_word(source, offset, buffer)?;
     let size = size_if_known(width, util::number(word.text.trim()));
@@ -405,10 +407,11 @@ fn read_icon<S: Source>(
 ) -> Result<Found<(), ImageSize>, Halt>
     requires seen { seen.old ≤ count }
     requires small { IsSmall largest.old }
-    ensures nears { IfOk (leading_to (awaited.Icon count seen.new largest.new) result) (λ found. Nears (S.state source.old) (S.state source.new) offset (said_at offset found)) }
-    ensures steady { IfOk (leading_to (awaited.Icon count seen.new largest.new) result) (λ found. StaysSteady false (said_at offset found)) }
+    ensures nears { LeadsNearer (awaited.Icon count seen.new largest.new) offset (S.state source.old) (S.state source.new) result }
+    ensures steady { LeadsSteady false (awaited.Icon count seen.new largest.new) offset result }
     ensures stays { IfErr result (λ _. (seen.new ≡ seen.old) × (largest.new ≡ largest.old)) }
-    ensures runs { Follows (S.state source.old) (S.state source.new) (map_answer (said_at offset) (leading_to (awaited.Icon count seen.new largest.new) result)) (step (awaited.Icon count seen.old largest.old) offset) }
+    ensures runs { ReadsStep (awaited.Icon count seen.old largest.old) (awaited.Icon count seen.new largest.new) offset
+        (S.state source.old) (S.state source.new) result }
 {
     let mut icons = Icons {
         count,
@@ -432,10 +435,10 @@ fn read_directory<S: Source>(
     offset: u64,
     header: Header,
 ) -> Result<Found<(), ImageSize>, Halt>
-    ensures nears { IfOk (leading_to next.new result) (λ found. Nears (S.state source.old) (S.state source.new) offset (said_at offset found)) }
-    ensures steady { IfOk (leading_to next.new result) (λ found. StaysSteady false (said_at offset found)) }
+    ensures nears { LeadsNearer next.new offset (S.state source.old) (S.state source.new) result }
+    ensures steady { LeadsSteady false next.new offset result }
     ensures stays { IfErr result (λ _. next.new ≡ next.old) }
-    ensures runs { Follows (S.state source.old) (S.state source.new) (map_answer (said_at offset) (leading_to next.new result)) (step (awaited.Directory header) offset) }
+    ensures runs { ReadsStep (awaited.Directory header) next.new offset (S.state source.old) (S.state source.new) result }
 {
     let count = match header.version {
         Version::Tiff => read_short(source, offset, header.order)?,
@@ -480,10 +483,10 @@ fn read_entry<S: Source>(
     offset: u64,
 ) -> Result<Found<(), ImageSize>, Halt>
     requires { listed.old.seen ≤ listed.old.count }
-    ensures nears { IfOk (leading_to (awaited.Entry listed.new) result) (λ found. Nears (S.state source.old) (S.state source.new) offset (said_at offset found)) }
-    ensures steady { IfOk (leading_to (awaited.Entry listed.new) result) (λ found. StaysSteady false (said_at offset found)) }
+    ensures nears { LeadsNearer (awaited.Entry listed.new) offset (S.state source.old) (S.state source.new) result }
+    ensures steady { LeadsSteady false (awaited.Entry listed.new) offset result }
     ensures stays { IfErr result (λ _. listed.new ≡ listed.old) }
-    ensures runs { Follows (S.state source.old) (S.state source.new) (map_answer (said_at offset) (leading_to (awaited.Entry listed.new) result)) (step (awaited.Entry listed.old) offset) }
+    ensures runs { ReadsStep (awaited.Entry listed.old) (awaited.Entry listed.new) offset (S.state source.old) (S.state source.new) result }
 {
     match listed.header.version {
         Version::Tiff => read_entry_of::<S, 8, 4>(listed, source, offset),
@@ -500,10 +503,10 @@ fn read_entry_of<S: Source, const HEAD: usize, const VALUE: usize>(
     requires few { listed.old.seen ≤ listed.old.count }
     requires head { HEAD ≡ head_bytes listed.old.header.version }
     requires value { VALUE ≡ value_bytes listed.old.header.version }
-    ensures nears { IfOk (leading_to (awaited.Entry listed.new) result) (λ found. Nears (S.state source.old) (S.state source.new) offset (said_at offset found)) }
-    ensures steady { IfOk (leading_to (awaited.Entry listed.new) result) (λ found. StaysSteady false (said_at offset found)) }
+    ensures nears { LeadsNearer (awaited.Entry listed.new) offset (S.state source.old) (S.state source.new) result }
+    ensures steady { LeadsSteady false (awaited.Entry listed.new) offset result }
     ensures stays { IfErr result (λ _. listed.new ≡ listed.old) }
-    ensures runs { Follows (S.state source.old) (S.state source.new) (map_answer (said_at offset) (leading_to (awaited.Entry listed.new) result)) (step (awaited.Entry listed.old) offset) }
+    ensures runs { ReadsStep (awaited.Entry listed.old) (awaited.Entry listed.new) offset (S.state source.old) (S.state source.new) result }
 {
     let found = tiff::read_next::<S, HEAD, VALUE>(
         source,
@@ -526,10 +529,10 @@ fn read_meta<S: Source>(
     source: &mut S,
     offset: u64,
 ) -> Result<Found<(), ImageSize>, Halt>
-    ensures nears { IfOk (leading_to next.new result) (λ found. Nears (S.state source.old) (S.state source.new) offset (said_at offset found)) }
-    ensures steady { IfOk (leading_to next.new result) (λ found. StaysSteady false (said_at offset found)) }
+    ensures nears { LeadsNearer next.new offset (S.state source.old) (S.state source.new) result }
+    ensures steady { LeadsSteady false next.new offset result }
     ensures stays { IfErr result (λ _. next.new ≡ next.old) }
-    ensures runs { Follows (S.state source.old) (S.state source.new) (map_answer (said_at offset) (leading_to next.new result)) (step awaited.Meta offset) }
+    ensures runs { ReadsStep awaited.Meta next.new offset (S.state source.old) (S.state source.new) result }
 {
     match read_box(source, offset, b"meta")? {
         Found::Answer(_) => {
@@ -553,10 +556,10 @@ fn read_iprp<S: Source>(
     source: &mut S,
     offset: u64,
 ) -> Result<Found<(), ImageSize>, Halt>
-    ensures nears { IfOk (leading_to next.new result) (λ found. Nears (S.state source.old) (S.state source.new) offset (said_at offset found)) }
-    ensures steady { IfOk (leading_to next.new result) (λ found. StaysSteady false (said_at offset found)) }
+    ensures nears { LeadsNearer next.new offset (S.state source.old) (S.state source.new) result }
+    ensures steady { LeadsSteady false next.new offset result }
     ensures stays { IfErr result (λ _. next.new ≡ next.old) }
-    ensures runs { Follows (S.state source.old) (S.state source.new) (map_answer (said_at offset) (leading_to next.new result)) (step awaited.Iprp offset) }
+    ensures runs { ReadsStep awaited.Iprp next.new offset (S.state source.old) (S.state source.new) result }
 {
     match read_box(source, offset, b"iprp")? {
         Found::Answer(_) => {
@@ -579,10 +582,10 @@ fn read_ipco<S: Source>(
     source: &mut S,
     offset: u64,
 ) -> Result<Found<(), ImageSize>, Halt>
-    ensures nears { IfOk (leading_to next.new result) (λ found. Nears (S.state source.old) (S.state source.new) offset (said_at offset found)) }
-    ensures steady { IfOk (leading_to next.new result) (λ found. StaysSteady false (said_at offset found)) }
+    ensures nears { LeadsNearer next.new offset (S.state source.old) (S.state source.new) result }
+    ensures steady { LeadsSteady false next.new offset result }
     ensures stays { IfErr result (λ _. next.new ≡ next.old) }
-    ensures runs { Follows (S.state source.old) (S.state source.new) (map_answer (said_at offset) (leading_to next.new result)) (step awaited.Ipco offset) }
+    ensures runs { ReadsStep awaited.Ipco next.new offset (S.state source.old) (S.state source.new) result }
 {
     match read_box(source, offset, b"ipco")? {
         Found::Answer(ipco) => {
@@ -610,10 +613,11 @@ fn read_listed<S: Source>(
     source: &mut S,
     offset: u64,
 ) -> Result<Found<(), ImageSize>, Halt>
-    ensures nears { IfOk (leading_to (awaited.Property gathered.new) result) (λ found. Nears (S.state source.old) (S.state source.new) offset (said_at offset found)) }
-    ensures steady { IfOk (leading_to (awaited.Property gathered.new) result) (λ found. StaysSteady false (said_at offset found)) }
+    ensures nears { LeadsNearer (awaited.Property gathered.new) offset (S.state source.old) (S.state source.new) result }
+    ensures steady { LeadsSteady false (awaited.Property gathered.new) offset result }
     ensures stays { IfErr result (λ _. gathered.new ≡ gathered.old) }
-    ensures runs { Follows (S.state source.old) (S.state source.new) (map_answer (said_at offset) (leading_to (awaited.Property gathered.new) result)) (step (awaited.Property gathered.old) offset) }
+    ensures runs { ReadsStep (awaited.Property gathered.old) (awaited.Property gathered.new) offset (S.state source.old)
+        (S.state source.new) result }
 {
     let Some(property) = heif::read_property(source, offset, gathered.left)? else {
         return Ok(Found::Answer(heif::answer(*gathered)?));
@@ -642,10 +646,10 @@ fn read_jxl_box<S: Source>(
     offset: u64,
 ) -> Result<Found<(), ImageSize>, Halt>
     requires { kept.old.len ≤ 16 }
-    ensures nears { IfOk (leading_to (awaited.Box kept.new) result) (λ found. Nears (S.state source.old) (S.state source.new) offset (said_at offset found)) }
-    ensures steady { IfOk (leading_to (awaited.Box kept.new) result) (λ found. StaysSteady false (said_at offset found)) }
+    ensures nears { LeadsNearer (awaited.Box kept.new) offset (S.state source.old) (S.state source.new) result }
+    ensures steady { LeadsSteady false (awaited.Box kept.new) offset result }
     ensures stays { IfErr result (λ _. kept.new ≡ kept.old) }
-    ensures runs { Follows (S.state source.old) (S.state source.new) (map_answer (said_at offset) (leading_to (awaited.Box kept.new) result)) (step (awaited.Box kept.old) offset) }
+    ensures runs { ReadsStep (awaited.Box kept.old) (awaited.Box kept.new) offset (S.state source.old) (S.state source.new) result }
 {
     let mut front = Front::of(kept.bytes, kept.len);
     match jxl::boxes::read_box(source, offset, &front)? {

@@ -52,7 +52,8 @@ pub struct StreamProbe {
     // How many of the first kept bytes do not end the text that is next.
     searched: usize,
     ghost holds: { HoldsAt stage stand } by { holds_prop stage stand.start stand.offset stand.passed },
-    ghost pending: { SearchedBy stage searched (stand.passed - stand.start) buffer } by { searched_prop stage searched (stand.passed - stand.start) buffer },
+    ghost pending: { SearchedBy stage searched (stand.passed - stand.start) buffer } by { searched_prop stage searched
+        (stand.passed - stand.start) buffer },
 }
 
 impl StreamProbe {
@@ -91,7 +92,8 @@ impl StreamProbe {
         ensures idle { IfSome (answer_of self.old) (λ _. KeepsNothing self.old self.new) }
 
         // For each list of bytes that may have arrived before:
-        ensures goes_on { (front : List ℕ) → Came self.old front → Came self.new (front ++ take (told_of self.old - length front) chunk.now) }
+        ensures goes_on { (front : List ℕ) → Came self.old front
+            → Came self.new (front ++ take (told_of self.old - length front) chunk.now) }
 
         // The result holds for every input that begins with these bytes and is no longer than the reported length.
         ensures says { (front : List ℕ) → Came self.old front → IfSome result (λ answer. (d : List ℕ)
@@ -158,10 +160,12 @@ impl StreamProbe {
             ≡ self.old.stand.passed + length (take (self.old.stand.told - self.old.stand.passed) chunk.now)) }
         ensures keeps { IfSome (answer_of self.old) (λ answer. answer_of self.new ≡ Some answer) }
         ensures idle { IfSome (answer_of self.old) (λ _. KeepsNothing self.old self.new) }
-        ensures goes_on { (front : List ℕ) → Came self.old front → Came self.new (front ++ take (told_of self.old - length front) chunk.now) }
+        ensures goes_on { (front : List ℕ) → Came self.old front
+            → Came self.new (front ++ take (told_of self.old - length front) chunk.now) }
         ensures complete { IfAwaiting self.new.stage ((front : List ℕ) → Came self.old front
             → RestsOnMore (front ++ take (told_of self.old - length front) chunk.now) (told_of self.old)) }
-        ensures whole { IfAwaiting self.new.stage ((front : List ℕ) → Came self.old front → told_of self.old ≤ length front + length chunk.now → ⊥) }
+        ensures whole { IfAwaiting self.new.stage ((front : List ℕ) → Came self.old front
+            → told_of self.old ≤ length front + length chunk.now → ⊥) }
         ensures typed { (front : List ℕ) → Came self.old front
             → TypedBy self.new.stage self.new.kind (front ++ take (told_of self.old - length front) chunk.now) (told_of self.old) }
 
@@ -185,10 +189,12 @@ impl StreamProbe {
             ≡ self.old.stand.passed + length (take (self.old.stand.told - self.old.stand.passed) chunk.now)) }
         ensures keeps { IfSome (answer_of self.old) (λ answer. answer_of self.new ≡ Some answer) }
         ensures idle { IfSome (answer_of self.old) (λ _. KeepsNothing self.old self.new) }
-        ensures goes_on { (front : List ℕ) → Came self.old front → Came self.new (front ++ take (told_of self.old - length front) chunk.now) }
+        ensures goes_on { (front : List ℕ) → Came self.old front
+            → Came self.new (front ++ take (told_of self.old - length front) chunk.now) }
         ensures complete { IfAwaiting self.new.stage ((front : List ℕ) → Came self.old front
             → RestsOnMore (front ++ take (told_of self.old - length front) chunk.now) (told_of self.old)) }
-        ensures whole { IfAwaiting self.new.stage ((front : List ℕ) → Came self.old front → told_of self.old ≤ length front + length chunk.now → ⊥) }
+        ensures whole { IfAwaiting self.new.stage ((front : List ℕ) → Came self.old front
+            → told_of self.old ≤ length front + length chunk.now → ⊥) }
         ensures typed { (front : List ℕ) → Came self.old front
             → TypedBy self.new.stage self.new.kind (front ++ take (told_of self.old - length front) chunk.now) (told_of self.old) }
 
@@ -226,10 +232,12 @@ impl StreamProbe {
             ≡ self.old.stand.passed + length (take (self.old.stand.told - self.old.stand.passed) chunk.now)) }
         ensures keeps { IfSome (answer_of self.old) (λ answer. answer_of self.new ≡ Some answer) }
         ensures idle { IfSome (answer_of self.old) (λ _. KeepsNothing self.old self.new) }
-        ensures goes_on { (front : List ℕ) → Came self.old front → Came self.new (front ++ take (told_of self.old - length front) chunk.now) }
+        ensures goes_on { (front : List ℕ) → Came self.old front
+            → Came self.new (front ++ take (told_of self.old - length front) chunk.now) }
         ensures complete { IfAwaiting self.new.stage ((front : List ℕ) → Came self.old front
             → RestsOnMore (front ++ take (told_of self.old - length front) chunk.now) (told_of self.old)) }
-        ensures whole { IfAwaiting self.new.stage ((front : List ℕ) → Came self.old front → told_of self.old ≤ length front + length chunk.now → ⊥) }
+        ensures whole { IfAwaiting self.new.stage ((front : List ℕ) → Came self.old front
+            → told_of self.old ≤ length front + length chunk.now → ⊥) }
         ensures typed { (front : List ℕ) → Came self.old front
             → TypedBy self.new.stage self.new.kind (front ++ take (told_of self.old - length front) chunk.now) (told_of self.old) }
 
@@ -276,7 +284,8 @@ impl StreamProbe {
         ensures stays { result ≡ false → self.new ≡ self.old }
         ensures open { result ≡ true → answer_of self.old ≡ None }
         ensures none { result ≡ true → answer_of self.new ≡ None }
-        ensures goes_on { result ≡ true → (front : List ℕ) → Came self.old front → Came self.new (front ++ take (told_of self.old - length front) chunk.now) }
+        ensures goes_on { result ≡ true → (front : List ℕ) → Came self.old front
+            → Came self.new (front ++ take (told_of self.old - length front) chunk.now) }
         ensures complete { result ≡ true → (front : List ℕ) → Came self.old front
             → RestsOnMore (front ++ take (told_of self.old - length front) chunk.now) (told_of self.old) }
         ensures whole { result ≡ true → (front : List ℕ) → Came self.old front → told_of self.old ≤ length front + length chunk.now → ⊥ }
@@ -300,7 +309,8 @@ impl StreamProbe {
         ensures ahead { result ≡ true → IsAhead self.new.stage self.new.stand }
         ensures passed { result ≡ true → self.new.stand.passed
             ≡ self.old.stand.passed + length (take (self.old.stand.told - self.old.stand.passed) chunk.now) }
-        ensures goes_on { result ≡ true → (front : List ℕ) → Came self.old front → Came self.new (front ++ take (told_of self.old - length front) chunk.now) }
+        ensures goes_on { result ≡ true → (front : List ℕ) → Came self.old front
+            → Came self.new (front ++ take (told_of self.old - length front) chunk.now) }
         ensures complete { result ≡ true → (front : List ℕ) → Came self.old front
             → RestsOnMore (front ++ take (told_of self.old - length front) chunk.now) (told_of self.old) }
         ensures whole { result ≡ true → (front : List ℕ) → Came self.old front → told_of self.old ≤ length front + length chunk.now → ⊥ }

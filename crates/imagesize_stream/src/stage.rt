@@ -91,7 +91,8 @@ pub(crate) fn walk(
     // For each list of bytes that may have arrived before:
     ensures goes_on { (kind : Option ImageType) (front : List ℕ) → CameTo (stage.Records next.old) kind stand.old buffer.old front
         → CameTo (stage_after next.new result) kind stand.new buffer.new (front ++ chunk.now) }
-    ensures complete { IfAwaiting (stage_after next.new result) ((kind : Option ImageType) (front : List ℕ) → CameTo (stage.Records next.old) kind stand.old buffer.old front
+    ensures complete { IfAwaiting (stage_after next.new result) ((kind : Option ImageType) (front : List ℕ)
+        → CameTo (stage.Records next.old) kind stand.old buffer.old front
         → RestsOnMore (front ++ chunk.now) stand.old.told) }
     ensures marked { (kind : Option ImageType) (front : List ℕ) → CameTo (stage.Records next.old) kind stand.old buffer.old front
         → RestsOnNext (stage_after next.new result) stand.new (front ++ chunk.now) stand.old.told }
@@ -123,7 +124,8 @@ fn walk_from(next: Awaited, stand: &mut Stand, buffer: &mut [u8; ROOM], chunk: &
     // For each list of bytes that may have arrived before:
     ensures goes_on { (kind : Option ImageType) (front : List ℕ) → CameTo (stage.Records next) kind stand.old buffer.old front
         → CameTo result kind stand.new buffer.new (front ++ chunk.now) }
-    ensures complete { IfAwaiting result ((kind : Option ImageType) (front : List ℕ) → CameTo (stage.Records next) kind stand.old buffer.old front
+    ensures complete { IfAwaiting result ((kind : Option ImageType) (front : List ℕ)
+        → CameTo (stage.Records next) kind stand.old buffer.old front
         → RestsOnMore (front ++ chunk.now) stand.old.told) }
     ensures marked { (kind : Option ImageType) (front : List ℕ) → CameTo (stage.Records next) kind stand.old buffer.old front
         → RestsOnNext result stand.new (front ++ chunk.now) stand.old.told }
@@ -157,7 +159,8 @@ fn walk_texts(
     // For each list of bytes that may have arrived before:
     ensures goes_on { (kind : Option ImageType) (front : List ℕ) → CameTo (stage.Records next.old) kind stand.old buffer.old front
         → CameTo (stage_after next.new result) kind stand.new buffer.new (front ++ chunk.now) }
-    ensures complete { IfAwaiting (stage_after next.new result) ((kind : Option ImageType) (front : List ℕ) → CameTo (stage.Records next.old) kind stand.old buffer.old front
+    ensures complete { IfAwaiting (stage_after next.new result) ((kind : Option ImageType) (front : List ℕ)
+        → CameTo (stage.Records next.old) kind stand.old buffer.old front
         → RestsOnMore (front ++ chunk.now) stand.old.told) }
     ensures marked { (kind : Option ImageType) (front : List ℕ) → CameTo (stage.Records next.old) kind stand.old buffer.old front
         → RestsOnNext (stage_after next.new result) stand.new (front ++ chunk.now) stand.old.told }

@@ -1,7 +1,8 @@
 -- EXR: how a walk along its attributes goes, how many bytes they are read from, and what it sees of an input.
-use Rattle.std.proofs.Common.{◌≡◌, ℕ, suc, ◌+◌, ◌-◌, ◌*◌, ◌<◌, ◌≤◌, Bool, cond, eqb, List, [], ◌∷◌, ◌++◌, length, take, Option, Some, None, Ok, true, false, refl, sym, ap, ◌∙◌, arith, slice_index_or}
+use Rattle.std.proofs.Common.{drop, ◌≡◌, ℕ, ◌+◌, ◌-◌, ◌<◌, ◌≤◌, Bool, cond, eqb, List, [], ◌∷◌, length, take, Option, Some, None, true, false, refl, sym, ap, ◌∙◌, arith, slice_index_or}
 use Rattle.std.proofs.lemmas.Bool.{and_parts}
-use Rattle.std.proofs.Math.Seq.{drop-cons}
+use Rattle.std.proofs.Math.Nat.{add-zero}
+use Rattle.std.proofs.lemmas.List.{get_or-drop, length-drop}
 use Rattle.std.proofs.lemmas.Bool.Decides.{nat_tests}
 use Rattle.std.specs.Prelude.{◌&&◌}
 use Rattle.std.specs.Int.{w32, cast_signed, from_le_bytes}
@@ -9,10 +10,9 @@ use Rattle.imagesize_types.specs.Head.{four_at}
 use Rattle.imagesize_types.specs.declared.size.ImageSize.{ImageSize}
 use Rattle.imagesize_source.specs.declared.halt.Halt.TheVariants.{DataWindowNotFound, Ended}
 use Rattle.imagesize_source.specs.declared.endian.Endian.TheVariants.{Little}
-use Rattle.imagesize_source.specs.Agreement.{IsLocal}
 use Rattle.imagesize_source.specs.Chain.{Said, Decided, Next, Along, Advances, chain_at, next_record, start}
 use Rattle.imagesize_source.specs.Counts.{AtMost}
-use Rattle.imagesize_source.specs.Extension.{Plain, Lasts}
+use Rattle.imagesize_source.specs.Extension.{Plain}
 use Rattle.imagesize_source.specs.Layout.{Layout, layout_reads, bytes, done, refuse}
 use Rattle.imagesize_source.specs.Numbers.{number}
 use Rattle.imagesize_source.specs.Reading.{number_read, refuses, uncounted}
@@ -25,29 +25,25 @@ use Rattle.imagesize_source.proofs.Agreement.{local_then, local_number, with_tex
 use Rattle.imagesize_source.proofs.Numbers.{little_4}
 use Rattle.imagesize_source.proofs.Spends.{said_to}
 use Rattle.imagesize_source.proofs.Tests.{on_test}
-use Rattle.imagesize_source.proofs.Way.{RecordedLaws}
+use Rattle.imagesize_source.proofs.Way.{RecordedLaws, answers_last}
 use Rattle.imagesize_texts.specs.Exr.{exr, exr_attributes, exr_attribute, exr_named, exr_typed, exr_value, exr_window, name_room, window_size, is_data_window, is_box, signed_at}
 use Rattle.imagesize_texts.specs.Texts.{line_at}
-use Rattle.imagesize_texts.proofs.Texts.{line_total, line_onto, line_plain, line_tells, line_begins, line_beyond, lasts_then, number_lasts}
+use Rattle.imagesize_texts.proofs.Texts.{lasts_then, line_made, number_lasts, text_begins, text_beyond, text_onto, text_plain, text_tells, text_total}
 
 -- the four bytes of a number
+first_four : (bs : List ℕ) → 4 ≤ length bs
+    → slice_index_or bs 0 0 ∷ slice_index_or bs 1 0 ∷ slice_index_or bs 2 0 ∷ slice_index_or bs 3 0 ∷ [] ≡ take 4 bs
+first_four (a ∷ b ∷ c ∷ d ∷ rest) all = refl
+first_four few all = absurd (omega arith)
+
 four_bytes : (bs : List ℕ) (offset : ℕ) → offset + 4 ≤ length bs
     → slice_index_or bs offset 0 ∷ slice_index_or bs (offset + 1) 0
     ∷ slice_index_or bs (offset + 2) 0 ∷ slice_index_or bs (offset + 3) 0 ∷ [] ≡ four_at offset bs
 four_bytes bs offset all =
-    let at : ℕ → ℕ = λ i. slice_index_or bs i 0 in
-    let one : suc offset ≡ offset + 1 = omega arith in
-    let two : suc (suc offset) ≡ offset + 2 = omega arith in
-    let three : suc (suc (suc offset)) ≡ offset + 3 = omega arith in
-    let first = drop-cons bs offset 0 (omega arith) in
-    let second = drop-cons bs (suc offset) 0 (omega arith) in
-    let third = drop-cons bs (suc (suc offset)) 0 (omega arith) in
-    let fourth = drop-cons bs (suc (suc (suc offset))) 0 (omega arith) in
-    sym (ap (take 4) (first ∙ ap (λ rest. at offset ∷ rest) (second ∙ ap (λ rest. at (suc offset) ∷ rest)
-    (third ∙ ap (λ rest. at (suc (suc offset)) ∷ rest) fourth)))
-    ∙ ap (λ i. at offset ∷ at i ∷ at (suc (suc offset)) ∷ at (suc (suc (suc offset))) ∷ []) one
-    ∙ ap (λ i. at offset ∷ at (offset + 1) ∷ at i ∷ at (suc (suc (suc offset))) ∷ []) two
-    ∙ ap (λ i. at offset ∷ at (offset + 1) ∷ at (offset + 2) ∷ at i ∷ []) three)
+    let none : slice_index_or bs offset 0 ≡ slice_index_or (drop offset bs) 0 0 =
+    ap (λ n. slice_index_or bs n 0) (sym (add-zero offset)) ∙ sym (get_or-drop offset bs 0 0) in
+    rw (← get_or-drop offset bs 1 0, ← get_or-drop offset bs 2 0, ← get_or-drop offset bs 3 0, none)
+    (first_four (drop offset bs) (omega (arith, length-drop offset bs)))
 
 pub signed_four : (bs : List ℕ) (offset : ℕ) → length bs ≡ 16 → offset ≤ 12
     → cast_signed w32 (from_le_bytes w32
@@ -92,70 +88,22 @@ value_behind name type_name = length name + 1 + (length type_name + 1) + 4
 
 -- an attribute tells an offset behind its own
 pub attribute_tells : (buffer offset : ℕ) → Tells (λ p. offset < p) (exr_attribute buffer offset)
-attribute_tells buffer offset = line_tells 0 offset buffer (exr_named buffer offset) (λ p. offset < p)
-    (λ name. by_name (Tells (λ p. offset < p)) buffer offset name tt
-    (line_tells 0 (offset + (length name + 1)) buffer (exr_typed offset name) (λ p. offset < p)
-    (λ type_name size. by_value (Tells (λ p. offset < p)) offset (value_behind name type_name)
+attribute_tells buffer offset = text_tells (line_made 0 buffer) offset (exr_named buffer offset) (λ p. offset < p)
+    (λ name _. by_name (Tells (λ p. offset < p)) buffer offset name tt
+    (text_tells (line_made 0 buffer) (offset + (length name + 1)) (exr_typed offset name) (λ p. offset < p)
+    (λ type_name _ size. by_value (Tells (λ p. offset < p)) offset (value_behind name type_name)
     (is_data_window name && is_box type_name) size
     (λ bs. by_window (Tells (λ p. offset < p)) offset (value_behind name type_name) (window_size bs) (λ size. tt)
     (omega arith))
     (omega arith))))
 
 pub attribute_begins : (buffer offset : ℕ) → Begins offset (exr_attribute buffer offset)
-attribute_begins buffer offset = line_begins 0 offset buffer (exr_named buffer offset) offset (omega arith)
+attribute_begins buffer offset = text_begins (line_made 0 buffer) offset (exr_named buffer offset) offset (omega arith)
 
 pub attribute_advances : (buffer : ℕ) (d : List ℕ) → Advances (exr_attributes buffer) d
 attribute_advances buffer =
     advances (exr_attributes buffer) (λ passed offset. attribute_tells buffer offset)
     (λ passed offset. attribute_begins buffer offset)
-
-pub exr_local : IsLocal true exr
-exr_local = local_then (λ d. number_read d Little 4 4) (λ version d. chain_at (exr_attributes (name_room version)) d)
-    (local_number Little 4 4)
-    (λ version. local_chain (exr_attributes (name_room version)) (attribute_advances (name_room version))
-    (λ passed offset. with_texts ((exr_attributes (name_room version)).said passed offset)))
-
--- bytes behind an EXR change no answer that was given, nor its marks
-pub exr_keeps : Lasts exr
-exr_keeps = lasts_then (λ d. number_read d Little 4 4) (λ version d. chain_at (exr_attributes (name_room version)) d)
-    (number_lasts Little 4 4)
-    (λ version. lasts_chain (exr_attributes (name_room version)) (attribute_advances (name_room version))
-    (λ passed offset. line_plain 0 offset (name_room version) (exr_named (name_room version) offset)
-    (λ name. by_name Plain (name_room version) offset name tt
-    (line_plain 0 (offset + (length name + 1)) (name_room version) (exr_typed offset name)
-    (λ type_name size. by_value Plain offset (value_behind name type_name) (is_data_window name && is_box type_name) size
-    (λ bs. by_window Plain offset (value_behind name type_name) (window_size bs) (λ size. tt) tt) tt)))))
-
-pub exr_lasts : (d x : List ℕ) (size : ImageSize) → (exr d).answer ≡ Ok size → (exr (d ++ x)).answer ≡ Ok size
-exr_lasts d x size is = ap (λ r. r.answer) (exr_keeps d x size is) ∙ is
-
-attributes_within : (buffer : ℕ) (d : List ℕ) → total (chain_at (exr_attributes buffer) d).marks ≤ length d
-attributes_within buffer d =
-    let most = chain_ahead (exr_attributes buffer) d (attribute_advances buffer d)
-    (λ passed offset. line_onto 0 offset buffer (exr_named buffer offset) (said_to (λ _. None)) offset (omega arith)
-    (λ name. by_name (Ahead (offset + (length name + 1))) buffer offset name tt
-    (line_onto 0 (offset + (length name + 1)) buffer (exr_typed offset name) (said_to (λ _. None))
-    (offset + (length name + 1)) (omega arith)
-    (λ type_name. (
-      omega arith,
-      λ size. by_value (Ahead (offset + (length name + 1 + (length type_name + 1)) + 4)) offset
-          (value_behind name type_name)
-          (is_data_window name && is_box type_name) size (
-            omega arith,
-            λ bs. by_window (Ahead (offset + value_behind name type_name + 16)) offset (value_behind name type_name)
-                (window_size bs) (λ size. tt) (omega arith),
-          )
-          (omega arith),
-    ))))) in
-    omega arith
-
--- with its type it is read from at most 28 bytes more than the input has: version and attributes from at most 4 more
-pub exr_within : (d : List ℕ) → 12 + total (exr d).marks ≤ length d + 28
-exr_within d = omega (
-  arith,
-  then_within (number_read d Little 4 4) (λ version. chain_at (exr_attributes (name_room version)) d) 4
-      (length d) (total-span_of d 4 4) (λ version _. attributes_within (name_room version) d),
-)
 
 -- a value is read from 16 bytes or none
 value_at_most : (offset taken : ℕ) (is_window : Bool) (size : ℕ)
@@ -178,9 +126,9 @@ name_and_window name is_type few = on_test (λ n. n + (length name + 1) ≤ 256)
 -- an attribute is read from at most 530 bytes
 attribute_cost : (d : List ℕ) (buffer offset : ℕ) → buffer ≤ 256
     → total (layout_reads d (exr_attribute buffer offset)).marks ≤ 530
-attribute_cost d buffer offset few = line_total 0 offset buffer (exr_named buffer offset) d 530 (omega arith)
+attribute_cost d buffer offset few = text_total (line_made 0 buffer) offset (exr_named buffer offset) d 530 (omega arith)
     (λ name long. by_name (λ t. length name + 1 + total (layout_reads d t).marks ≤ 530) buffer offset name (omega arith)
-    (let rest = line_total 0 (offset + (length name + 1)) buffer (exr_typed offset name) d (530 - (length name + 1))
+    (let rest = text_total (line_made 0 buffer) (offset + (length name + 1)) (exr_typed offset name) d (530 - (length name + 1))
     (omega arith)
     (λ type_name short.
     let is_window : Bool = is_data_window name && is_box type_name in
@@ -195,23 +143,66 @@ attribute_cost d buffer offset few = line_total 0 offset buffer (exr_named buffe
     omega arith) in
     omega arith))
 
-pub exr_cost : (d : List ℕ) → 12 + total (exr d).marks ≤ 16 + 530 * (exr d).begun
-exr_cost d = omega (
-  arith,
-  bounded_then 530 4 0 (number_read d Little 4 4) (λ version. chain_at (exr_attributes (name_room version)) d)
-      (omega (arith, total-span_of d 4 4)) (λ version _. attributes_cost version),
-) where
-  attributes_cost : (version : ℕ) → Bounded 0 530 (chain_at (exr_attributes (name_room version)) d)
-  attributes_cost version =
-      let each : (t : Along (Unit {0})) → Bounded 0 530 (next_record (exr_attributes (name_room version)) d t) =
-      λ t. omega (arith, attribute_cost d (name_room version) t.offset (buffer_few version)) in
-      chain_bounded (exr_attributes (name_room version)) d (attribute_advances (name_room version) d) 530 (λ _. 0)
-      (λ t v offset is. omega (arith, each t)) each (start (exr_attributes (name_room version)))
+attributes_cost : (d : List ℕ) (version : ℕ) → Bounded 0 530 (chain_at (exr_attributes (name_room version)) d)
+attributes_cost d version =
+    let each : (t : Along (Unit {0})) → Bounded 0 530 (next_record (exr_attributes (name_room version)) d t) =
+    λ t. omega (arith, attribute_cost d (name_room version) t.offset (buffer_few version)) in
+    chain_bounded (exr_attributes (name_room version)) d (attribute_advances (name_room version) d) 530 (λ _. 0)
+    (λ t v offset is. omega (arith, each t)) each (start (exr_attributes (name_room version)))
 
+attribute_ahead : (buffer offset : ℕ) → Ahead offset (exr_attribute buffer offset)
+attribute_ahead buffer offset =
+    text_onto (line_made 0 buffer) offset (exr_named buffer offset) (said_to (λ _. None)) offset (omega arith)
+    (λ name. by_name (Ahead (offset + (length name + 1))) buffer offset name tt
+    (text_onto (line_made 0 buffer) (offset + (length name + 1)) (exr_typed offset name) (said_to (λ _. None))
+    (offset + (length name + 1)) (omega arith)
+    (λ type_name. (
+      omega arith,
+      λ size. by_value (Ahead (offset + (length name + 1 + (length type_name + 1)) + 4)) offset
+          (value_behind name type_name)
+          (is_data_window name && is_box type_name) size (
+            omega arith,
+            λ bs. by_window (Ahead (offset + value_behind name type_name + 16)) offset (value_behind name type_name)
+                (window_size bs) (λ size. tt) (omega arith),
+          )
+          (omega arith),
+    ))))
+
+attribute_plain : (buffer offset : ℕ) → Plain (exr_attribute buffer offset)
+attribute_plain buffer offset = text_plain (line_made 0 buffer) offset (exr_named buffer offset)
+    (λ name. by_name Plain buffer offset name tt
+    (text_plain (line_made 0 buffer) (offset + (length name + 1)) (exr_typed offset name)
+    (λ type_name size. by_value Plain offset (value_behind name type_name) (is_data_window name && is_box type_name) size
+    (λ bs. by_window Plain offset (value_behind name type_name) (window_size bs) (λ size. tt) tt) tt)))
+
+-- With its type it is read from at most 28 bytes more than the input has: version and attributes from at most 4 more.
 pub exr_laws : RecordedLaws 12 16 530 true true exr
-exr_laws = record { local = exr_local; cost = exr_cost; within = exr_within; lasts = λ _. exr_lasts }
+exr_laws = record {
+  local = local_then (λ d. number_read d Little 4 4) (λ version d. chain_at (exr_attributes (name_room version)) d)
+      (local_number Little 4 4)
+      (λ version. local_chain (exr_attributes (name_room version)) (attribute_advances (name_room version))
+      (λ passed offset. with_texts ((exr_attributes (name_room version)).said passed offset)));
+  cost = λ d. omega (
+    arith,
+    bounded_then 530 4 0 (number_read d Little 4 4) (λ version. chain_at (exr_attributes (name_room version)) d)
+        (omega (arith, total-span_of d 4 4)) (λ version _. attributes_cost d version),
+  );
+  within = λ d. omega (
+    arith,
+    then_within (number_read d Little 4 4) (λ version. chain_at (exr_attributes (name_room version)) d) 4 (length d)
+        (total-span_of d 4 4) (λ version _. omega (
+          arith,
+          chain_ahead (exr_attributes (name_room version)) d
+              (attribute_advances (name_room version) d) (λ passed offset. attribute_ahead (name_room version) offset),
+        )),
+  );
+  lasts = λ _. answers_last exr (lasts_then (λ d. number_read d Little 4 4)
+      (λ version d. chain_at (exr_attributes (name_room version)) d) (number_lasts Little 4 4)
+      (λ version. lasts_chain (exr_attributes (name_room version)) (attribute_advances (name_room version))
+      (λ passed offset. attribute_plain (name_room version) offset)));
+}
 
 -- from the end of the input on there is no attribute
 pub exr_ends : (d : List ℕ) (buffer offset : ℕ) → 0 < buffer → length d ≤ offset
     → uncounted (layout_reads d (exr_attribute buffer offset)) ≡ refuses Ended
-exr_ends d buffer offset some h = ap uncounted (line_beyond d 0 offset buffer (exr_named buffer offset) h some)
+exr_ends d buffer offset some h = ap uncounted (text_beyond (line_made 0 buffer) offset (exr_named buffer offset) d h some)

@@ -1,13 +1,12 @@
 -- HDR: how a walk along its lines goes, how many bytes they are read from, and what it sees of an input.
-use Rattle.std.proofs.Common.{◌≡◌, ◌≢◌, ℕ, ◌+◌, ◌<◌, ◌≤◌, List, [], ◌∷◌, ◌++◌, length, Some, None, true, Ok, refl, ap, ◌∙◌, arith}
+use Rattle.std.proofs.Common.{◌≡◌, ◌≢◌, ℕ, ◌+◌, ◌<◌, ◌≤◌, List, [], ◌∷◌, length, Some, None, true, refl, ap, arith}
 use Rattle.std.proofs.lemmas.Bool.Decides.{nat_tests}
 use Rattle.imagesize_types.specs.declared.size.ImageSize.{ImageSize}
 use Rattle.imagesize_source.specs.declared.halt.Halt.{Halt}
 use Rattle.imagesize_source.specs.declared.halt.Halt.TheVariants.{Ended, InvalidHdrIdentifier}
 use Rattle.imagesize_source.specs.Reading.{refuses, uncounted}
-use Rattle.imagesize_source.specs.Agreement.{IsLocal}
 use Rattle.imagesize_source.specs.Chain.{Said, Decided, Next, Advances, chain_at}
-use Rattle.imagesize_source.specs.Extension.{Plain, Lasts}
+use Rattle.imagesize_source.specs.Extension.{Plain}
 use Rattle.imagesize_source.specs.Layout.{Layout, layout_reads, done, refuse, accept}
 use Rattle.imagesize_source.specs.State.{total}
 use Rattle.imagesize_source.proofs.Advances.{Begins, Tells, advances}
@@ -17,10 +16,10 @@ use Rattle.imagesize_source.proofs.Agreement.{local_then, local_layout, with_tex
 use Rattle.imagesize_source.proofs.Extension.{more}
 use Rattle.imagesize_source.proofs.Spends.{Onto, said_to, spends, spends_then, chain_onto}
 use Rattle.imagesize_source.proofs.Tests.{on_test}
-use Rattle.imagesize_source.proofs.Way.{TextsLaws}
+use Rattle.imagesize_source.proofs.Way.{TextsLaws, answers_last}
 use Rattle.imagesize_texts.specs.Texts.{line_at}
 use Rattle.imagesize_texts.specs.Hdr.{hdr, hdr_identifier, check_identifier, hdr_lines, hdr_line, is_identifier, is_resolution, resolution, second_and_fourth}
-use Rattle.imagesize_texts.proofs.Texts.{found_by, line_onto, line_plain, line_tells, line_begins, line_beyond, lasts_then}
+use Rattle.imagesize_texts.proofs.Texts.{found_by, lasts_then, line_made, text_begins, text_beyond, text_onto, text_plain, text_tells}
 
 -- what holds of each line
 by_line : (P : Layout (Said (Unit {0}) ImageSize) → Type 0) (offset : ℕ) (text : List ℕ)
@@ -41,54 +40,48 @@ by_identifier P text is none =
 
 -- a line tells an offset behind its own
 pub hdr_tells : (offset : ℕ) → Tells (λ p. offset < p) (line_at 0x0A offset 256 (hdr_line offset))
-hdr_tells offset = line_tells 0x0A offset 256 (hdr_line offset) (λ p. offset < p)
-    (λ text. by_line (Tells (λ p. offset < p)) offset text
+hdr_tells offset = text_tells (line_made 0x0A 256) offset (hdr_line offset) (λ p. offset < p)
+    (λ text _. by_line (Tells (λ p. offset < p)) offset text
     (λ size. tt) (λ e. tt) (omega arith))
 
 pub hdr_begins : (offset : ℕ) → Begins offset (line_at 0x0A offset 256 (hdr_line offset))
-hdr_begins offset = line_begins 0x0A offset 256 (hdr_line offset) offset (omega arith)
+hdr_begins offset = text_begins (line_made 0x0A 256) offset (hdr_line offset) offset (omega arith)
 
 pub hdr_advances : (first : ℕ) (d : List ℕ) → Advances (hdr_lines first) d
 hdr_advances first = advances (hdr_lines first) (λ passed offset. hdr_tells offset) (λ passed offset. hdr_begins offset)
 
-pub hdr_local : IsLocal true hdr
-hdr_local = local_then (λ d. layout_reads d hdr_identifier) (λ first d. chain_at (hdr_lines first) d)
-    (local_layout hdr_identifier (with_texts hdr_identifier))
-    (λ first. local_chain (hdr_lines first) (hdr_advances first)
-    (λ passed offset. with_texts ((hdr_lines first).said passed offset)))
-
--- bytes behind an HDR change no answer that was given, nor its marks
-pub hdr_keeps : Lasts hdr
-hdr_keeps = lasts_then (λ d. layout_reads d hdr_identifier) (λ first d. chain_at (hdr_lines first) d)
-    (λ d x first is. more d x hdr_identifier first
-    (line_plain 0x0A 0 11 check_identifier (λ text. by_identifier Plain text tt tt)) is)
-    (λ first. lasts_chain (hdr_lines first) (hdr_advances first)
-    (λ passed offset. line_plain 0x0A offset 256 (hdr_line offset)
-    (λ text. by_line Plain offset text (λ size. tt) (λ e. tt) tt)))
-
-pub hdr_lasts : (d x : List ℕ) (size : ImageSize) → (hdr d).answer ≡ Ok size → (hdr (d ++ x)).answer ≡ Ok size
-hdr_lasts d x size is = ap (λ r. r.answer) (hdr_keeps d x size is) ∙ is
-
 -- the lines are read from at most the bytes of the input
-pub hdr_within : (d : List ℕ) → total (hdr d).marks ≤ length d
-hdr_within d =
-    let all = spends_then (length d) 0 (λ first. first) (λ _. None) (layout_reads d hdr_identifier)
-    (λ first. chain_at (hdr_lines first) d)
-    (spends d (λ first. Some first) 0 hdr_identifier
-    (line_onto 0x0A 0 11 check_identifier (λ first. Some first) 0 (omega arith)
-    (λ text. by_identifier (Onto (λ first. Some first) (0 + (length text + 1))) text (omega arith) tt)))
-    (λ first _. chain_onto (hdr_lines first) d (λ _. None) (hdr_advances first d)
-    (λ passed offset. line_onto 0x0A offset 256 (hdr_line offset) (said_to (λ _. None)) offset (omega arith)
-    (λ text. by_line (Ahead (offset + (length text + 1))) offset text (λ size. tt) (λ e. tt) (omega arith)))) in
-    omega arith
+hdr_within : (d : List ℕ) → total (hdr d).marks ≤ length d
+hdr_within d = omega (
+  arith,
+  spends_then (length d) 0 (λ first. first) (λ _. None) (layout_reads d hdr_identifier) (λ first. chain_at (hdr_lines first) d)
+      (spends d (λ first. Some first) 0 hdr_identifier
+      (text_onto (line_made 0x0A 11) 0 check_identifier (λ first. Some first) 0 (omega arith)
+      (λ text. by_identifier (Onto (λ first. Some first) (0 + (length text + 1))) text (omega arith) tt)))
+      (λ first _. chain_onto (hdr_lines first) d (λ _. None) (hdr_advances first d)
+      (λ passed offset. text_onto (line_made 0x0A 256) offset (hdr_line offset) (said_to (λ _. None)) offset (omega arith)
+      (λ text. by_line (Ahead (offset + (length text + 1))) offset text (λ size. tt) (λ e. tt) (omega arith)))),
+)
 
 pub hdr_laws : TextsLaws 12 true true hdr
-hdr_laws = record { local = hdr_local; within = λ d. omega (arith, hdr_within d); lasts = λ _. hdr_lasts }
+hdr_laws = record {
+  local = local_then (λ d. layout_reads d hdr_identifier) (λ first d. chain_at (hdr_lines first) d)
+      (local_layout hdr_identifier (with_texts hdr_identifier))
+      (λ first. local_chain (hdr_lines first) (hdr_advances first)
+      (λ passed offset. with_texts ((hdr_lines first).said passed offset)));
+  within = λ d. omega (arith, hdr_within d);
+  lasts = λ _. answers_last hdr (lasts_then (λ d. layout_reads d hdr_identifier) (λ first d. chain_at (hdr_lines first) d)
+      (λ d x first is. more d x hdr_identifier first
+      (text_plain (line_made 0x0A 11) 0 check_identifier (λ text. by_identifier Plain text tt tt)) is)
+      (λ first. lasts_chain (hdr_lines first) (hdr_advances first)
+      (λ passed offset. text_plain (line_made 0x0A 256) offset (hdr_line offset)
+      (λ text. by_line Plain offset text (λ size. tt) (λ e. tt) tt))));
+}
 
 -- from the end of the input on there is no line
 pub hdr_ends : (d : List ℕ) (offset : ℕ) → length d ≤ offset
     → uncounted (layout_reads d (line_at 0x0A offset 256 (hdr_line offset))) ≡ refuses Ended
-hdr_ends d offset h = ap uncounted (line_beyond d 0x0A offset 256 (hdr_line offset) h (omega arith))
+hdr_ends d offset h = ap uncounted (text_beyond (line_made 0x0A 256) offset (hdr_line offset) d h (omega arith))
 
 -- of another number of words than four none are the second and the fourth
 pub other_words : (ws : List (List ℕ)) → length ws ≢ 4 → second_and_fourth ws ≡ None

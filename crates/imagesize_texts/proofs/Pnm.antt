@@ -1,26 +1,24 @@
 -- PNM: how a walk along its words goes, how many bytes they are read from, and what it sees of an input.
-use Rattle.std.proofs.Common.{◌≡◌, ℕ, ◌+◌, ◌<◌, ◌≤◌, eqb, List, ◌++◌, length, Option, None, true, Ok, Err, ap, ◌∙◌, arith}
+use Rattle.std.proofs.Common.{◌≡◌, ℕ, ◌+◌, ◌<◌, ◌≤◌, eqb, List, length, Option, None, true, Err, ap, arith}
 use Rattle.std.specs.Str.{trim}
 use Rattle.imagesize_types.specs.declared.size.ImageSize.{ImageSize}
 use Rattle.imagesize_source.specs.declared.halt.Halt.{Halt}
-use Rattle.imagesize_source.specs.Agreement.{IsLocal}
 use Rattle.imagesize_source.specs.Chain.{Said, Decided, Advances}
-use Rattle.imagesize_source.specs.Extension.{Plain, Lasts}
+use Rattle.imagesize_source.specs.Extension.{Plain}
 use Rattle.imagesize_source.specs.declared.halt.Halt.TheVariants.{Ended}
 use Rattle.imagesize_source.specs.Layout.{Layout, done, accept, layout_reads}
 use Rattle.imagesize_source.specs.Reading.{refuses, uncounted}
-use Rattle.imagesize_source.specs.State.{total}
 use Rattle.imagesize_source.proofs.Advances.{Begins, Tells, advances}
 use Rattle.imagesize_source.proofs.Ahead.{Ahead, chain_ahead}
 use Rattle.imagesize_source.proofs.Agreement.{with_texts}
 use Rattle.imagesize_source.proofs.ChainLaws.{local_chain, lasts_chain}
 use Rattle.imagesize_source.proofs.Spends.{said_to}
 use Rattle.imagesize_source.proofs.Tests.{on_test}
-use Rattle.imagesize_source.proofs.Way.{TextsLaws}
+use Rattle.imagesize_source.proofs.Way.{TextsLaws, answers_last}
 use Rattle.imagesize_texts.specs.Contents.{WordRead, number_text}
 use Rattle.imagesize_texts.specs.Pnm.{pnm, pnm_words, pnm_word, pnm_comment, pnm_passed, pnm_height, pnm_size, is_comment, is_blank}
 use Rattle.imagesize_texts.specs.Texts.{passed_line, word}
-use Rattle.imagesize_texts.proofs.Texts.{found_by, passed_onto, passed_plain, passed_tells, word_onto, word_plain, word_tells, word_begins, word_beyond}
+use Rattle.imagesize_texts.proofs.Texts.{found_by, length_made, text_begins, text_onto, text_plain, text_tells, word_beyond, word_made}
 
 -- what holds of each way that a word can go
 by_word : (P : Layout (Said (Unit {0}) ImageSize) → Type 0) (offset : ℕ) (w : WordRead) → P (pnm_passed offset w.taken)
@@ -42,55 +40,46 @@ by_size P width height decided refused =
 
 -- a word tells an offset behind its own
 pub pnm_tells : (offset : ℕ) → Tells (λ p. offset < p) (word offset (pnm_word offset))
-pnm_tells offset = word_tells offset (pnm_word offset) (λ p. offset < p)
+pnm_tells offset = text_tells word_made offset (pnm_word offset) (λ p. offset < p)
     (λ w some. by_word (Tells (λ p. offset < p)) offset w (omega arith)
-    (passed_tells 0x0A (offset + w.taken) 1024 (λ rest. pnm_passed offset (w.taken + rest)) (λ p. offset < p)
-    (λ n. omega arith))
-    (word_tells (offset + w.taken) (λ next. accept (pnm_size (number_text w.text) (number_text (trim next.text)))
+    (text_tells (length_made 0x0A 1024) (offset + w.taken) (λ rest. pnm_passed offset (w.taken + rest)) (λ p. offset < p)
+    (λ n _. omega arith))
+    (text_tells word_made (offset + w.taken) (λ next. accept (pnm_size (number_text w.text) (number_text (trim next.text)))
     (λ size. done (Decided size))) (λ p. offset < p)
     (λ next _. by_size (Tells (λ p. offset < p)) (number_text w.text) (number_text (trim next.text)) (λ size. tt)
     (λ e. tt))))
 
 pub pnm_begins : (offset : ℕ) → Begins offset (word offset (pnm_word offset))
-pnm_begins offset = word_begins offset (pnm_word offset) offset (omega arith)
+pnm_begins offset = text_begins word_made offset (pnm_word offset) offset (omega arith)
 
 pub pnm_advances : (d : List ℕ) → Advances pnm_words d
 pnm_advances = advances pnm_words (λ passed offset. pnm_tells offset) (λ passed offset. pnm_begins offset)
 
-pub pnm_local : IsLocal true pnm
-pnm_local = local_chain pnm_words pnm_advances (λ passed offset. with_texts (pnm_words.said passed offset))
-
--- bytes behind a PNM change no answer that was given, nor its marks
-pub pnm_keeps : Lasts pnm
-pnm_keeps = lasts_chain pnm_words pnm_advances
-    (λ passed offset. word_plain offset (pnm_word offset)
-    (λ w. by_word Plain offset w tt
-    (passed_plain 0x0A (offset + w.taken) 1024 (λ rest. pnm_passed offset (w.taken + rest)) (λ n. tt))
-    (word_plain (offset + w.taken) (λ next. accept (pnm_size (number_text w.text) (number_text (trim next.text)))
-    (λ size. done (Decided size)))
-    (λ next. by_size Plain (number_text w.text) (number_text (trim next.text)) (λ size. tt) (λ e. tt)))))
-
-pub pnm_lasts : (d x : List ℕ) (size : ImageSize) → (pnm d).answer ≡ Ok size → (pnm (d ++ x)).answer ≡ Ok size
-pnm_lasts d x size is = ap (λ r. r.answer) (pnm_keeps d x size is) ∙ is
-
--- the words are read from at most the bytes behind the magic number
-pub pnm_within : (d : List ℕ) → total (pnm d).marks ≤ length d
-pnm_within d =
-    let most = chain_ahead pnm_words d (pnm_advances d)
-    (λ passed offset. word_onto offset (pnm_word offset) (said_to (λ _. None)) offset (omega arith)
-    (λ w. by_word (Ahead (offset + w.taken)) offset w (omega arith)
-    (passed_onto 0x0A (offset + w.taken) 1024 (λ rest. pnm_passed offset (w.taken + rest)) (said_to (λ _. None))
-    (offset + w.taken)
-    (omega arith) (λ n. omega arith))
-    (word_onto (offset + w.taken) (λ next. accept (pnm_size (number_text w.text) (number_text (trim next.text)))
-    (λ size. done (Decided size))) (said_to (λ _. None)) (offset + w.taken) (omega arith)
-    (λ next. by_size (Ahead (offset + w.taken + next.taken)) (number_text w.text) (number_text (trim next.text))
-    (λ size. tt)
-    (λ e. tt))))) in
-    omega arith
-
 pub pnm_laws : TextsLaws 12 true true pnm
-pnm_laws = record { local = pnm_local; within = λ d. omega (arith, pnm_within d); lasts = λ _. pnm_lasts }
+pnm_laws = record {
+  local = local_chain pnm_words pnm_advances (λ passed offset. with_texts (pnm_words.said passed offset));
+  -- the words are read from at most the bytes behind the magic number
+  within = λ d. omega (
+    arith,
+    chain_ahead pnm_words d (pnm_advances d)
+        (λ passed offset. text_onto word_made offset (pnm_word offset) (said_to (λ _. None)) offset (omega arith)
+        (λ w. by_word (Ahead (offset + w.taken)) offset w (omega arith)
+        (text_onto (length_made 0x0A 1024) (offset + w.taken) (λ rest. pnm_passed offset (w.taken + rest))
+        (said_to (λ _. None)) (offset + w.taken) (omega arith) (λ n. omega arith))
+        (text_onto word_made (offset + w.taken) (λ next. accept (pnm_size (number_text w.text)
+        (number_text (trim next.text))) (λ size. done (Decided size))) (said_to (λ _. None)) (offset + w.taken)
+        (omega arith)
+        (λ next. by_size (Ahead (offset + w.taken + next.taken)) (number_text w.text) (number_text (trim next.text))
+        (λ size. tt) (λ e. tt))))),
+  );
+  lasts = λ _. answers_last pnm (lasts_chain pnm_words pnm_advances
+      (λ passed offset. text_plain word_made offset (pnm_word offset)
+      (λ w. by_word Plain offset w tt
+      (text_plain (length_made 0x0A 1024) (offset + w.taken) (λ rest. pnm_passed offset (w.taken + rest)) (λ n. tt))
+      (text_plain word_made (offset + w.taken) (λ next. accept (pnm_size (number_text w.text)
+      (number_text (trim next.text))) (λ size. done (Decided size)))
+      (λ next. by_size Plain (number_text w.text) (number_text (trim next.text)) (λ size. tt) (λ e. tt))))));
+}
 
 -- from the end of the input on there is no word
 pub pnm_ends : (d : List ℕ) (offset : ℕ) → length d ≤ offset

@@ -1,5 +1,5 @@
 -- Text, words and numbers, as std reads them.
-use Rattle.std.proofs.Common.{◌≡◌, ℕ, suc, ◌+◌, ◌^◌, ◌<◌, ◌≤◌, eqb, Bool, true, false, cond, ltb, List, [], ◌∷◌, ◌++◌, map, length, take, drop, inl, inr, None, Some, Result, Ok, Err, refl, sym, ap, ◌∙◌, subst, append_assoc, arith}
+use Rattle.std.proofs.Common.{◌≡◌, ℕ, suc, ◌+◌, ◌^◌, ◌<◌, ◌≤◌, Bool, true, false, cond, ltb, List, [], ◌∷◌, ◌++◌, map, length, take, drop, inl, inr, None, Some, Result, Ok, Err, refl, sym, ap, ◌∙◌, subst, append_assoc, arith}
 use Rattle.std.proofs.lemmas.Bool.{and_parts, cases_lt}
 use Rattle.std.specs.Prelude.{filter, ◌&&◌, ◌==◌, slice_index}
 use Rattle.std.proofs.lemmas.Bool.Decides.{nat_tests}
@@ -58,32 +58,24 @@ number_is : (text : List ℕ) → IsNumeral 10 (without_leading_plus text)
     → digits_value 10 (without_leading_plus text) < 2 ^ 64
     → is_number text ≡ true
 unfolding is_number
-number_is text is small =
-    let some = is.0 in
-    let digits : all_ascii_digits (without_leading_plus text) ≡ true =
-    digits_are.from (without_leading_plus text) is.1 in
-    rw digits (grind (arith, nat_tests))
-
-below : (a b : ℕ) → ltb a b ≡ true → a < b
-below a b is = grind (arith, nat_tests)
+number_is text is small = rw (digits_are.from (without_leading_plus text) is.1) (let some = is.0 in grind (arith, nat_tests))
 
 is_numeral : (text : List ℕ) → is_number text ≡ true → IsNumeral 10 (without_leading_plus text)
     × (digits_value 10 (without_leading_plus text) < 2 ^ 64)
 unfolding is_number
 is_numeral text is =
     let ds : List ℕ = without_leading_plus text in
-    let parts : (ltb 0 (length ds) && all_ascii_digits ds ≡ true) × (ltb (digits_value 10 ds) (2 ^ 64) ≡ true) =
-    and_parts (ltb 0 (length ds) && all_ascii_digits ds) (ltb (digits_value 10 ds) (2 ^ 64)) is in
-    let digits : (ltb 0 (length ds) ≡ true) × (all_ascii_digits ds ≡ true) =
-    and_parts (ltb 0 (length ds)) (all_ascii_digits ds) parts.0 in
-    ((below 0 (length ds) digits.0, digits_are.to ds digits.1), below (digits_value 10 ds) (2 ^ 64) parts.1)
+    let parts = and_parts (ltb 0 (length ds) && all_ascii_digits ds) (ltb (digits_value 10 ds) (2 ^ 64)) is in
+    let digits = and_parts (ltb 0 (length ds)) (all_ascii_digits ds) parts.0 in
+    let some : 0 < length ds = let test = digits.0 in grind (arith, nat_tests) in
+    let small : digits_value 10 ds < 2 ^ 64 = let test = parts.1 in grind (arith, nat_tests) in
+    ((some, digits_are.to ds digits.1), small)
 
 -- what std parses as a number
 pub parsed : {E : Type 0} (text : List ℕ) (r : Result ℕ E) → ParsesUnsigned 64 10 text r
     → result_ok r ≡ number_text text
 unfolding number_text
-parsed {E} text (Ok v) is = let test = number_is text is.0.0 is.0.1 in
-    ap Some is.1 ∙ sym (ap (λ b. cond b (Some (digits_value 10 (without_leading_plus text))) None) test)
+parsed {E} text (Ok v) is = rw (number_is text is.0.0 is.0.1) (ap Some is.1)
 parsed {E} text (Err e) is =
     sym (on_test (λ r. r ≡ None) (is_number text) (Some (digits_value 10 (without_leading_plus text))) None
     (λ test. absurd (is (is_numeral text test))) (λ _. refl))
@@ -147,18 +139,17 @@ word_first text gap word rest more utf is some gaps letters starts =
     let gs : List ℕ = gaps.0 in
     let ws : List ℕ = letters.0 in
     let whole : text ≡ encode_utf8_all (gs ++ ws) ++ rest =
-    is ∙ ap (λ g. g ++ (word ++ rest)) (sym gaps.1) ∙ ap (λ w. encode_utf8_all gs ++ (w ++ rest)) (sym letters.1)
-    ∙ sym (append_assoc (encode_utf8_all gs) (encode_utf8_all ws) rest)
-    ∙ ap (λ bs. bs ++ rest) (sym (encodes-append gs ws)) in
+    rw (encodes-append gs ws, gaps.1, letters.1, append_assoc gap word rest) is in
     let utf_rest : IsUtf8 rest = rest_utf8 (gs ++ ws) text rest utf whole in
-    let all : encode_utf8_all ((gs ++ ws) ++ chars rest) ≡ text = encodes-append (gs ++ ws) (chars rest)
-    ∙ ap (λ bs. encode_utf8_all (gs ++ ws) ++ bs) (encodes-chars rest utf_rest) ∙ sym whole in
-    let cs : (gs ++ ws) ++ chars rest ≡ chars text = chars_from_encodes ((gs ++ ws) ++ chars rest) text utf all in
-    let parts = split_starts rest more utf_rest starts in (
-      ap (λ cs. map encode_utf8_all (char_words cs)) (sym cs ∙ append_assoc gs ws (chars rest))
-          ∙ ap (map encode_utf8_all)
-          (char_words_gap gs (ws ++ chars rest) gaps.2 ∙ char_words_word ws (chars rest) parts.0
-          (some_chars ws word letters.1 some) letters.2 parts.1)
+    let all : encode_utf8_all ((gs ++ ws) ++ chars rest) ≡ text =
+    rw (encodes-append (gs ++ ws) (chars rest), encodes-chars rest utf_rest) (sym whole) in
+    let cs : chars text ≡ gs ++ (ws ++ chars rest) =
+    sym (chars_from_encodes ((gs ++ ws) ++ chars rest) text utf all) ∙ append_assoc gs ws (chars rest) in
+    let parts = split_starts rest more utf_rest starts in
+    let some_ws = some_chars ws word letters.1 some in (
+      ap (λ cs. map encode_utf8_all (char_words cs)) cs ∙ ap (map encode_utf8_all)
+          (char_words_gap gs (ws ++ chars rest) gaps.2
+          ∙ char_words_word ws (chars rest) parts.0 some_ws letters.2 parts.1)
           ∙ ap (λ w. w ∷ map encode_utf8_all (char_words (chars rest))) letters.1,
       utf_rest,
     )
@@ -213,14 +204,8 @@ visible_first b bs utf low high =
     let first : chars text ≡ b ∷ chars bs = chars_past_char text bs b utf (ap (λ e. e ++ bs) (sym one)) in
     let dark : is_whitespace b ≡ false = grind (arith, nat_tests) in
     let started : encode_utf8_all (skip_leading_whitespace (chars text)) ≡ text =
-    ap (λ cs. encode_utf8_all (skip_leading_whitespace cs)) first
-    ∙ ap (λ w. encode_utf8_all (cond w (skip_leading_whitespace (chars bs)) (b ∷ chars bs))) dark
-    ∙ ap encode_utf8_all (sym first) ∙ encodes-chars text utf in
-    let rest : List ℕ = drop_trailing_whitespace (chars bs) in
-    ap (λ t. encode_utf8_all (drop_trailing_whitespace (chars t))) started
-    ∙ ap (λ cs. encode_utf8_all (drop_trailing_whitespace cs)) first
-    ∙ ap (λ w. encode_utf8_all (cond (w && eqb (length rest) 0) [] (b ∷ rest))) dark
-    ∙ ap (λ e. e ++ encode_utf8_all rest) one
+    rw (first, dark) (ap encode_utf8_all (sym first) ∙ encodes-chars text utf) in
+    rw (started, first, dark, one) refl
 
 -- so it is not blank, and begins a comment where it begins with a `#`
 pub visible_word : (text : List ℕ) → IsUtf8 text → 0 < length text → is_ascii_graphic (slice_index text 0) ≡ true
@@ -240,8 +225,8 @@ space_before (b ∷ bs) utf some space =
     let one : encode_utf8 b ≡ b ∷ [] = encode_ascii b (omega (arith, space)) in
     let first : chars (b ∷ bs) ≡ b ∷ chars bs = chars_past_char (b ∷ bs) bs b utf (ap (λ e. e ++ bs) (sym one)) in
     let white : is_not_whitespace b ≡ false = ap is_not_whitespace space in
-    ap (λ cs. map encode_utf8_all cs) (sym (char_words_gap (b ∷ []) (chars bs) (white, tt)))
-    ∙ ap (λ cs. map encode_utf8_all (char_words cs)) (sym first)
+    sym (ap (λ cs. map encode_utf8_all (char_words cs)) first
+    ∙ ap (map encode_utf8_all) (char_words_gap (b ∷ []) (chars bs) (white, tt)))
 
 -- visible characters are no white space
 none_white : (bs : List ℕ) → ((i : ℕ) → i < length bs → is_ascii_graphic (slice_index bs i) ≡ true)

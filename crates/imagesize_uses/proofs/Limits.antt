@@ -2,7 +2,8 @@
 use Rattle.std.proofs.Common.{◌≡◌, ℕ, ◌+◌, ◌-◌, ◌*◌, ◌^◌, ◌<◌, ◌≤◌, Bool, true, false, ◌||◌, Option, None, Some, Result, Ok, Err, IfOk, is_none, option_map, nat_eq, nat_le, inl, inr, refl, sym, ap, ◌∙◌, subst, arith}
 use Rattle.std.specs.Prelude.{◌⊎◌, unwrap_or, if◌then◌else◌}
 use Rattle.std.specs.declared.io.Error.{Error}
-use Rattle.std.proofs.lemmas.Bool.{cases_lt}
+use mathlib.Core.Logic.{⊎_elim}
+use Rattle.std.proofs.lemmas.Bool.{cases_lt, false_from_ne_true}
 use Rattle.std.proofs.lemmas.Bool.Decides.{nat_tests}
 use Rattle.std.proofs.lemmas.Nat.{mul-le}
 use Rattle.imagesize.specs.Meaning.{meaning}
@@ -29,16 +30,15 @@ below_square s t b d less low is =
 pair_same : (a b c d : ℕ) → pair a b ≡ pair c d → (a ≡ c) × (b ≡ d)
 pair_same a b c d is =
     let low : a + b ≤ c + d =
-    by_order (cases_lt (c + d) (a + b)) (λ less. below_square (c + d) (a + b) d b less (omega arith) (sym is)) in
+    ⊎_elim (λ less. absurd (below_square (c + d) (a + b) d b less (omega arith) (sym is))) (λ few. few)
+    (cases_lt (c + d) (a + b)) in
     let high : c + d ≤ a + b =
-    by_order (cases_lt (a + b) (c + d)) (λ less. below_square (a + b) (c + d) b d less (omega arith) is) in
+    ⊎_elim (λ less. absurd (below_square (a + b) (c + d) b d less (omega arith) is)) (λ few. few)
+    (cases_lt (a + b) (c + d)) in
     let sum : a + b ≡ c + d = omega (arith, low, high) in
     let squares : (a + b) * (a + b) ≡ (c + d) * (c + d) = ap (λ s. s * s) sum in
     let second : b ≡ d = omega (arith, squares, is) in
-    (omega (arith, sum, second), second) where
-      by_order : {m n : ℕ} → (m < n) ⊎ (n ≤ m) → (m < n → ⊥) → n ≤ m
-      by_order (inl less) never = absurd (never less)
-      by_order (inr is) never = is
+    (omega (arith, sum, second), second)
 
 -- what stays tells the reader, and how its count moved
 kept_same : (reader other : ℕ) (before after : Option ℕ) (left later taken : ℕ) → later + taken ≡ left
@@ -59,10 +59,8 @@ kept_same reader other (Some m) (Some n) left later taken rest is =
 same_rest : (k l left later taken : ℕ) → left < 2 ^ 64 → later < 2 ^ 64 → taken < 2 ^ 64
     → 2 ^ 64 - later + 2 ^ 66 * l ≡ 2 ^ 64 - left + 2 ^ 66 * k + taken → (l ≡ k) × (later + taken ≡ left)
 same_rest k l left later taken short also few is =
-    let low : l ≤ k = omega (arith, short, also, few, is) in
-    let high : k ≤ l = omega (arith, short, also, few, is) in
-    let same : l ≡ k = omega (arith, low, high) in
-    (same, omega (arith, same, short, also, few, is))
+    let same : l ≡ k = omega arith in
+    (same, omega arith)
 
 -- of a limited reader: it stands around the reader that it did, that one's count rose by what was taken, and so much less is left
 pub record Taken (reader other : ℕ) (before after : Option ℕ) (left later taken : ℕ) : Type 0 where
@@ -94,18 +92,13 @@ last_below (Some last) e is = is
 pub fault_below : (spent : Option Error) (left : ℕ) (failure : Option (Option Error)) (v : Result ImageSize Rejection)
     → is_none spent || nat_eq left 0 ≡ true → 0 < left → IsFaultOf (limited_failure spent failure) v
     → IsFaultOf failure v
-fault_below None left failure (Ok _) ends some fault = tt
-fault_below None left failure (Err (TooLarge _)) ends some fault = tt
 fault_below None left failure (Err (NoSize e)) ends some fault = λ is. last_below failure e (fault is)
+fault_below None left failure _ ends some fault = tt
 fault_below (Some _) left failure v ends some fault = absurd (grind (arith, nat_tests))
 
 no_fault : (v : Result ImageSize Rejection) → IsFaultOf (Some None) v → IfNoSize v (λ e. is_fault e ≡ false)
-no_fault (Ok _) fault = tt
-no_fault (Err (TooLarge _)) fault = tt
-no_fault (Err (NoSize e)) fault = by_test (is_fault e) refl where
-  by_test : (test : Bool) → is_fault e ≡ test → test ≡ false
-  by_test true is = absurd (fault is)
-  by_test false is = refl
+no_fault (Err (NoSize e)) fault = false_from_ne_true (is_fault e) (λ is. fault is)
+no_fault _ fault = tt
 
 -- ---- the verdict
 

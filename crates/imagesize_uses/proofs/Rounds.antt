@@ -1,6 +1,7 @@
 -- How many offsets of its marks an input has from the next request on.
 use Rattle.std.proofs.Common.{◌≡◌, ℕ, zero, suc, ◌+◌, ◌-◌, ◌*◌, ◌<◌, ◌≤◌, Bool, true, false, ◌&&◌, ◌⊎◌, inl, inr, min, cond, eqb, List, length, refl, sym, ap, ◌∙◌, subst, arith}
-use Rattle.std.proofs.lemmas.Bool.{and_parts}
+use mathlib.Core.Logic.{⊎_elim}
+use Rattle.std.proofs.lemmas.Bool.{and_parts, cases_lt, cond-false, cond-true, cond_both}
 use Rattle.std.specs.Prelude.{count_by, nat_le, Result, Ok, Err, IfErr}
 use Rattle.std.specs.List.{range_with_len}
 use Rattle.std.proofs.lemmas.Bool.Decides.{nat_tests}
@@ -28,35 +29,16 @@ count_less : (p q : ℕ → Bool) (a n at : ℕ) → a ≤ at → at < a + n →
     → count_by p (range_with_len a n) < count_by q (range_with_len a n)
 count_less p q a zero at low high h gone has = absurd (omega (arith, low, high))
 count_less p q a (suc n) at low high h gone has =
-    by_first (eqb a at) refl (λ later. count_less p q (a + 1) n at later (omega (arith, high)) h gone has) where
-      by_first : (b : Bool) → eqb a at ≡ b
-          → (a + 1 ≤ at → count_by p (range_with_len (a + 1) n) < count_by q (range_with_len (a + 1) n))
-          → count_by p (range_with_len a (suc n)) < count_by q (range_with_len a (suc n))
-      by_first true is behind =
-          let same : a ≡ at = grind (arith, nat_tests) in
-          let none : ◌≡◌ {A = ℕ} (cond (p a) 1 0) 0 = ap (λ (b : Bool). cond b 1 0) (ap p same ∙ gone) in
-          let one : ◌≡◌ {A = ℕ} (cond (q a) 1 0) 1 = ap (λ (b : Bool). cond b 1 0) (ap q same ∙ has) in
-          let rest = count_fewer p q (range_with_len (a + 1) n) h in
-          omega (
-            arith,
-            count-cons p a (range_with_len (a + 1) n),
-            count-cons q a
-                (range_with_len (a + 1) n),
-            none,
-            one,
-            rest,
-          )
-      by_first false is behind =
-          let later : a + 1 ≤ at = grind (arith, nat_tests) in
-          let rest = behind later in
-          omega (
-            arith,
-            count-cons p a (range_with_len (a + 1) n),
-            count-cons q a
-                (range_with_len (a + 1) n),
-            tests_fewer (p a) (q a) (h a),
-            rest,
-          )
+    let here = tests_fewer (p a) (q a) (h a) in
+    let first = count-cons p a (range_with_len (a + 1) n) in let other = count-cons q a (range_with_len (a + 1) n) in
+    ⊎_elim (λ (later : a < at).
+    let less = count_less p q (a + 1) n at (omega (arith, later)) (omega (arith, high)) h gone has in
+    omega (arith, first, other, here, less))
+    (λ (same : at ≤ a).
+    let is : a ≡ at = omega (arith, low, same) in
+    let none = cond-false {A = ℕ} (p a) 1 0 (ap p is ∙ gone) in let one = cond-true {A = ℕ} (q a) 1 0 (ap q is ∙ has) in
+    let rest = count_fewer p q (range_with_len (a + 1) n) h in
+    omega (arith, first, other, none, one, rest)) (cases_lt a at)
 
 -- an offset of the marks that is not before this one
 abbrev is_ahead : List Span → ℕ → ℕ → Bool
@@ -78,36 +60,9 @@ less_ahead : (d : List ℕ) (w : Span) (next : ℕ) → HasMarked w d → w.star
     → ahead d next < ahead d w.start
 unfolding ahead
 less_ahead d w next marked fits behind =
-    count_less (is_ahead marks next) (is_ahead marks w.start) 0 (length d) marked.0 (omega arith)
-    (omega (arith, marked.2)) later gone has where
-      marks : List Span
-      marks = (meaning d 0).marks
-
-      both : {a b : Bool} → a ≡ true → b ≡ true → a && b ≡ true
-      both {a} {b} p q = ap (λ c. c && b) p ∙ q
-
-      none : (a : Bool) {b : Bool} → b ≡ false → a && b ≡ false
-      none true is = is
-      none false is = refl
-
-      later : (offset : ℕ) → is_ahead marks next offset ≡ true → is_ahead marks w.start offset ≡ true
-      later offset is =
-          let parts = and_parts (is_covered marks offset) (nat_le next offset) is in
-          let high = parts.1 in
-          let low : nat_le w.start offset ≡ true = grind (arith, nat_tests) in
-          both parts.0 low
-
-      gone : is_ahead marks next marked.0 ≡ false
-      gone =
-          let below = marked.2 in
-          let low : nat_le next marked.0 ≡ false = grind (arith, nat_tests) in
-          none (is_covered marks marked.0) low
-
-      has : is_ahead marks w.start marked.0 ≡ true
-      has =
-          let above = marked.1 in
-          let low : nat_le w.start marked.0 ≡ true = grind (arith, nat_tests) in
-          both marked.3 low
+    let marks = (meaning d 0).marks in let low = marked.1 in let below = marked.2 in let has = marked.3 in
+    count_less (is_ahead marks next) (is_ahead marks w.start) 0 (length d) marked.0 (omega arith) (omega (arith, below))
+    (λ offset is. grind (arith, nat_tests)) (grind (arith, nat_tests)) (grind (arith, nat_tests))
 
 -- where the next request begins; the end of the input, once there is a result
 abbrev pub next_start : {T : Type 0} → ℕ → PartsAnswer T → ℕ
@@ -185,31 +140,35 @@ GoesBeyond old new offset bytes =
     IfWanted (next_of old) (λ v. offset ≤ v.start → v.start + v.len ≤ offset + length bytes
     → IfWanted (next_of new) (λ next. v.start + v.len ≤ next.start))
 
--- one fetch of a requested span, by what the probe says of it
-module _ {d : List ℕ} {probe : PartsProbe} {before now first asked : ℕ} (w : Span)
-    (f : Fetching d probe before now first asked) (is : Wanted w ≡ next_of probe)
-    (within : MayBe probe d → (w.start < 12) ⊎ (18 ≤ w.start) → HasMarked w d) (fits : IsWithin (total_of probe) w)
-    (reaches : MayBe probe d → texts_of d ≡ false → (w.start < 12) ⊎ (18 ≤ w.start)
-    → EndsBetween w.start (w.start + w.len) (meaning d 0).marks)
-    (short : w.len ≤ 1024) (shorter : MayBe probe d → texts_of d ≡ false → w.len ≤ 132) where
+-- the probe requests this span, and what it says of it
+pub record Requests (d : List ℕ) (probe : PartsProbe) (w : Span) : Type 0 where
+  pub is : Wanted w ≡ next_of probe
+  pub within : MayBe probe d → (w.start < 12) ⊎ (18 ≤ w.start) → HasMarked w d
+  pub fits : IsWithin (total_of probe) w
+  pub reaches : MayBe probe d → texts_of d ≡ false → (w.start < 12) ⊎ (18 ≤ w.start)
+      → EndsBetween w.start (w.start + w.len) (meaning d 0).marks
+  pub short : w.len ≤ 1024
+  pub shorter : MayBe probe d → texts_of d ≡ false → w.len ≤ 132
+
+-- one fetch of it
+module _ {d : List ℕ} {probe : PartsProbe} {before now first asked : ℕ} {w : Span}
+    (f : Fetching d probe before now first asked) (r : Requests d probe w) where
   inside : IsWithin (length d) w
-  inside = subst (λ n. IsWithin n w) (sym f.may.given.as_long) fits
+  inside = subst (λ n. IsWithin n w) (sym f.may.given.as_long) r.fits
 
   opened : IsOpened (length d) w
-  opened = subst (λ a. IfWanted a (IsOpened (length d))) (sym is) f.opened
+  opened = subst (λ a. IfWanted a (IsOpened (length d))) (sym r.is) f.opened
 
   marked : HasMarked w d
-  marked = within f.may (apart (length d) w inside opened)
-
-  few_by_type : (texts : Bool) → texts_of d ≡ texts → w.len ≤ cond texts 1024 132
-  few_by_type true is = short
-  few_by_type false is = shorter f.may is
+  marked = r.within f.may (apart (length d) w inside opened)
 
   few : w.len ≤ most_at_once d
-  few = let least = few_by_type (texts_of d) refl in omega (arith, least, inside.1)
+  few =
+      let least = cond_both {A = ℕ} (texts_of d) 1024 132 (λ n. w.len ≤ n) (λ _. r.short) (r.shorter f.may) in
+      omega (arith, least, inside.1)
 
   from : next_start (length d) (next_of probe) ≡ w.start
-  from = sym (ap (next_start (length d)) is)
+  from = sym (ap (next_start (length d)) r.is)
 
   -- the counts behind it, by where the next request begins
   counted : {next later further : ℕ} → w.start + w.len ≤ next → later ≤ now + 1 → further ≤ asked + w.len
@@ -228,7 +187,7 @@ module _ {d : List ℕ} {probe : PartsProbe} {before now first asked : ℕ} (w :
         omega (arith, f.once, asks, behind, from),
         λ without.
             let fewer = ends_less (meaning d 0).marks w.start (w.start + w.len) next (omega (arith, behind)) behind
-            (reaches f.may without (apart (length d) w inside opened)) in
+            (r.reaches f.may without (apart (length d) w inside opened)) in
             let had = f.rounds without in
             omega (arith, had, counts, fewer, ap (ends_after (meaning d 0).marks) from),
       )
@@ -237,7 +196,7 @@ module _ {d : List ℕ} {probe : PartsProbe} {before now first asked : ℕ} (w :
       → IfWanted (next_of new) (λ next. w.start + w.len ≤ next.start)
   behind new bytes beyond got =
       subst (λ a. IfWanted a (λ v. w.start ≤ v.start → v.start + v.len ≤ w.start + length bytes
-      → IfWanted (next_of new) (λ next. v.start + v.len ≤ next.start))) (sym is) beyond (omega arith)
+      → IfWanted (next_of new) (λ next. v.start + v.len ≤ next.start))) (sym r.is) beyond (omega arith)
       (omega (arith, ap length got, part_length d w.start w.len, inside.1))
 
   pub fetched : (new : PartsProbe) (bytes : List ℕ) {later further : ℕ} → GoesBeyond probe new w.start bytes
@@ -263,27 +222,19 @@ module _ {d : List ℕ} {probe : PartsProbe} {before now first asked : ℕ} (w :
       (begins_behind (length d) (w.start + w.len) (next_of new) inside.1 (behind new bytes beyond got)) in
       omega (arith, less, ap (ahead d) from)
 
-  -- a fetch that ends it counts too
-  pub few_by : {later : ℕ} → later ≤ now + 1 → later ≤ before + offsets (length d) (meaning d 0).marks
-  few_by {later} counts =
-      let all = counted {next = length d} {later = later} {further = asked} inside.1 counts (omega arith) in
-      omega (arith, all.0)
-
-  pub most_by : {further : ℕ} → further ≤ asked + w.len
-      → further ≤ first + offsets (length d) (meaning d 0).marks * most_at_once d
-  most_by {further} asks =
-      let all = counted {next = length d} {later = now} {further = further} inside.1 (omega arith) asks in
-      omega (arith, all.1)
-
-  pub rounds_by : {later : ℕ} → later ≤ now + 1 → texts_of d ≡ false → later ≤ before + length (meaning d 0).marks
-  rounds_by {later} counts without =
-      let all = counted {next = length d} {later = later} {further = asked} inside.1 counts (omega arith) in
-      let few = all.3 without in
-      omega (arith, few)
-
-  -- the marks have an offset
-  pub some_place : 0 < offsets (length d) (meaning d 0).marks
-  some_place = omega (arith, less_ahead d w (length d) marked inside.1 inside.1, few_ahead d w.start)
+  -- a fetch that ends it counts too, and the marks have an offset
+  pub ended : {later further : ℕ} → later ≤ now + 1 → further ≤ asked + w.len
+      → (later ≤ before + offsets (length d) (meaning d 0).marks)
+      × (further ≤ first + offsets (length d) (meaning d 0).marks * most_at_once d)
+      × (0 < offsets (length d) (meaning d 0).marks)
+      × (texts_of d ≡ false → later ≤ before + length (meaning d 0).marks)
+  ended counts asks =
+      let all = counted {next = length d} inside.1 counts asks in (
+        omega (arith, all.0),
+        omega (arith, all.1),
+        omega (arith, less_ahead d w (length d) marked inside.1 inside.1, few_ahead d w.start),
+        λ without. let few = all.3 without in omega (arith, few),
+      )
 
 -- what holds of each error
 pub if_err : {X E : Type 0} {P : Type 0} (r : Result X E) → P → IfErr r (λ _. P)

@@ -2,6 +2,8 @@
 use Rattle.std.proofs.Common.{◌≡◌, ℕ, suc, ◌+◌, ◌-◌, ◌<◌, ◌≤◌, min, Bool, true, false, ◌||◌, List, [], ◌∷◌, ◌++◌, length, take, drop, get_or, slice_index, refl, sym, ap, ◌∙◌, subst, arith}
 use Rattle.std.specs.Cmp.Lexicographic.{pointwise, same_text, other_text}
 use Rattle.std.specs.Prelude.{nat_eq}
+use mathlib.Core.Logic.{⊎_elim}
+use Rattle.std.proofs.lemmas.Bool.{or_cases, or_left, or_right}
 use Rattle.std.proofs.lemmas.Bool.Decides.{nat_tests}
 use Rattle.std.proofs.lemmas.Grind.{flat_map-append}
 use Rattle.std.proofs.lemmas.List.{append_assoc, append_cancel_left, append-nil, ext_get_or, length-take, take-append-drop, take-take, take_more}
@@ -30,11 +32,8 @@ ends a b x y long same = sym (drop-append_seam a x) ∙ ap (drop (length a)) sam
     ∙ drop-append_seam b y
 
 -- an offset of a span, as numbers
-starts_by : (s : Span) (offset : ℕ) → has_offset s offset ≡ true → s.start ≤ offset
-starts_by s offset has = grind (arith, nat_tests)
-
-ends_behind : (s : Span) (offset : ℕ) → has_offset s offset ≡ true → offset < s.start + s.len
-ends_behind s offset has = grind (arith, nat_tests)
+within_span : (s : Span) (offset : ℕ) → has_offset s offset ≡ true → (s.start ≤ offset) × (offset < s.start + s.len)
+within_span s offset has = (grind (arith, nat_tests), grind (arith, nat_tests))
 
 span_has : (s : Span) (i : ℕ) → i < s.len → has_offset s (s.start + i) ≡ true
 span_has s i below = grind (arith, nat_tests)
@@ -44,8 +43,9 @@ same_at : (d e : List ℕ) (s : Span) (offset : ℕ) → part e s.start s.len �
     → slice_index e offset ≡ slice_index d offset
 same_at d e s offset same has =
     let i : ℕ = offset - s.start in
-    let at : s.start + i ≡ offset = omega (arith, starts_by s offset has) in
-    let below : i < s.len = omega (arith, starts_by s offset has, ends_behind s offset has) in
+    let (low, high) = within_span s offset has in
+    let at : s.start + i ≡ offset = omega arith in
+    let below : i < s.len = omega arith in
     subst (λ p. slice_index e p ≡ slice_index d p) at
     (sym (part_at e s.start s.len i below) ∙ ap (λ bs. get_or bs i 0) same ∙ part_at d s.start s.len i below)
 
@@ -57,13 +57,8 @@ same_byte d e (s ∷ spans) offset long same here =
     let front = fronts (part e s.start s.len) (part d s.start s.len) (bytes_of e spans)
     (bytes_of d spans) lengths same in
     let rest = ends (part e s.start s.len) (part d s.start s.len) (bytes_of e spans) (bytes_of d spans) lengths same in
-    let Goal : Bool → Type 0 = λ b. has_offset s offset ≡ b → b || is_covered spans offset ≡ true
-    → slice_index e offset ≡ slice_index d offset in
-    let cases : Goal (has_offset s offset) = elim (has_offset s offset) as Goal [
-      | true ↦ λ has _. same_at d e s offset front has
-      | false ↦ λ _ later. same_byte d e spans offset long rest later
-    ] in
-    cases refl here
+    ⊎_elim (same_at d e s offset front) (same_byte d e spans offset long rest)
+    (or_cases (has_offset s offset) (is_covered spans offset) here)
 
 -- an input of the same length with the same bytes in the spans agrees on these
 pub agrees_by_bytes : (d e : List ℕ) (spans : List Span) → length e ≡ length d → bytes_of e spans ≡ bytes_of d spans
@@ -82,25 +77,14 @@ same_part d e s long agrees =
     part_at e s.start s.len i small ∙ agrees (s.start + i) (span_has s i small)
     ∙ sym (part_at d s.start s.len i small))
 
-covered_first : (s : Span) (spans : List Span) (offset : ℕ) → has_offset s offset ≡ true
-    → is_covered (s ∷ spans) offset ≡ true
-covered_first s spans offset has = ap (λ b. b || is_covered spans offset) has
-
-covered_later : (s : Span) (spans : List Span) (offset : ℕ) → is_covered spans offset ≡ true
-    → is_covered (s ∷ spans) offset ≡ true
-covered_later s spans offset here =
-    let Goal : Bool → Type 0 = λ b. b || is_covered spans offset ≡ true in
-    elim (has_offset s offset) as Goal [ true ↦ refl | false ↦ here ]
-
 pub bytes_by_agreement : (d e : List ℕ) (spans : List Span) → Agrees d e spans → bytes_of e spans ≡ bytes_of d spans
 bytes_by_agreement d e [] agrees = refl
 bytes_by_agreement d e (s ∷ spans) agrees =
     let front = same_part d e s agrees.as_long
-    (λ offset has. agrees.same_byte offset (covered_first s spans offset has)) in
+    (λ offset has. agrees.same_byte offset (or_left (has_offset s offset) (is_covered spans offset) has)) in
     let later : Agrees d e spans = record {
       as_long = agrees.as_long;
-      same_byte = λ offset here. agrees.same_byte offset
-          (covered_later s spans offset here);
+      same_byte = λ offset here. agrees.same_byte offset (or_right (has_offset s offset) (is_covered spans offset) here);
     } in
     ap (λ bs. bs ++ bytes_of e spans) front ∙ ap (λ bs. part d s.start s.len ++ bs) (bytes_by_agreement d e spans later)
 

@@ -56,6 +56,4 @@ pub begins_more : (chunks : List (Bor (List ℕ))) (i told limit : ℕ) (other :
     → Begins (fed told i chunks ++ take (limit - length (fed told i chunks)) (get_or chunks i other).now) limit
     (take told (joined chunks))
 begins_more chunks i told limit other same within =
-    subst (λ bs. Begins bs limit (take told (joined chunks))) (sym (fed_more chunks i told limit other same within))
-    (subst (λ k. Begins (fed told (i + 1) chunks) k (take told (joined chunks))) (sym same)
-    (begins_first chunks (i + 1) told))
+    rw (fed_more chunks i told limit other same within, same) (begins_first chunks (i + 1) told)

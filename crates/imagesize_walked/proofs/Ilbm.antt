@@ -1,15 +1,13 @@
 -- ILBM: how a walk along its chunks goes, how many bytes they are read from, and what it sees of an input.
-use Rattle.std.proofs.Common.{◌≡◌, false, ℕ, ◌+◌, ◌*◌, ◌<◌, ◌≤◌, true, List, length, ap, arith}
+use Rattle.std.proofs.Common.{◌≡◌, false, ℕ, ◌+◌, ◌<◌, ◌≤◌, true, List, length, ap, arith}
 use Rattle.imagesize_walked.specs.Ilbm.{ilbm, ilbm_chunks, ilbm_named, bitmap_header, chunk_bytes, chunk_length, is_bitmap_header, is_body, ilbm_chunk}
 use Rattle.imagesize_types.specs.declared.size.ImageSize.{ImageSize}
 use Rattle.imagesize_source.specs.declared.halt.Halt.TheVariants.{Corrupted, Ended}
 use Rattle.imagesize_source.specs.Reading.{refuses, uncounted}
-use Rattle.imagesize_source.specs.Agreement.{IsLocal}
 use Rattle.imagesize_source.specs.Chain.{Said, Next, Advances}
 use Rattle.imagesize_source.specs.Counts.{AtMost}
-use Rattle.imagesize_source.specs.Extension.{Plain, Lasts}
+use Rattle.imagesize_source.specs.Extension.{Plain}
 use Rattle.imagesize_source.specs.Layout.{Layout, refuse, done, layout_reads}
-use Rattle.imagesize_source.specs.State.{total}
 use Rattle.imagesize_source.proofs.Advances.{Begins, Tells, advances}
 use Rattle.imagesize_source.proofs.Ahead.{Ahead, chain_ahead}
 use Rattle.imagesize_source.proofs.PastTheEnd.{bytes_beyond}
@@ -37,44 +35,29 @@ chunk_begins offset = (omega arith, omega arith)
 pub ilbm_advances : (d : List ℕ) → Advances ilbm_chunks d
 ilbm_advances = advances ilbm_chunks (λ passed offset. chunk_tells offset) (λ passed offset. chunk_begins offset)
 
-pub ilbm_lasts : Lasts ilbm
-ilbm_lasts = lasts_chain ilbm_chunks ilbm_advances
-    (λ passed offset head. by_name Plain offset head tt (λ width height. tt) tt)
-
 -- a chunk is read from at most 12 bytes
 chunk_at_most : (passed : List (Unit {0})) (offset : ℕ) → AtMost 12 (ilbm_chunks.said passed offset)
 chunk_at_most passed offset =
     (omega arith, λ head. by_name (AtMost 4) offset head tt (omega arith, λ width. (omega arith, λ height. tt)) tt)
-
-pub ilbm_cost : (d : List ℕ) → 12 + total (ilbm d).marks ≤ 18 + 20 * (ilbm d).begun
-ilbm_cost d = omega (arith, chain_cost ilbm_chunks d (ilbm_advances d) 12 chunk_at_most)
-
--- what is seen of an input
-pub ilbm_local : IsLocal false ilbm
-ilbm_local = local_chain ilbm_chunks ilbm_advances
-    (λ passed offset. without_texts false 12 (ilbm_chunks.said passed offset) (chunk_at_most passed offset))
-
--- with its type it is read from at most 28 bytes more than the input has: the chunks stand behind the form's type
-pub ilbm_within : (d : List ℕ) → 12 + total (ilbm d).marks ≤ length d + 28
-ilbm_within d =
-    let most = chain_ahead ilbm_chunks d (ilbm_advances d)
-    (λ passed offset. (
-      omega arith,
-      λ head. by_name (Ahead (offset + 8)) offset head tt (omega arith, λ width. (omega arith, λ height. tt))
-          (omega arith),
-    )) in
-    omega arith
 
 -- from the end of the input on there is no chunk
 pub ilbm_ends : (d : List ℕ) (offset : ℕ) → length d ≤ offset
     → uncounted (layout_reads d (ilbm_chunk offset)) ≡ refuses Ended
 ilbm_ends d offset h = ap uncounted (bytes_beyond d offset 8 (λ head. ilbm_named offset head) h (omega arith))
 
+-- With its type it is read from at most 28 bytes more than the input has: the chunks stand behind the form's type.
 pub ilbm_laws : RecordedLaws 12 18 20 true false ilbm
 ilbm_laws = record {
-  local = ilbm_local;
-  cost = ilbm_cost;
-  within = ilbm_within;
-  lasts =
-      λ _. answers_last ilbm ilbm_lasts;
+  local = local_chain ilbm_chunks ilbm_advances
+      (λ passed offset. without_texts false 12 (ilbm_chunks.said passed offset) (chunk_at_most passed offset));
+  cost = λ d. omega (arith, chain_cost ilbm_chunks d (ilbm_advances d) 12 chunk_at_most);
+  within = λ d. omega (
+    arith,
+    chain_ahead ilbm_chunks d (ilbm_advances d) (λ passed offset. (
+      omega arith,
+      λ head. by_name (Ahead (offset + 8)) offset head tt (omega arith, λ width. (omega arith, λ height. tt)) (omega arith),
+    )),
+  );
+  lasts = λ _. answers_last ilbm (lasts_chain ilbm_chunks ilbm_advances
+      (λ passed offset head. by_name Plain offset head tt (λ width height. tt) tt));
 }

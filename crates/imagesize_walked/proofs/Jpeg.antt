@@ -8,20 +8,20 @@ use Rattle.imagesize_walked.specs.Walks.{depth_behind, is_plain, LeadsTo, LeadsO
 use Rattle.imagesize_types.specs.declared.size.ImageSize.{ImageSize}
 use Rattle.imagesize_source.specs.declared.halt.Halt.{Halt}
 use Rattle.imagesize_source.specs.declared.halt.Halt.TheVariants.{Corrupted, Ended}
-use Rattle.imagesize_source.specs.Agreement.{IsLocal}
-use Rattle.imagesize_source.specs.Chain.{Along, Said, Decided, Next, Advances, start}
+use Rattle.imagesize_source.specs.Chain.{Along, Said, Next, Advances, start}
 use Rattle.imagesize_source.specs.Counts.{AtMost}
-use Rattle.imagesize_source.specs.Extension.{Plain, Lasts}
+use Rattle.imagesize_source.specs.Extension.{Plain}
 use Rattle.imagesize_source.specs.Input.{part, span_of}
 use Rattle.imagesize_source.specs.Numbers.{number}
 use Rattle.imagesize_source.specs.Strides.{Strides}
 use Rattle.imagesize_source.specs.declared.endian.Endian.TheVariants.{Big}
 use Rattle.imagesize_source.specs.Layout.{Layout, layout_reads, refuse, done}
-use Rattle.imagesize_source.specs.Reading.{Reads, go_on, map_answer, put_behind, bytes_at, number_at, refuses, uncounted}
+use Rattle.imagesize_source.specs.Reading.{Reads, map_answer, put_behind, bytes_at, number_at, refuses, uncounted}
 use Rattle.imagesize_source.specs.Paying.{Nears}
 use Rattle.imagesize_source.specs.State.{State, IsSlice, Runs, total}
 use Rattle.imagesize_source.specs.Walk.{KeepsOn, said_at}
 use Rattle.imagesize_source.specs.declared.walk.Found.{Found}
+use Rattle.imagesize_source.specs.declared.walk.Found.TheVariants as found
 use Rattle.imagesize_source.proofs.Advances.{Begins, Tells, advances, tells}
 use Rattle.imagesize_source.proofs.PastTheEnd.{bytes_beyond}
 use Rattle.imagesize_source.proofs.Agreement.{without_texts}
@@ -62,37 +62,12 @@ pub jpeg_advances : (d : List ℕ) → Advances jpeg_segments d
 jpeg_advances = advances jpeg_segments (λ markers offset. segment_tells (depth markers) offset)
     (λ markers offset. segment_begins (depth markers) offset)
 
-pub jpeg_lasts : Lasts jpeg
-jpeg_lasts = lasts_chain jpeg_segments jpeg_advances
-    (λ markers offset head. by_head Plain (depth markers) offset head tt (λ height width. tt) (λ marker length. tt))
-
-marked_at_most : (k offset marker : ℕ) → AtMost 4 (jpeg_marked k offset marker)
-marked_at_most k offset marker =
-    on_test (AtMost 4) (is_own_frame k marker) (jpeg_frame offset) _
-    (λ _. (omega arith, λ height. (omega arith, λ width. tt)))
-    (λ _. on_test (AtMost 4) (is_own_end k marker) (refuse Corrupted) (jpeg_other offset marker) (λ _. tt)
-    (λ _. (omega arith, λ length. tt)))
-
+-- a segment is read from at most 6 bytes
 segment_at_most : (k offset : ℕ) → AtMost 6 (jpeg_segment k offset)
 segment_at_most k offset = (
   omega arith,
-  λ head. on_test (AtMost 4) (eqb (slice_index head 0) 0xFF)
-      (jpeg_marked k offset (slice_index head 1)) (refuse Corrupted) (λ _. marked_at_most k offset (slice_index head 1))
-      (λ _. tt),
-)
-
--- what is seen of an input
-pub jpeg_local : IsLocal false jpeg
-jpeg_local = local_chain jpeg_segments jpeg_advances
-    (λ markers offset. without_texts false 6 (jpeg_segment (depth markers) offset)
-    (segment_at_most (depth markers) offset))
-
--- a segment is read from at most 6 bytes
-pub jpeg_cost : (d : List ℕ) → 12 + total (jpeg d).marks ≤ 18 + 20 * (jpeg d).begun
-jpeg_cost d = omega (
-  arith,
-  chain_cost jpeg_segments d (jpeg_advances d) 6
-      (λ markers offset. segment_at_most (depth markers) offset),
+  λ head. by_head (AtMost 4) k offset head tt (omega arith, λ height. (omega arith, λ width. tt))
+      (λ marker. (omega arith, λ length. tt)),
 )
 
 counts_on : (p : ℕ → Bool) (markers : List ℕ) (marker : ℕ)
@@ -123,24 +98,16 @@ pub shallow : (k offset : ℕ) → (markers : List ℕ) × Stands k markers offs
 shallow k offset h small = let less = h.1.shallow in omega arith
 
 -- behind a segment the next one stands as deep as that leads
-stands_next : (k behind offset : ℕ) (markers : List ℕ) (said : Said ℕ ImageSize) (a b : State) → Stands k markers offset
-    → LeadsOn k behind said → Nears a b offset said → KeepsOn (Stands behind) markers said
-unfolding LeadsTo
-stands_next k behind offset markers (Decided size) a b h leads nears = tt
-stands_next k behind offset markers (Next marker next) a b h leads nears =
-    let rises = depth_rises k marker in let less = h.shallow in let on = nears.0 in let is = leads.0 in
-    record {
-      nested = subst (λ n. Nested n (markers ++ marker ∷ [])) (sym leads.0)
-          (nested_on k marker markers leads.1 h.nested);
-      shallow = omega arith;
-    }
-
 pub stands_on : (k behind offset : ℕ) (markers : List ℕ) (r : Result (Found ℕ ImageSize) Halt) (a b : State)
     → Stands k markers offset
     → IfOk r (λ found. LeadsOn k behind (said_at offset found)) → IfOk r (λ found. Nears a b offset (said_at offset found))
     → IfOk r (λ found. KeepsOn (Stands behind) markers (said_at offset found))
-stands_on k behind offset markers (Ok found) a b h leads nears =
-    stands_next k behind offset markers (said_at offset found) a b h leads nears
+unfolding LeadsTo
+stands_on k behind offset markers (Ok (found.Answer size)) a b h leads nears = tt
+stands_on k behind offset markers (Ok (found.Other marker length)) a b h leads nears = record {
+  nested = rw leads.0 (nested_on k marker markers leads.1 h.nested);
+  shallow = omega (arith, depth_rises k marker, h.shallow, nears.0, leads.0);
+}
 stands_on k behind offset markers (Err why) a b h leads nears = tt
 
 -- it is the segment behind these markers
@@ -154,7 +121,7 @@ segment_as {a} {b} {r} k offset run markers h =
 pub stands_stay : (k behind offset : ℕ) (markers : List ℕ) (r : Result (Found ℕ ImageSize) Halt) → Stands k markers offset
     → IfErr r (λ _. behind ≡ k) → IfErr r (λ _. Stands behind markers offset)
 stands_stay k behind offset markers (Ok found) h same = tt
-stands_stay k behind offset markers (Err why) h same = subst (λ n. Stands n markers offset) (sym same) h
+stands_stay k behind offset markers (Err why) h same = rw same h
 
 -- from the end of the input on there is none
 pub jpeg_ends : (d : List ℕ) (depth offset : ℕ) → length d ≤ offset
@@ -167,127 +134,116 @@ jpeg_ends d depth offset h = ap uncounted (bytes_beyond d offset 2 (λ head. con
 abbrev allowed : List ℕ → ℕ → ℕ
 allowed d offset = (length d - offset) + cond (eqb (slice_index d offset) 0xFF) 6 2
 
-Used : List ℕ → ℕ → Reads (Said ℕ ImageSize) → Type 0
-Used d offset reads = (marker next : ℕ) → reads.answer ≡ Ok (Next marker next)
-    → total reads.marks + allowed d next ≤ allowed d offset
-
 leaves : (n offset length first second next : ℕ) → offset + 4 ≤ n → length ≡ 256 * first + second
     → (length ≡ 0 → next ≡ first)
     → (length ≡ 1 → next ≡ second) → 4 + ((n - (offset + (2 + length))) + cond (eqb next 0xFF) 6 2) ≤ (n - offset) + 6
 leaves n offset length first second next fits is none one = grind (arith, nat_tests)
 
-other_used : (d : List ℕ) (offset marker : ℕ) → 2 ≤ length d - offset → slice_index d offset ≡ 0xFF
-    → Used d offset (put_behind (span_of d offset 2) (layout_reads d (jpeg_other offset marker)))
-unfolding Used
-other_used d offset marker begun ff =
-    on_answer (λ w. Used d offset (put_behind (span_of d offset 2) w)) (span_of d (offset + 2) 2)
-    (number_at d Big (offset + 2) 2)
-    (λ l. layout_reads d (done (Next marker (offset + (2 + l)))))
-    (λ l got m next is.
-    let at : offset + (2 + l) ≡ next = cc in
-    let fits = number_ok d Big (offset + 2) 2 l got in
-    let first = total-span_of d offset 2 in
-    let second = total-span_of d (offset + 2) 2 in
-    let all = total-append (span_of d offset 2) (span_of d (offset + 2) 2 ++ []) in
-    let both = total-append (span_of d (offset + 2) 2) [] in
-    let left = leaves (length d) offset l (slice_index d (offset + 2)) (slice_index d (offset + 2 + 1))
-    (slice_index d next) (omega arith)
-    (big_pair d (offset + 2) l got)
-    (λ none. ap (slice_index d) (omega arith)) (λ one. ap (slice_index d) (omega arith)) in
-    let here : allowed d offset ≡ (length d - offset) + 6 = rw ff refl in
-    omega arith)
-    (λ e got m next is. absurd cc)
+module _ (d : List ℕ) (k offset : ℕ) where
+  -- the first byte of a segment
+  first_byte : (head : List ℕ) → bytes_at d offset 2 ≡ Ok head → slice_index d offset ≡ slice_index head 0
+  first_byte head got =
+      sym (part_first d offset 2 (omega arith)) ∙ ap (λ bs. slice_index bs 0) (bytes_is d head offset 2 got)
 
-segment_used : (d : List ℕ) (k offset : ℕ) → Used d offset (layout_reads d (jpeg_segment k offset))
-unfolding Used
-segment_used d k offset = on_answer (Used d offset) (span_of d offset 2) (bytes_at d offset 2) _
-    (λ head got.
-    let begun = bytes_ok d head offset 2 got in
-    let first : slice_index d offset ≡ slice_index head 0 = sym (part_first d offset 2 (omega arith))
-    ∙ ap (λ bs. slice_index bs 0)
-    (bytes_is d head offset 2 got) in
-    let P : Layout (Said ℕ ImageSize)
-    → Type 0 = λ t. Used d offset (put_behind (span_of d offset 2) (layout_reads d t)) in
-    on_test P (eqb (slice_index head 0) 0xFF) (jpeg_marked k offset (slice_index head 1)) (refuse Corrupted)
-    (λ is. let ff : slice_index head 0 ≡ 0xFF = grind (arith, nat_tests) in
-    on_test P (is_own_frame k (slice_index head 1)) (jpeg_frame offset) _
-    (λ _ m next says. absurd (tells (λ _. ⊥) d (jpeg_frame offset) m next (λ height width. tt) says))
-    (λ _. on_test P (is_own_end k (slice_index head 1)) (refuse Corrupted) (jpeg_other offset (slice_index head 1))
-    (λ _ m next says. absurd cc)
-    (λ _. other_used d offset (slice_index head 1) begun (first ∙ ff))))
-    (λ _ m next says. absurd cc))
-    (λ e got m next is. absurd cc)
+  Used : Reads (Said ℕ ImageSize) → Type 0
+  Used reads = (marker next : ℕ) → reads.answer ≡ Ok (Next marker next)
+      → total reads.marks + allowed d next ≤ allowed d offset
 
-segment_allowed : (d : List ℕ) (k offset : ℕ) → total (layout_reads d (jpeg_segment k offset)).marks ≤ allowed d offset
-segment_allowed d k offset = on_answer (λ w. total w.marks ≤ allowed d offset) (span_of d offset 2) (bytes_at d offset 2) _
-    (λ head got.
-    let begun = bytes_ok d head offset 2 got in
-    let first : slice_index d offset ≡ slice_index head 0 = sym (part_first d offset 2 (omega arith))
-    ∙ ap (λ bs. slice_index bs 0)
-    (bytes_is d head offset 2 got) in
-    let here = total-span_of d offset 2 in
-    let P : Layout (Said ℕ ImageSize)
-    → Type 0 = λ t. total (span_of d offset 2 ++ (layout_reads d t).marks) ≤ allowed d offset in
-    on_test P (eqb (slice_index head 0) 0xFF) (jpeg_marked k offset (slice_index head 1)) (refuse Corrupted)
-    (λ is. let ff : slice_index head 0 ≡ 0xFF = grind (arith, nat_tests) in
-    let all = total-append (span_of d offset 2) (layout_reads d (jpeg_marked k offset (slice_index head 1))).marks in
-    let rest = at_most d 4 (jpeg_marked k offset (slice_index head 1)) (marked_at_most k offset (slice_index head 1)) in
-    let most : allowed d offset ≡ (length d - offset) + 6 = rw (first ∙ ff) refl in
-    omega arith)
-    (λ _. let all = total-append (span_of d offset 2) [] in
-    let few : 2 ≤ allowed d offset = grind (arith, nat_tests) in omega arith))
-    (λ e got. let here = total-span_of d offset 2 in let few : 2 ≤ allowed d offset = grind (arith, nat_tests) in
-    omega arith)
+  other_used : (marker : ℕ) → 2 ≤ length d - offset → slice_index d offset ≡ 0xFF
+      → Used (put_behind (span_of d offset 2) (layout_reads d (jpeg_other offset marker)))
+  unfolding Used
+  other_used marker begun ff =
+      on_answer (λ w. Used (put_behind (span_of d offset 2) w)) (span_of d (offset + 2) 2) (number_at d Big (offset + 2) 2)
+      (λ l. layout_reads d (done (Next marker (offset + (2 + l)))))
+      (λ l got m next is.
+      let at : offset + (2 + l) ≡ next = cc in
+      let fits = number_ok d Big (offset + 2) 2 l got in
+      let here : allowed d offset ≡ (length d - offset) + 6 = rw ff refl in
+      omega (
+        arith,
+        total-span_of d offset 2,
+        total-span_of d (offset + 2) 2,
+        total-append (span_of d offset 2) (span_of d (offset + 2) 2 ++ []),
+        total-append (span_of d (offset + 2) 2) [],
+        leaves (length d) offset l (slice_index d (offset + 2)) (slice_index d (offset + 2 + 1)) (slice_index d next)
+            (omega arith) (big_pair d (offset + 2) l got) (λ none. ap (slice_index d) (omega arith))
+            (λ one. ap (slice_index d) (omega arith)),
+      ))
+      (λ e got m next is. absurd cc)
 
--- with its type it is read from at most 28 bytes more than the input has: the segments from at most 6 more
-pub jpeg_within : (d : List ℕ) → 12 + total (jpeg d).marks ≤ length d + 28
-unfolding Used
-jpeg_within d =
-    let most = chain_within jpeg_segments d (jpeg_advances d) (λ t. allowed d t.offset)
-    (λ t marker next is. segment_used d (depth t.held) t.offset marker next is)
-    (λ t. segment_allowed d (depth t.held) t.offset)
-    (start jpeg_segments) in
-    let few : allowed d 2 ≤ length d + 6 = grind (arith, nat_tests) in
-    omega arith
+  segment_used : Used (layout_reads d (jpeg_segment k offset))
+  unfolding Used
+  segment_used = on_answer Used (span_of d offset 2) (bytes_at d offset 2) _
+      (λ head got. let P : Layout (Said ℕ ImageSize) → Type 0 = λ t. Used (put_behind (span_of d offset 2) (layout_reads d t)) in
+      on_test P (eqb (slice_index head 0) 0xFF) (jpeg_marked k offset (slice_index head 1)) (refuse Corrupted)
+      (λ is. let ff : slice_index head 0 ≡ 0xFF = grind (arith, nat_tests) in
+      on_test P (is_own_frame k (slice_index head 1)) (jpeg_frame offset) _
+      (λ _ m next says. absurd (tells (λ _. ⊥) d (jpeg_frame offset) m next (λ height width. tt) says))
+      (λ _. on_test P (is_own_end k (slice_index head 1)) (refuse Corrupted) (jpeg_other offset (slice_index head 1))
+      (λ _ m next says. absurd cc)
+      (λ _. other_used (slice_index head 1) (bytes_ok d head offset 2 got) (first_byte head got ∙ ff))))
+      (λ _ m next says. absurd cc))
+      (λ e got m next is. absurd cc)
 
+  segment_allowed : total (layout_reads d (jpeg_segment k offset)).marks ≤ allowed d offset
+  segment_allowed = by_first (eqb (slice_index d offset) 0xFF) refl where
+    by_first : (is_ff : Bool) → eqb (slice_index d offset) 0xFF ≡ is_ff
+        → total (layout_reads d (jpeg_segment k offset)).marks ≤ (length d - offset) + cond is_ff 6 2
+    by_first true is = omega (arith, at_most d 6 (jpeg_segment k offset) (segment_at_most k offset))
+    by_first false is = on_answer (λ w. total w.marks ≤ (length d - offset) + 2) (span_of d offset 2) (bytes_at d offset 2) _
+        (λ head got. let no : eqb (slice_index head 0) 0xFF ≡ false = ap (λ b. eqb b 0xFF) (sym (first_byte head got)) ∙ is in
+        rw no (omega (arith, total-span_of d offset 2, total-append (span_of d offset 2) [])))
+        (λ e got. omega (arith, total-span_of d offset 2))
+
+-- With its type it is read from at most 28 bytes more than the input has: the segments from at most 6 more.
 pub jpeg_laws : RecordedLaws 12 18 20 true false jpeg
+unfolding Used
 jpeg_laws = record {
-  local = jpeg_local;
-  cost = jpeg_cost;
-  within = jpeg_within;
-  lasts =
-      λ _. answers_last jpeg jpeg_lasts;
+  local = local_chain jpeg_segments jpeg_advances
+      (λ markers offset. without_texts false 6 (jpeg_segment (depth markers) offset)
+      (segment_at_most (depth markers) offset));
+  cost = λ d. omega (
+    arith,
+    chain_cost jpeg_segments d (jpeg_advances d) 6 (λ markers offset. segment_at_most (depth markers) offset),
+  );
+  within = λ d.
+      let few : allowed d 2 ≤ length d + 6 = grind (arith, nat_tests) in
+      omega (
+        arith,
+        chain_within jpeg_segments d (jpeg_advances d) (λ t. allowed d t.offset)
+            (λ t marker next is. segment_used d (depth t.held) t.offset marker next is)
+            (λ t. segment_allowed d (depth t.held) t.offset) (start jpeg_segments),
+      );
+  lasts = λ _. answers_last jpeg (lasts_chain jpeg_segments jpeg_advances
+      (λ markers offset head. by_head Plain (depth markers) offset head tt (λ height width. tt) (λ marker length. tt)));
 }
 
 -- ---- segments that say nothing of the size, by their first four bytes
 
+bytes_all : (d : List ℕ) (offset k : ℕ) → k ≤ length d - offset → bytes_at d offset k ≡ Ok (part d offset k)
+unfolding bytes_at
+bytes_all d offset k all = let test : leb k (length d - offset) ≡ true = grind (arith, nat_tests) in rw test refl
+
+number_all : (d : List ℕ) (offset k : ℕ) → k ≤ length d - offset
+    → number_at d Big offset k ≡ Ok (number Big (part d offset k))
+unfolding number_at
+number_all d offset k all = ap (map_answer (number Big)) (bytes_all d offset k all)
+
 plain_says : (d head : List ℕ) (offset : ℕ) → length head ≡ 4 → head ≡ part d offset 4 → is_plain head ≡ true
     → (layout_reads d (jpeg_segment 0 offset)).answer
     ≡ Ok (Next (slice_index head 1) (offset + (2 + number Big (slice_index head 2 ∷ slice_index head 3 ∷ []))))
-unfolding bytes_at number_at
 plain_says d (a ∷ b ∷ high ∷ low ∷ []) offset long is plain =
     let there : 4 ≤ length d - offset = omega (arith, ap length is, part_length d offset 4) in
     let front : part d offset 2 ≡ a ∷ b ∷ [] = sym (part_front d offset 2 4 (omega arith)) ∙ ap (take 2) (sym is) in
     let back : part d (offset + 2) 2 ≡ high ∷ low ∷ [] = sym (part_behind d offset 2 2) ∙ ap (drop 2) (sym is) in
-    let first : leb 2 (length d - offset) ≡ true = grind (arith, nat_tests) in
-    let second : leb 2 (length d - (offset + 2)) ≡ true = grind (arith, nat_tests) in
-    let head : bytes_at d offset 2 ≡ Ok (a ∷ b ∷ []) = ap (λ t. cond t (Ok (part d offset 2)) (Err Ended)) first ∙ ap Ok front in
+    let head : bytes_at d offset 2 ≡ Ok (a ∷ b ∷ []) = bytes_all d offset 2 (omega arith) ∙ ap Ok front in
     let size : number_at d Big (offset + 2) 2 ≡ Ok (number Big (high ∷ low ∷ [])) =
-    ap (λ t. map_answer (number Big) (cond t (Ok (part d (offset + 2) 2)) (Err Ended))) second ∙ ap (λ bs. Ok (number Big bs)) back in
+    number_all d (offset + 2) 2 (omega arith) ∙ ap (λ bs. Ok (number Big bs)) back in
     let ff : eqb a 0xFF ≡ true = grind (arith, nat_tests) in
     let no_frame : is_own_frame 0 b ≡ false = grind (arith, nat_tests) in
     let no_end : is_own_end 0 b ≡ false = grind (arith, nat_tests) in
-    ap (λ r. (go_on (span_of d offset 2) r (λ bs. layout_reads d (cond (eqb (slice_index bs 0) 0xFF)
-    (jpeg_marked 0 offset (slice_index bs 1)) (refuse Corrupted)))).answer) head
-    ∙ ap (λ t. (layout_reads d (cond t (jpeg_marked 0 offset b) (refuse Corrupted))).answer) ff
-    ∙ ap (λ t. (layout_reads d (cond t (jpeg_frame offset) (cond (is_own_end 0 b) (refuse Corrupted) (jpeg_other offset b)))).answer) no_frame
-    ∙ ap (λ t. (layout_reads d (cond t (refuse Corrupted) (jpeg_other offset b))).answer) no_end
-    ∙ ap (λ r. (go_on (span_of d (offset + 2) 2) r (λ v. layout_reads d (done (Next b (offset + (2 + v)))))).answer) size
-plain_says d [] offset long is plain = absurd (omega (arith, long))
-plain_says d (a ∷ []) offset long is plain = absurd (omega (arith, long))
-plain_says d (a ∷ b ∷ []) offset long is plain = absurd (omega (arith, long))
-plain_says d (a ∷ b ∷ c ∷ []) offset long is plain = absurd (omega (arith, long))
-plain_says d (a ∷ b ∷ c ∷ e ∷ f ∷ rest) offset long is plain = absurd (omega (arith, long))
+    rw (head, ff, no_frame, no_end, size) refl
+plain_says d other offset long is plain = absurd (omega (arith, long))
 
 -- a walk has come over such a segment
 pub plain_strides : {a s : State} {t : Along ℕ} (head : List ℕ) (offset next : ℕ) → IsSlice s → length s.held.input < 2 ^ 63

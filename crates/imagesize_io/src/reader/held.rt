@@ -3,6 +3,7 @@ ghost use Rattle.std.specs.Prelude.{◌≡◌, ◌+◌, ◌-◌, ◌^◌, ◌<�
 ghost use Rattle.imagesize_source.specs.Text.{is_ended};
 ghost use Rattle.imagesize_io.specs.Held.{HoldsFrom, IsWhole, is_line};
 ghost use Rattle.imagesize_io.specs.ReaderState.{ReadsAt, ReadsOn};
+ghost use Rattle.imagesize_io.specs.Standing.{Passed};
 ghost use Rattle.imagesize_io.specs.Telling.{account};
 
 use super::Ledger;
@@ -142,13 +143,7 @@ pub(super) fn held_from<'r, R: Told>(
 fn pass(ledger: &mut Ledger, offset: u64, count: usize)
     requires { ledger.old.progress.taken + count ≤ ledger.old.progress.budget }
     ensures window { ledger.new.window ≡ ledger.old.window }
-    ensures told { ledger.new.progress.told ≡ ledger.old.progress.told }
-    ensures budget { ledger.new.progress.budget ≡ ledger.old.progress.budget }
-    ensures offset { ledger.new.progress.offset ≡ ledger.old.progress.offset }
-    ensures retries { ledger.new.progress.retries ≡ ledger.old.progress.retries }
-    ensures fault { ledger.new.progress.fault ≡ ledger.old.progress.fault }
-    ensures taken { ledger.new.progress.taken ≡ ledger.old.progress.taken + count }
-    ensures position { ledger.new.progress.position ≡ min (offset + count) (2 ^ 64 - 1) }
+    ensures passed { Passed ledger.old.progress ledger.new.progress offset count }
     ensures present { ledger.new.present ≡ min (offset + count) (2 ^ 64 - 1) }
 {
     // The proof needs that the budget fits its type.

@@ -1,7 +1,8 @@
 //! Texts from a reader: from the bytes that it holds, or byte by byte, so that no byte after the text is read.
-ghost use Rattle.std.specs.Prelude.{◌≡◌, ◌≤◌, true, None, Ok, IfSome, length, take};
+ghost use Rattle.std.specs.Prelude.{◌≡◌, ◌<◌, ◌≤◌, true, None, Ok, IfSome, length, take};
 ghost use Rattle.imagesize_io.specs.Held.{IsWhole, is_line};
 ghost use Rattle.imagesize_io.specs.ReaderState.{ReadsAt, ReadsText};
+ghost use Rattle.imagesize_io.specs.Rest.{ReadsMore};
 ghost use Rattle.imagesize_io.specs.Telling.{account};
 
 use super::Ledger;
@@ -45,45 +46,73 @@ fn read_by_bytes<R: Told>(
 {
     let mut begun = false;
     let mut count = read_held_part(reader, ledger, offset, text, buffer);
-    // The reader holds no more of a line. It is asked again after the next byte.
-    let mut again = count.saturating_add(1);
+    // The reader holds no more of a line. It is asked for the rest after the next byte. If it does not hold that, it is asked again
+    // once twice as many bytes were read. By then it may have filled its buffer. So few searches are in vain. A word is not asked for.
+    let mut again = if is_line(text) {
+        count.saturating_add(1)
+    } else {
+        usize::MAX
+    };
     while count < buffer.len() {
         let next = offset.saturating_add(count as u64);
-        if let Some(rest) = read_rest(
+        let asks = count >= again;
+        if asks {
+            again = count + count;
+        }
+        if let Some(last) = read_more(
             reader,
             ledger,
             next,
             text,
-            count,
-            &mut again,
+            &mut begun,
+            asks,
             &mut buffer[count..],
-        ) {
-            return Ok(count + rest);
+        )? {
+            return Ok(count + last);
         }
-        if read_on(reader, ledger, next, &mut buffer[count..count + 1])? == 0 {
-            break;
-        }
-        let byte = buffer[count];
         count += 1;
-        if is_end(text, begun, byte) {
-            break;
-        }
-        begun |= !byte.is_ascii_whitespace();
     }
     Ok(count)
 }
 
-// The rest of a line from the bytes that the reader holds. It is a line itself, so it need not be read byte by byte. `count`
-// bytes of the line were read. If the reader does not hold the rest, it is asked again once twice as many bytes were read. By
-// then it may have filled its buffer. So few searches are in vain.
+// Reads the rest of a line if `asks` is set and the reader holds it. Otherwise reads one byte. Returns how many bytes were read if
+// the text ends with them, and `None` if the text goes on after one byte.
+#[inline(always)]
+fn read_more<R: Told>(
+    reader: &mut R,
+    ledger: &mut Ledger,
+    offset: u64,
+    text: Text,
+    begun: &mut bool,
+    asks: bool,
+    buffer: &mut [u8],
+) -> Result<Option<usize>, Halt>
+    requires { 0 < length buffer.old }
+    ensures { ReadsMore ledger.old ledger.new (account R.telling R.count R.failure reader.old)
+        (account R.telling R.count R.failure reader.new) text begun.old begun.new offset buffer.new result }
+{
+    if let Some(rest) = read_rest(reader, ledger, offset, text, asks, buffer) {
+        return Ok(Some(rest));
+    }
+    if read_on(reader, ledger, offset, &mut buffer[..1])? == 0 {
+        return Ok(Some(0));
+    }
+    let byte = buffer[0];
+    if is_end(text, *begun, byte) {
+        return Ok(Some(1));
+    }
+    *begun |= !byte.is_ascii_whitespace();
+    Ok(None)
+}
+
+// The rest of a line from the bytes that the reader holds. It is a line itself, so it need not be read byte by byte.
 #[inline(always)]
 fn read_rest<R: Told>(
     reader: &R,
     ledger: &mut Ledger,
-    next: u64,
+    offset: u64,
     text: Text,
-    count: usize,
-    again: &mut usize,
+    asks: bool,
     buffer: &mut [u8],
 ) -> Option<usize>
     ensures bound { IfSome result (λ n. n ≤ length buffer.new) }
@@ -91,11 +120,10 @@ fn read_rest<R: Told>(
     ensures line { IfSome result (λ _. is_line text ≡ true) }
     ensures none { result ≡ None → ledger.new ≡ ledger.old }
     ensures reads { IfSome result (λ n. ReadsAt ledger.old ledger.new (account R.telling R.count R.failure reader.now)
-        (account R.telling R.count R.failure reader.now) next (take n buffer.new) (Ok n)) }
+        (account R.telling R.count R.failure reader.now) offset (take n buffer.new) (Ok n)) }
 {
-    if count < *again || !is_line(text) {
+    if !asks || !is_line(text) {
         return None;
     }
-    *again = count.saturating_add(count);
-    read_held_text(reader, ledger, next, text, buffer)
+    read_held_text(reader, ledger, offset, text, buffer)
 }

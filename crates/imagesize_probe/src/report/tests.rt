@@ -19,7 +19,7 @@ fn report_bytes(name: &str, bytes: &[u8], written: &mut Vec<u8>) -> io::Result<b
 {
     // The proof needs that the length is below 2^63.
     let _length = bytes.len();
-    report(name, Cursor::new(bytes), written)
+    report(name, &mut Cursor::new(bytes), written)
 }
 
 const GIF: [u8; 12] = *b"GIF89a\x64\0\x64\0\0\0";
@@ -140,7 +140,7 @@ fn fault() -> io::Error {
 fn line_of_a_fault_has_its_text(rt: HostRuntime) -> Result<(), Fail> {
     let alloc = rt.alloc();
     let mut written = Vec::new(alloc);
-    assert_eq!(rt; report("pipe", Unseekable, &mut written)?, false);
+    assert_eq!(rt; report("pipe", &mut Unseekable, &mut written)?, false);
     let error = fault();
     let line = format!(in alloc; "pipe: error: {error}\n")?;
     assert_eq!(rt; written.as_slice(), line.as_bytes());
@@ -199,7 +199,7 @@ impl Write for Full {
 }
 
 fn report_into(left: usize, bytes: &[u8]) -> io::Result<bool> {
-    report("a", Cursor::new(bytes), &mut Full { left })
+    report("a", &mut Cursor::new(bytes), &mut Full { left })
 }
 
 #[test]

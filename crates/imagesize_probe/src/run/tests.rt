@@ -7,7 +7,7 @@ ghost use Rattle.imagesize_source.specs.declared.error.Reason.TheVariants.{Memor
 
 use super::{Open, WHOLE, exit_code, run};
 use crate::{Disk, buffered};
-use imagesize::{ImageError, ImageResult, Reason};
+use imagesize::{ImageError, ImageResult, Reason, Told};
 use std::alloc::{AllocError, Global};
 use std::fs;
 use std::io::{self, Cursor, ErrorKind, Write};
@@ -373,7 +373,7 @@ fn refused_lines<R: Files + AllocGlobal + Abort>(
     let arguments = strings(alloc, arguments)?;
     let mut output = Vec::new(alloc);
     let mut errors = Vec::new(alloc);
-    let mut disk = Disk { rt };
+    let mut disk = Disk { rt, block: None };
     let status = run(alloc, &arguments, &mut disk, &mut output, &mut errors)?;
     assert_eq!(rt; status, 1);
     Ok(String::from_utf8(output)?)
@@ -398,6 +398,24 @@ fn files_that_cannot_be_read_have_a_line(rt: HostRuntime) -> Result<(), Fail> {
         assert_eq!(rt; lines.next(), Some(none.as_str()));
         assert_eq!(rt; lines.next(), None);
     }
+    Ok(())
+}
+
+#[test]
+fn a_block_serves_one_file_after_another(rt: HostRuntime) -> Result<(), Fail> {
+    let mut disk = Disk {
+        rt: &rt,
+        block: None,
+    };
+    let mut reader = disk.open("/dev/zero")?;
+    assert!(rt; matches!(reader.read_told(&mut [0u8; 12]), Ok(12)));
+    assert!(rt; !reader.held().is_empty());
+    disk.close(reader);
+    assert!(rt; disk.open("no such file").is_err());
+    assert!(rt; disk.block.is_some());
+    let reader = disk.open("/dev/null")?;
+    assert!(rt; disk.block.is_none());
+    assert!(rt; reader.held().is_empty());
     Ok(())
 }
 

@@ -37,7 +37,8 @@ pub struct HeldSource<'a, S: Claims> {
     // The reported length of the input.
     told: u64,
     budget: u64,
-    // How many bytes the budget still has. With the count of the bytes read, each read would subtract it from the budget first.
+    // How many bytes the budget still has. A read compares it as it is: a count of the bytes read would first be subtracted from the
+    // budget.
     left: u64,
     // The offset at which the last read ended.
     position: u64,
@@ -92,7 +93,8 @@ impl<'a, S: Claims> HeldSource<'a, S> {
         }
     }
 
-    // The bytes from an offset on. `None` if they begin after it, or end before it.
+    // The bytes from an offset on. `None` if they begin after it, or end before it. Texts are read by it: by the one test of `whole`, a
+    // long line costs more.
     #[inline(always)]
     fn from(&self, offset: u64) -> Option<&'a [u8]>
         ensures ahead { IfSome result (λ _. self.now.start ≤ offset) }
@@ -112,8 +114,8 @@ impl<'a, S: Claims> HeldSource<'a, S> {
         Some(&self.bytes[ahead as usize..])
     }
 
-    // The bytes from an offset on. `None` if fewer than `count` of them are here. One test also finds an offset before them: the
-    // difference wraps.
+    // The bytes from an offset on, if at least `count` of them are here. An offset before them wraps to a difference past their end, so
+    // one test finds both.
     #[inline(always)]
     fn whole(&self, offset: u64, count: usize) -> Option<&'a [u8]>
         ensures ahead { IfSome result (λ _. self.now.start ≤ offset) }
@@ -144,8 +146,7 @@ impl<'a, S: Claims> HeldSource<'a, S> {
         ensures told { self.new.told ≡ self.old.told }
         ensures budget { self.new.budget ≡ self.old.budget }
         ensures of { self.new.of.now ≡ self.old.of.now }
-        ensures paid { result ≡ true → (self.old.budget - self.new.left ≡ self.old.budget - self.old.left + count)
-            × (self.new.position ≡ offset + count) }
+        ensures paid { result ≡ true → (self.new.left + count ≡ self.old.left) × (self.new.position ≡ offset + count) }
         ensures spent { result ≡ false → (self.new.left ≡ self.old.left) × (self.new.position ≡ self.old.position) }
     {
         if self.left < count as u64 {

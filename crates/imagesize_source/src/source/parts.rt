@@ -116,7 +116,8 @@ impl<'a> PartsSource<'a> {
     // Records a span.
     #[inline(always)]
     fn push(&mut self, span: Span)
-        requires { (offset : ℕ) → has_offset span offset ≡ true → is_some (byte_in_parts self.old.told self.old.spans.now self.old.bytes.now offset) ≡ true }
+        requires { (offset : ℕ) → has_offset span offset ≡ true
+            → is_some (byte_in_parts self.old.told self.old.spans.now self.old.bytes.now offset) ≡ true }
         ensures spans { self.new.spans.now ≡ self.old.spans.now }
         ensures bytes { self.new.bytes.now ≡ self.old.bytes.now }
         ensures told { self.new.told ≡ self.old.told }
@@ -128,7 +129,8 @@ impl<'a> PartsSource<'a> {
 
     // Records a read whose first `count` bytes are known and whose next byte is missing.
     fn miss(&mut self, start: u64, count: usize, sure: usize, most: usize) -> Halt
-        requires known { (i : ℕ) → i < count → is_some (byte_in_parts self.old.told self.old.spans.now self.old.bytes.now (start + i)) ≡ true }
+        requires known { (i : ℕ) → i < count
+            → is_some (byte_in_parts self.old.told self.old.spans.now self.old.bytes.now (start + i)) ≡ true }
         requires some { 0 < sure }
         requires among { sure ≤ most }
         requires fits { start + count + most ≤ self.old.told }
@@ -160,9 +162,12 @@ impl<'a> PartsSource<'a> {
         ensures missed { self.new.missed ≡ self.old.missed }
         ensures wanted { result.1 ≡ min (length buffer.new) (self.old.told - offset) }
         ensures within { result.0 ≤ result.1 }
-        ensures copied { take result.0 buffer.new ≡ part (filled_input self.old.told self.old.spans.now self.old.bytes.now) offset result.0 }
-        ensures known { (i : ℕ) → i < result.0 → is_some (byte_in_parts self.old.told self.old.spans.now self.old.bytes.now (offset + i)) ≡ true }
-        ensures missing { result.0 < result.1 → is_some (byte_in_parts self.old.told self.old.spans.now self.old.bytes.now (offset + result.0)) ≡ false }
+        ensures copied { take result.0 buffer.new
+            ≡ part (filled_input self.old.told self.old.spans.now self.old.bytes.now) offset result.0 }
+        ensures known { (i : ℕ) → i < result.0
+            → is_some (byte_in_parts self.old.told self.old.spans.now self.old.bytes.now (offset + i)) ≡ true }
+        ensures missing { result.0 < result.1
+            → is_some (byte_in_parts self.old.told self.old.spans.now self.old.bytes.now (offset + result.0)) ≡ false }
     {
         let wanted = count_there(self.told, offset, buffer.len());
         let found = self.gather(offset, &mut buffer[..wanted]);
@@ -181,8 +186,10 @@ impl<'a> PartsSource<'a> {
         ensures missed { self.new.missed ≡ self.old.missed }
         ensures within { result ≤ length buffer.old }
         ensures copied { take result buffer.new ≡ part (filled_input self.old.told self.old.spans.now self.old.bytes.now) offset result }
-        ensures known { (i : ℕ) → i < result → is_some (byte_in_parts self.old.told self.old.spans.now self.old.bytes.now (offset + i)) ≡ true }
-        ensures missing { result < length buffer.old → is_some (byte_in_parts self.old.told self.old.spans.now self.old.bytes.now (offset + result)) ≡ false }
+        ensures known { (i : ℕ) → i < result
+            → is_some (byte_in_parts self.old.told self.old.spans.now self.old.bytes.now (offset + i)) ≡ true }
+        ensures missing { result < length buffer.old
+            → is_some (byte_in_parts self.old.told self.old.spans.now self.old.bytes.now (offset + result)) ≡ false }
     {
         if buffer.is_empty() || self.spans.len() <= FEW {
             return self.gather_among(&self.all(), offset, buffer);
@@ -201,8 +208,10 @@ impl<'a> PartsSource<'a> {
         ensures missed { self.new.missed ≡ self.old.missed }
         ensures within { result ≤ length buffer.old }
         ensures copied { take result buffer.new ≡ part (filled_input self.old.told self.old.spans.now self.old.bytes.now) offset result }
-        ensures known { (i : ℕ) → i < result → is_some (byte_in_parts self.old.told self.old.spans.now self.old.bytes.now (offset + i)) ≡ true }
-        ensures missing { result < length buffer.old → is_some (byte_in_parts self.old.told self.old.spans.now self.old.bytes.now (offset + result)) ≡ false }
+        ensures known { (i : ℕ) → i < result
+            → is_some (byte_in_parts self.old.told self.old.spans.now self.old.bytes.now (offset + i)) ≡ true }
+        ensures missing { result < length buffer.old
+            → is_some (byte_in_parts self.old.told self.old.spans.now self.old.bytes.now (offset + result)) ≡ false }
     {
         self.pass_over(offset);
         let rest = self.rest_at(offset);
@@ -217,8 +226,10 @@ impl<'a> PartsSource<'a> {
         requires floor { rest.now.floor ≤ offset }
         ensures within { result ≤ length buffer.old }
         ensures copied { take result buffer.new ≡ part (filled_input self.now.told self.now.spans.now self.now.bytes.now) offset result }
-        ensures known { (i : ℕ) → i < result → is_some (byte_in_parts self.now.told self.now.spans.now self.now.bytes.now (offset + i)) ≡ true }
-        ensures missing { result < length buffer.old → is_some (byte_in_parts self.now.told self.now.spans.now self.now.bytes.now (offset + result)) ≡ false }
+        ensures known { (i : ℕ) → i < result
+            → is_some (byte_in_parts self.now.told self.now.spans.now self.now.bytes.now (offset + i)) ≡ true }
+        ensures missing { result < length buffer.old
+            → is_some (byte_in_parts self.now.told self.now.spans.now self.now.bytes.now (offset + result)) ≡ false }
     {
         let mut count = 0;
         while count < buffer.len() {
@@ -236,7 +247,8 @@ impl<'a> PartsSource<'a> {
     fn known_at(&self, rest: &Rest<'a>, offset: u64) -> &'a [u8]
         requires later { LeavesOut self.now.told self.now.spans.now self.now.bytes.now rest.now.floor rest.now.spans.now rest.now.bytes.now }
         requires floor { rest.now.floor ≤ offset }
-        ensures known { (i : ℕ) → i < length result.now → byte_in_parts self.now.told self.now.spans.now self.now.bytes.now (offset + i) ≡ Some (slice_index result.now i) }
+        ensures known { (i : ℕ) → i < length result.now
+            → byte_in_parts self.now.told self.now.spans.now self.now.bytes.now (offset + i) ≡ Some (slice_index result.now i) }
         ensures none { length result.now ≡ 0 → is_some (byte_in_parts self.now.told self.now.spans.now self.now.bytes.now offset) ≡ false }
     {
         known_from(rest.spans, rest.bytes, self.told, offset)
@@ -434,7 +446,8 @@ pub fn put(run: &[u8], buffer: &mut [u8], index: usize) -> usize
 // The known bytes from an offset on, from the first part that contains it. They end where the part ends, or where an earlier part
 // of the list begins.
 fn known_from<'a>(spans: &[Span], bytes: &'a [u8], told: u64, offset: u64) -> &'a [u8]
-    ensures known { (i : ℕ) → i < length result.now → byte_in_parts told spans.now bytes.now (offset + i) ≡ Some (slice_index result.now i) }
+    ensures known { (i : ℕ) → i < length result.now
+        → byte_in_parts told spans.now bytes.now (offset + i) ≡ Some (slice_index result.now i) }
     ensures none { length result.now ≡ 0 → is_some (byte_in_parts told spans.now bytes.now offset) ≡ false }
 {
     let mut rest = bytes;
@@ -470,7 +483,7 @@ fn joined_end(spans: &[Span], told: u64) -> u64
 {
     let mut end = 0;
     for span in spans {
-        // No part lies after the end of the input.
+        // A part after the end of the input gives no byte.
         if span.start != end || end >= told {
             return end;
         }

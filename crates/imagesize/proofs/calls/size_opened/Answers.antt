@@ -1,11 +1,7 @@
-use Rattle.std.proofs.Common.{Result, IfErr, ◌≡◌, false, refl, sym, ap, subst, rules}
+use Rattle.std.proofs.Common.{refl, ap, rules}
 use Rattle.imagesize.proofs.Endings.{budget_counted, fault_last, fault_settled, kept_plain, leaves_reader, no_memory, settled}
-use Rattle.imagesize.proofs.Meanings.{bounded_size, size_answers}
-use Rattle.imagesize.specs.Meaning.{size_of, size_reads}
-use Rattle.imagesize_io.specs.Answers.{Answers}
-use Rattle.imagesize_source.specs.Errors.{is_memory}
-use Rattle.imagesize_source.specs.declared.error.ImageError.{ImageError}
-use Rattle.imagesize_types.specs.declared.size.ImageSize.{ImageSize}
+use Rattle.imagesize.proofs.Meanings.{bounded_size, read_answers}
+use Rattle.imagesize.specs.Meaning.{size_reads}
 use Rattle.imagesize_source.specs.State.{since_of}
 use Rattle.imagesize.proofs.Within.{size_ends}
 use Rattle.imagesize_io.proofs.Leaving.{leaves_at}
@@ -13,8 +9,8 @@ use Rattle.imagesize.proofs.calls.size_opened.Goals as goal
 
 pub returns-clause-answers : goal.returns-clause-answers
 returns-clause-answers g c =
-    λ telling opens. subst (λ r. Answers telling (λ d offset. size_of c.args.kind d) r) (sym c.with_error-answer.ensures)
-    (size_answers telling _ _ _ c.args.opened _ _ c.args.kind _ c.new-source.ensures.state refl opens
+    λ telling opens. rw c.with_error-answer.ensures (read_answers (λ d offset. size_reads c.args.kind d) (bounded_size c.args.kind) telling _ _ _
+    c.args.opened _ _ _ c.new-source.ensures.state refl opens
     c.size-found.ensures)
 
 pub returns-clause-spent : goal.returns-clause-spent
@@ -25,8 +21,7 @@ returns-clause-spent g c =
 
 pub returns-clause-memory : goal.returns-clause-memory
 returns-clause-memory g c =
-    subst (λ (r : Result ImageSize ImageError). IfErr r (λ e. is_memory e ≡ false)) (sym c.with_error-answer.ensures)
-    (no_memory c.size-found.new.source.ledger.progress.fault _ _)
+    rw c.with_error-answer.ensures (no_memory c.size-found.new.source.ledger.progress.fault _ _)
 
 pub returns-clause-fault : goal.returns-clause-fault
 returns-clause-fault g c =

@@ -45,39 +45,13 @@ pkm j k = grind (arith, common_steps)
 pvrtc : RankedBy pvrtc_rank pvrtc_cmp.it
 pvrtc j k = grind (arith, common_steps)
 
+-- a variant, and those behind it
+more : {A B C : Type 0} → A → B → C → A × (B × C)
+more a b c = (a, (b, c))
+
 -- the types that have a compression, in their order
 pub returns-clause-listed : goal.returns-clause-listed
-returns-clause-listed c = listed enum _ type_rank compression_rank refl (
-  λ _. refl,
-  (
-    λ j k. atc j.0 k.0,
-    (
-      λ _. refl,
-      (
-        λ j k. dds j.0 k.0,
-        (
-          λ _. refl,
-          (
-            λ j k. pkm j.0 k.0,
-            (
-              λ _. refl,
-              (
-                λ j k. pkm j.0 k.0,
-                (
-                  λ _. refl,
-                  (
-                    λ j k. heif j.0 k.0,
-                    (
-                      λ _. refl,
-                      (λ j k. pvrtc j.0 k.0, tt),
-                    ),
-                  ),
-                ),
-              ),
-            ),
-          ),
-        ),
-      ),
-    ),
-  ),
-)
+returns-clause-listed c = listed enum _ type_rank compression_rank refl
+    (more (λ _. refl) (λ j k. atc j.0 k.0) (more (λ _. refl) (λ j k. dds j.0 k.0) (more (λ _. refl) (λ j k. pkm j.0 k.0)
+    (more (λ _. refl) (λ j k. pkm j.0 k.0) (more (λ _. refl) (λ j k. heif j.0 k.0)
+    (more (λ _. refl) (λ j k. pvrtc j.0 k.0) tt))))))

@@ -1,7 +1,7 @@
 use Rattle.std.proofs.Common.{◌≡◌, ◌+◌, ◌<◌, ◌^◌, Result, ◌∙◌, ap, sym, subst, true, false}
 use Rattle.imagesize.proofs.Wanted.{SaysOfEach, filled_known, moved, reaches_type, size_ends_of, tells, type_refused, type_sized, type_wanted, unstopped_type}
 use Rattle.imagesize.specs.Meaning.{kind_of, meaning, kind_reads, size_of, size_reads}
-use Rattle.imagesize.specs.Parted.{IfFound, IfWanted, IsProbed, Says, has_texts, texts_as, texts_of}
+use Rattle.imagesize.specs.Parted.{IfFound, IfWanted, IsProbed, has_texts, texts_as, texts_of}
 use Rattle.imagesize.specs.declared.parts.PartsAnswer.TheVariants.{Found, Wanted}
 use Rattle.imagesize.specs.declared.types.ImageType.{ImageType}
 use Rattle.imagesize_source.specs.Agreement.{EndsBetween}
@@ -18,9 +18,7 @@ returns-in-Found-Ok-clause-says c = λ d has short.
     let size = moved (SaysOfEach (has_texts c.in-Found-Ok.image)
     (size_reads c.in-Found-Ok.image) c.size_as.result) _ _ _ _ _ _
     (kept.told ∙ new.told) (kept.spans ∙ new.spans) (kept.bytes ∙ new.bytes) c.size_as.ensures.says in
-    subst (λ a. Says (texts_of d) (IsProbed d) (meaning d 0).marks c.args.total c.args.spans.now c.args.bytes.now a)
-    (sym c.with_type.ensures)
-    (type_sized d c.args.total c.args.spans.now c.args.bytes.now c.in-Found-Ok.image c.size_as.result
+    rw c.with_type.ensures (type_sized d c.args.total c.args.spans.now c.args.bytes.now c.in-Found-Ok.image c.size_as.result
     (sym c.in-Found-Ok.field-0-is ∙ kind d has short) (size d has short))
 
 pub returns-in-Found-Ok-clause-complete : goal.returns-in-Found-Ok-clause-complete
@@ -54,8 +52,7 @@ returns-in-Found-Ok-clause-unstopped c = λ short.
     let size = subst (λ n. n < 2 ^ 63 → IfFound c.size_as.result (λ answer. is_stopped answer ≡ false))
     (kept.told ∙ new.told)
     c.size_as.ensures.unstopped in
-    subst (λ a. IfFound a (λ found. is_stopped found.1 ≡ false)) (sym c.with_type.ensures)
-    (unstopped_type c.in-Found-Ok.image c.size_as.result (size short))
+    rw c.with_type.ensures (unstopped_type c.in-Found-Ok.image c.size_as.result (size short))
 
 pub returns-in-Found-Err-clause-unstopped : goal.returns-in-Found-Err-clause-unstopped
 returns-in-Found-Err-clause-unstopped c = λ short.
@@ -77,9 +74,7 @@ returns-in-Found-Ok-clause-reaches c = λ short all is_text.
     → IfWanted c.size_as.result (λ w. EndsBetween w.start (w.start + w.len)
     (size_of c.in-Found-Ok.image (filled_input n spans bytes)).marks)) _ _ _ _ _ _
     (kept.told ∙ new.told) (kept.spans ∙ new.spans) (kept.bytes ∙ new.bytes) c.size_as.ensures.reaches in
-    subst (λ a. IfWanted a (λ w. EndsBetween w.start (w.start + w.len) (meaning d 0).marks))
-    (sym c.with_type.ensures)
-    (reaches_type c.in-Found-Ok.image c.size_as.result _
+    rw c.with_type.ensures (reaches_type c.in-Found-Ok.image c.size_as.result _
     (size_ends_of d c.in-Found-Ok.image c.size_as.result is (size short (ap texts_as is ∙ is_text))))
 
 pub returns-in-Wanted-clause-reaches : goal.returns-in-Wanted-clause-reaches

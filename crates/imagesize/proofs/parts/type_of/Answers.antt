@@ -1,9 +1,8 @@
-use Rattle.std.proofs.Common.{◌≡◌, false, sym, ap, ◌∙◌, subst}
+use Rattle.std.proofs.Common.{false, ap, ◌∙◌}
 use Rattle.imagesize.proofs.Locality.{local_kind}
 use Rattle.imagesize.proofs.Wanted.{both_are, called, fits, says_of, unstopped}
-use Rattle.imagesize.specs.Meaning.{kind_of, kind_reads}
-use Rattle.imagesize.specs.Parted.{Fits, IfFound, SaysOf}
-use Rattle.imagesize_source.specs.Errors.{end_of_input, is_stopped}
+use Rattle.imagesize.specs.Meaning.{kind_reads}
+use Rattle.imagesize_source.specs.Errors.{end_of_input}
 use Rattle.imagesize_source.specs.Halts.{with_error}
 use Rattle.imagesize_source.specs.State.{Frame, parts_of}
 use Rattle.imagesize.proofs.parts.type_of.Goals as goal
@@ -11,8 +10,7 @@ use Rattle.imagesize.proofs.parts.type_of.Goals as goal
 pub returns-clause-says : goal.returns-clause-says
 returns-clause-says c = λ d has short.
     let old = c.args.source.now in let s = c.detect-found.new.source in let new = c.forget.ensures in
-    subst (λ a. SaysOf false (kind_of d 0) old.told old.spans.now old.bytes.now a) (sym c.found_or_wanted.ensures)
-    (says_of false (λ x. kind_reads x 0)
+    rw c.found_or_wanted.ensures (says_of false (λ x. kind_reads x 0)
     (local_kind 0) d old.told old.spans.now old.bytes.now has short s.log.spans s.missed end_of_input 0 _
     (called (λ x. kind_reads x 0) _ _ _ _ _ _ _ _ _ _ _ _ _ _ new.told new.spans new.bytes new.seen new.missed
     c.detect-found.ensures
@@ -23,8 +21,7 @@ returns-clause-fits c =
     let old = c.args.source.now in let s = c.detect-found.new.source in let new = c.forget.ensures in
     let call = called (λ x. kind_reads x 0) old.told _ _ old.spans.now _ _ old.bytes.now _ _ _ _ _ _ _
     new.told new.spans new.bytes new.seen new.missed c.detect-found.ensures s.seen s.lacks in
-    subst (λ a. Fits old.told a) (sym c.found_or_wanted.ensures)
-    (fits false old.told old.spans.now old.bytes.now s.missed
+    rw c.found_or_wanted.ensures (fits false old.told old.spans.now old.bytes.now s.missed
     (with_error end_of_input 0 c.detect-found.result) _ call.lacks)
 
 pub returns-clause-unstopped : goal.returns-clause-unstopped
@@ -32,8 +29,7 @@ returns-clause-unstopped c = λ short.
     let old = c.args.source.now in let s = c.detect-found.new.source in let new = c.forget.ensures in
     let call = called (λ x. kind_reads x 0) old.told _ _ old.spans.now _ _ old.bytes.now _ _ _ _ _ _ _
     new.told new.spans new.bytes new.seen new.missed c.detect-found.ensures s.seen s.lacks in
-    subst (λ a. IfFound a (λ answer. is_stopped answer ≡ false)) (sym c.found_or_wanted.ensures)
-    (unstopped (λ x. kind_reads x 0) old.told old.spans.now old.bytes.now false s.log.spans s.missed end_of_input 0
+    rw c.found_or_wanted.ensures (unstopped (λ x. kind_reads x 0) old.told old.spans.now old.bytes.now false s.log.spans s.missed end_of_input 0
     c.detect-found.result short call)
 
 pub returns-clause-spans : goal.returns-clause-spans

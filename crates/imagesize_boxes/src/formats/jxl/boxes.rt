@@ -188,7 +188,8 @@ fn read_content<S: Source>(
     requires few { length front.now ≤ 16 }
     ensures further { IfOk result (λ found. IsFurther offset (said_at offset found)) }
     ensures fits { IfOk result (λ found. FitsBehind front.now (said_at offset found)) }
-    ensures runs { Follows (S.state source.old) (S.state source.new) (map_answer (said_at offset) result) (box_content front.now offset head.now) }
+    ensures runs { Follows (S.state source.old) (S.state source.new) (map_answer (said_at offset) result)
+        (box_content front.now offset head.now) }
 {
     if is_codestream_box(head) {
         return Ok(Found::Answer(read_whole(source, offset, head)?));
@@ -230,7 +231,8 @@ fn buffer(head: &BoxHead) -> u64
 fn read_whole<S: Source>(source: &mut S, offset: u64, head: &BoxHead) -> Result<Front, Halt>
     requires sound { IsSound (S.state source.old) }
     requires is { IsHead offset head.now }
-    ensures { Follows (S.state source.old) (S.state source.new) (map_answer (λ front. Decided front) result) (codestream_box offset head.now) }
+    ensures { Follows (S.state source.old) (S.state source.new) (map_answer (λ front. Decided front) result)
+        (codestream_box offset head.now) }
 {
     let most = buffer(head).min(MOST as u64) as usize;
     read_piece(source, offset, head.length, most)
@@ -248,7 +250,8 @@ fn read_partial<S: Source>(
     requires is { IsHead offset head.now }
     ensures further { IfOk result (λ found. IsFurther offset (said_at offset found)) }
     ensures fits { IfOk result (λ found. FitsBehind front.now (said_at offset found)) }
-    ensures runs { Follows (S.state source.old) (S.state source.new) (map_answer (said_at offset) result) (partial_box front.now offset head.now) }
+    ensures runs { Follows (S.state source.old) (S.state source.new) (map_answer (said_at offset) result)
+        (partial_box front.now offset head.now) }
 {
     let buffer = buffer(head);
     if buffer < 4 {

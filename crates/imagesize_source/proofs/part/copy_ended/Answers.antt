@@ -5,44 +5,31 @@ use Rattle.imagesize_source.specs.Text.{is_ended, text_front}
 use Rattle.imagesize_source.proofs.Texts.{front_any, front_front, front_length, front_take}
 use Rattle.imagesize_source.proofs.part.copy_ended.Goals as goal
 
--- a text within the first bytes has as many of all
-text_fits : (t : Text) (bs : List ℕ) (most n : ℕ) → n ≡ length (text_front t (take most bs)) → (n ≤ length bs) × (n ≤ most)
-text_fits t bs most n counts =
-    let few = front_length t (take most bs) in
-    (omega (arith, counts, few, length-take most bs), omega (arith, counts, few, length-take most bs))
+module _ (t : Text) (bs : List ℕ) (most n : ℕ) (counts : n ≡ length (text_front t (take most bs))) where
+  -- a text within the first bytes has as many of all
+  text_fits : (n ≤ length bs) × (n ≤ most)
+  text_fits =
+      let few = front_length t (take most bs) in
+      (omega (arith, counts, few, length-take most bs), omega (arith, counts, few, length-take most bs))
 
-text_is : (t : Text) (bs : List ℕ) (most n : ℕ) → n ≡ length (text_front t (take most bs))
-    → take n bs ≡ text_front t (take most bs)
-text_is t bs most n counts = sym (take-take n most bs (text_fits t bs most n counts).1)
-    ∙ ap (λ k. take k (take most bs)) counts ∙ front_take t (take most bs)
+  text_is : take n bs ≡ text_front t (take most bs)
+  text_is = sym (take-take n most bs text_fits.1) ∙ ap (λ k. take k (take most bs)) counts ∙ front_take t (take most bs)
 
-pub copy_front-requires-clause-there : goal.copy_front-requires-clause-there
-copy_front-requires-clause-there c =
-    (text_fits c.args.text c.args.bytes.now c.min-most.result c.in-Some.count c.in-Some.ensures.length).0
-
-pub copy_front-requires-clause-fits : goal.copy_front-requires-clause-fits
-copy_front-requires-clause-fits c =
+pub copy_front-requires : goal.copy_front-requires
+copy_front-requires c =
     let fits = text_fits c.args.text c.args.bytes.now c.min-most.result c.in-Some.count c.in-Some.ensures.length in
-    omega (arith, fits.1, c.min-most.ensures)
+    record { there = fits.0; fits = omega (arith, fits.1, c.min-most.ensures) }
 
-pub returns-in-Some-clause-bound : goal.returns-in-Some-clause-bound
-returns-in-Some-clause-bound c =
+pub returns-in-Some : goal.returns-in-Some
+returns-in-Some c =
+    let bs : List ℕ = take c.min-most.result c.args.bytes.now in
     let fits = text_fits c.args.text c.args.bytes.now c.min-most.result c.in-Some.count c.in-Some.ensures.length in
-    omega (arith, fits.1, c.min-most.ensures, c.copy_front.auto.buffer)
-
-pub returns-in-Some-clause-there : goal.returns-in-Some-clause-there
-returns-in-Some-clause-there c =
-    (text_fits c.args.text c.args.bytes.now c.min-most.result c.in-Some.count c.in-Some.ensures.length).0
-
-pub returns-in-Some-clause-ended : goal.returns-in-Some-clause-ended
-returns-in-Some-clause-ended c =
-    let bs : List ℕ = take c.min-most.result c.args.bytes.now in
-    ap (is_ended c.args.text) (text_is c.args.text c.args.bytes.now c.min-most.result c.in-Some.count c.in-Some.ensures.length)
-    ∙ front_any c.args.text bs ∙ c.in-Some.ensures.ended
-
-pub returns-in-Some-clause-whole : goal.returns-in-Some-clause-whole
-returns-in-Some-clause-whole c =
-    let bs : List ℕ = take c.min-most.result c.args.bytes.now in
-    let is : take c.in-Some.count c.args.bytes.now ≡ text_front c.args.text bs =
-    text_is c.args.text c.args.bytes.now c.min-most.result c.in-Some.count c.in-Some.ensures.length in
-    ap (text_front c.args.text) is ∙ front_front c.args.text bs c.in-Some.ensures.ended ∙ sym is
+    let is = text_is c.args.text c.args.bytes.now c.min-most.result c.in-Some.count c.in-Some.ensures.length in
+    record {
+      bound = omega (arith, fits.1, c.min-most.ensures, c.copy_front.auto.buffer);
+      there = fits.0;
+      copied = c.copy_front.ensures;
+      ended = ap (is_ended c.args.text) is ∙ front_any c.args.text bs ∙ c.in-Some.ensures.ended;
+      whole = ap (text_front c.args.text) is ∙ front_front c.args.text bs c.in-Some.ensures.ended ∙ sym is;
+      «open» = λ none. absurd cc;
+    }

@@ -1,4 +1,4 @@
-use Rattle.std.proofs.Common.{◌≡◌, ℕ, ◌+◌, ◌-◌, ◌≤◌, ◌==◌, Bool, not, List, length, drop, take, None, Some, refl, sym, ap, ◌∙◌, arith}
+use Rattle.std.proofs.Common.{◌≡◌, ℕ, ◌+◌, ◌-◌, ◌<◌, ◌≤◌, ◌==◌, Bool, not, List, length, drop, take, None, Some, refl, sym, ap, ◌∙◌, arith}
 use Rattle.std.proofs.lemmas.List.{length-drop, length-take, take_all, drop-drop}
 use Rattle.std.proofs.lemmas.List.Sums.{prefix_len-le-length}
 use Rattle.std.specs.List.{position, position_or_len}
@@ -12,13 +12,11 @@ returns-in-Some c =
     let bs : List ℕ = c.args.bytes.now in
     let rest : List ℕ = drop c.loop-index.index bs in
     let there : 16 ≤ length rest = omega (arith, length-drop c.loop-index.index bs, c.loop-index-test.true) in
-    let few : length (take 16 rest) ≡ 16 = omega (arith, length-take 16 rest, there) in
     let is = found p (take 16 rest) c.in-Some.count (sym c.in-Some.ensures) in
-    let at : position_or_len p rest ≡ c.in-Some.count =
-    stops p rest 16 c.in-Some.count there (sym is.0) (omega (arith, is.1, few)) in
-    sym (position_some p bs (c.loop-index.index + c.in-Some.count)
-    (c.loop-index.invariant.1 ∙ ap (λ k. c.loop-index.index + k) at)
-    (omega (arith, c.loop-index-test.true, is.1, few)))
+    let few : c.in-Some.count < 16 = omega (arith, is.1, length-take 16 rest) in
+    let at = stops p rest 16 c.in-Some.count there (sym is.0) few in
+    sym (position_some p bs (c.loop-index.index + c.in-Some.count) (omega (arith, c.loop-index.invariant.1, at))
+    (omega (arith, c.loop-index-test.true, few)))
 
 pub loop-index-preserved : goal.loop-index-preserved
 loop-index-preserved c =
@@ -26,13 +24,11 @@ loop-index-preserved c =
     let bs : List ℕ = c.args.bytes.now in
     let rest : List ℕ = drop c.loop-index.index bs in
     let there : 16 ≤ length rest = omega (arith, length-drop c.loop-index.index bs, c.loop-index-test.true) in
-    let few : length (take 16 rest) ≡ 16 = omega (arith, length-take 16 rest, there) in
-    let none : length (take 16 rest) ≤ position_or_len p (take 16 rest) = not_found p (take 16 rest) (sym c.in_default.ensures) in
-    let all : position_or_len p (take 16 rest) ≡ 16 = omega (arith, few, none, prefix_len-le-length (λ b. not (p b)) (take 16 rest)) in
-    let on : position_or_len p rest ≡ 16 + position_or_len p (drop 16 rest) =
-    goes_on p rest 16 (position_or_len p (take 16 rest)) there refl all in
-    let same : drop 16 rest ≡ drop (c.loop-index.index + 16) bs = drop-drop 16 c.loop-index.index bs in
-    (omega (arith, c.loop-index-test.true), omega (arith, c.loop-index.invariant.1, on, ap (position_or_len p) same))
+    let none = not_found p (take 16 rest) (sym c.in_default.ensures) in
+    let most = prefix_len-le-length (λ b. not (p b)) (take 16 rest) in
+    let on = goes_on p rest 16 (position_or_len p (take 16 rest)) there refl (omega (arith, length-take 16 rest, there, none, most)) in
+    let same = ap (position_or_len p) (drop-drop 16 c.loop-index.index bs) in
+    (omega (arith, c.loop-index-test.true), omega (arith, c.loop-index.invariant.1, on, same))
 
 -- the bytes behind the last sixteen
 rest_is : (bs : List ℕ) (index : ℕ) → take (length bs - index) (drop index bs) ≡ drop index bs

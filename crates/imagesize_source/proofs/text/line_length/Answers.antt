@@ -13,13 +13,8 @@ pub returns-in-Some-clause-length : goal.returns-in-Some-clause-length
 returns-in-Some-clause-length c =
     let p : ℕ → Bool = λ b. eqb b c.args.delimiter in
     let at = found p c.args.bytes.now c.in-Some.index (sym c.first_of.ensures ∙ c.in-Some.is) in
-    omega (
-      arith,
-      at.0,
-      at.1,
-      ap length (line_front c.args.delimiter c.args.bytes.now),
-      length-take (position_or_len p c.args.bytes.now + 1) c.args.bytes.now,
-    )
+    let long = length-take (position_or_len p c.args.bytes.now + 1) c.args.bytes.now in
+    omega (arith, ap length (line_front c.args.delimiter c.args.bytes.now))
 
 pub returns-in-None-clause-open : goal.returns-in-None-clause-open
 returns-in-None-clause-open c _ = sym (line_ended c.args.delimiter c.args.bytes.now)

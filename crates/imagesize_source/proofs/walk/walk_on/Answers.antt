@@ -1,5 +1,5 @@
-use Rattle.std.proofs.Common.{◌≡◌, ◌+◌, ◌<◌, ◌^◌, ◌∙◌, refl, arith}
-use Rattle.imagesize_source.proofs.Strides.{strides_start, strides_on, strides_stop, strides_out, strides_past, strides_stand}
+use Rattle.std.proofs.Common.{◌≡◌, ◌+◌, ◌<◌, ◌^◌, ◌++◌, ◌∷◌, [], ◌∙◌, refl, arith}
+use Rattle.imagesize_source.proofs.Strides.{strides_start, strides_on, strides_end, strides_past, strides_stand}
 use Rattle.imagesize_source.proofs.walk.walk_on.Goals as goal
 
 pub loop-result-init : goal.loop-result-init
@@ -22,7 +22,7 @@ pub returns-in-Ok-Answer-clause-runs : goal.returns-in-Ok-Answer-clause-runs
 returns-in-Ok-Answer-clause-runs g c = λ first held keeps.
     let known = c.loop-result.invariant in
     let on = (rw known.same at c.in_default.ensures.strides) refl first _ _ (known.strides first held keeps) in
-    strides_stop _ c.requires.follows _ on _
+    strides_end _ c.requires.follows _ on _
     (rw (c.in-Ok-Answer.field-0-is, c.in_default.ensures.same, known.same) at c.in-Ok-Answer.ensures.runs)
 
 pub returns-in-None-clause-runs : goal.returns-in-None-clause-runs
@@ -34,17 +34,16 @@ returns-in-None-clause-runs g c = λ first held keeps.
     (λ held. g.R.Records.keeps c.read_record.new.self held (at + c.in-Ok-Other.length)) _ _
     (rw (c.in-Ok-Other.field-0-is, c.in_default.ensures.same, known.same) at c.in-Ok-Other.ensures.runs)
     (rw c.in-Ok-Other.field-0-is at c.in-Ok-Other.ensures.keeps) in
-    let far : at + c.in-Ok-Other.length < 2 ^ 64 → ⊥ = c.in-None.ensures in
     let ends = rw (c.read_record.ensures.same, c.in_default.ensures.same, known.same) at c.at_end.ensures.ends in
-    strides_past _ c.requires.follows _ next c.at_end.result (omega (arith, far))
+    strides_past _ c.requires.follows _ next c.at_end.result (omega (arith, c.in-None.ensures))
     (c.in-Ok-Other.ensures.runs so_far.held so_far.known).sound_after c.at_end.ensures.goes_on
-    (λ held d kept short. ends held (at + c.in-Ok-Other.length) kept d (at + c.in-Ok-Other.length) short)
+    (λ held d kept short. ends held _ kept d _ short)
 
 pub returns-in-Err-clause-runs : goal.returns-in-Err-clause-runs
 returns-in-Err-clause-runs g c = λ first held keeps.
     let known = c.loop-result.invariant in
     let on = (rw known.same at c.in_default.ensures.strides) refl first _ _ (known.strides first held keeps) in
-    strides_out _ c.requires.follows _ on _ (rw (c.in_default.ensures.same, known.same) at c.in-Err.ensures.runs)
+    strides_end _ c.requires.follows _ on _ (rw (c.in_default.ensures.same, known.same) at c.in-Err.ensures.runs)
 
 pub returns-in-Err-clause-stands : goal.returns-in-Err-clause-stands
 returns-in-Err-clause-stands g c = λ first held keeps faults.
@@ -60,14 +59,12 @@ loop-result-preserved-in-Some-checked_add g c =
     let at = c.walk_held.new.offset in
     let knows = rw c.in-Ok-Other.field-0-is at c.in-Ok-Other.ensures.keeps in
     let runs = rw (c.in-Ok-Other.field-0-is, held.same, known.same) at c.in-Ok-Other.ensures.runs in
-    let so_far = (rw known.same at held.strides) refl 0 _ _ (known.strides 0 c.requires.keeps.0 c.requires.keeps.1) in
-    let more = strides_on _ c.requires.follows _ so_far
-    (λ held. g.R.Records.keeps c.read_record.new.self held (at + c.in-Ok-Other.length)) _ _ runs knows in
+    let kept = held.keeps refl in
     let next : (at + c.in-Ok-Other.length < 2 ^ 64) ×
     (c.in-Some-checked_add.next ≡ at + c.in-Ok-Other.length) = c.in-Some-checked_add.ensures in
     record {
       same = c.read_record.ensures.same ∙ held.same ∙ known.same;
-      some = rw next.1 (more.held, more.known);
+      some = rw next.1 ((kept.0 ++ c.in-Ok-Other.field-0-0 ∷ []), knows kept.0 kept.1);
       strides = λ first before keeps.
           let on = strides_on _ c.requires.follows _ ((rw known.same at held.strides) refl first _ _ (known.strides first before keeps))
           (λ held. g.R.Records.keeps c.read_record.new.self held (at + c.in-Ok-Other.length)) _ _ runs knows in

@@ -1,15 +1,10 @@
-use Rattle.imagesize_stream.proofs.Behind.{nears_same, runs_same}
-use Rattle.imagesize_stream.specs.declared.awaited.Awaited.TheVariants.{Attribute}
-use Rattle.imagesize_texts.specs.Exr.{exr_attribute}
+use Rattle.std.proofs.Common.{arith}
+use Rattle.imagesize_source.proofs.Layouts.{binding}
+use Rattle.imagesize_source.proofs.Runs.{missed_before, steps}
 use Rattle.imagesize_stream.proofs.awaited.read_attribute.Goals as goal
 
 pub returns-clause-nears : goal.returns-clause-nears
-returns-clause-nears g c = nears_same (g.S.Source.state c.args.source.now) (g.S.Source.state c.read_attribute.new.source)
-    (Attribute c.args.long) c.args.offset c.read_attribute.result c.read_attribute.ensures.nears
+returns-clause-nears g c = grind (arith, steps, missed_before, binding)
 
 pub returns-clause-runs : goal.returns-clause-runs
-returns-clause-runs g c =
-    let runs = runs_same {a = g.S.Source.state c.args.source.now} {b = g.S.Source.state c.read_attribute.new.source}
-    (exr_attribute c.names_of.result c.args.offset) (Attribute c.args.long) c.args.offset c.read_attribute.result
-    c.read_attribute.ensures.runs in
-    rw c.names_of.ensures at runs
+returns-clause-runs g c = grind (arith, steps, missed_before, binding)

@@ -1,22 +1,22 @@
-use Rattle.std.proofs.Common.{◌<◌, length, Ok, sym, ◌∙◌, subst, false, arith}
-use Rattle.imagesize_pieces.specs.Stream.{Says}
-use Rattle.imagesize_source.specs.Layout.{layout_reads}
-use Rattle.imagesize_stream.proofs.Heads.{head_missing, head_needed}
-use Rattle.imagesize_stream.proofs.Hearing.{first_asked, first_missing, first_typed, meaning_refused, size_of_said, type_is, type_missing, type_refused, type_said}
+use Rattle.std.proofs.Common.{◌<◌, false, length, sym, ◌∙◌, arith}
+use Rattle.imagesize_stream.proofs.Heads.{head_needed}
+use Rattle.imagesize_stream.proofs.Hearing.{first_asked, first_typed, rests_more, type_asked, type_refused, type_said}
 use Rattle.imagesize_stream.proofs.Plain.{first_plain}
 use Rattle.imagesize_stream.proofs.Reaches.{first_reaches}
-use Rattle.imagesize_stream.specs.Streamed.{first_layout}
-use Rattle.imagesize_stream.specs.declared.front.First.{First}
 use Rattle.imagesize_stream.proofs.hear.hear.Goals as goal
+
+pub returns-then-is_faulted-clause-typed : goal.returns-then-is_faulted-clause-typed
+returns-then-is_faulted-clause-typed c =
+    let faults = sym c.is_faulted.ensures ∙ c.if-is_faulted.true in
+    type_asked c.args.bytes.now c.args.told _
+    (λ d begins as_long. c.read_front-found.ensures.marked faults d begins as_long false 132 first_plain first_reaches)
 
 pub returns-then-is_faulted-clause-hears : goal.returns-then-is_faulted-clause-hears
 returns-then-is_faulted-clause-hears c =
-    let faults = sym c.is_faulted.ensures ∙ c.if-is_faulted.true in (
-      first_missing c.args.bytes.now c.args.told (c.read_front-found.ensures.complete faults),
-      tt,
-      λ _. first_asked c.args.bytes.now c.args.told _ _
-          (λ d begins as_long. c.read_front-found.ensures.marked faults d begins as_long false 132 first_plain first_reaches),
-    )
+    let faults = sym c.is_faulted.ensures ∙ c.if-is_faulted.true in
+    let asked = first_asked c.args.bytes.now c.args.told _
+    (λ d begins as_long. c.read_front-found.ensures.marked faults d begins as_long false 132 first_plain first_reaches) in
+    (rests_more c.args.bytes.now c.args.told _ asked, tt, λ _. asked)
 
 pub returns-then-is_faulted-clause-few : goal.returns-then-is_faulted-clause-few
 returns-then-is_faulted-clause-few c =
@@ -25,28 +25,25 @@ returns-then-is_faulted-clause-few c =
 pub hear_size-requires-clause-image : goal.hear_size-requires-clause-image
 hear_size-requires-clause-image c =
     let says = c.read_front-found.ensures.says (sym c.is_faulted.ensures ∙ c.if-is_faulted.false) in
-    let said = rw c.in-Ok.is at says in
-    type_said c.args.bytes.now c.args.told c.in-Type.image
-    (subst (λ (x : First). Says c.args.bytes.now c.args.told (λ d. layout_reads d first_layout)
-    (Ok x)) c.in-Type.is said)
+    type_said c.args.bytes.now c.args.told c.in-Type.image (rw (c.in-Ok.is, c.in-Type.is) at says)
 
 pub returns-in-Err-clause-hears : goal.returns-in-Err-clause-hears
 returns-in-Err-clause-hears c =
     let says = c.read_front-found.ensures.says (sym c.is_faulted.ensures ∙ c.if-is_faulted.false) in
-    let refused = type_refused c.args.bytes.now c.args.told c.in-Err.halt (rw c.in-Err.is at says) in (
-      type_is c.args.bytes.now c.args.told _ refused,
-      size_of_said c.args.bytes.now c.args.told _ (meaning_refused c.args.bytes.now c.args.told c.in-Err.halt refused),
-    )
+    type_refused c.args.bytes.now c.args.told c.in-Err.halt (rw c.in-Err.is at says)
+
+pub returns-then-told-clause-typed : goal.returns-then-told-clause-typed
+returns-then-told-clause-typed c =
+    let few : length c.args.bytes.now < 12 = omega arith in
+    type_asked c.args.bytes.now c.args.told 12
+    (λ d begins as_long. head_needed d (length c.args.bytes.now) few (omega (arith, as_long)))
 
 pub returns-then-told-clause-hears : goal.returns-then-told-clause-hears
 returns-then-told-clause-hears c =
-    let few : length c.args.bytes.now < 12 = omega arith in (
-      first_missing c.args.bytes.now c.args.told
-          (λ d begins as_long below. head_missing d (length c.args.bytes.now) few (omega (arith, as_long)) below),
-      tt,
-      λ _. first_asked c.args.bytes.now c.args.told _ _
-          (λ d begins as_long. head_needed d (length c.args.bytes.now) few (omega (arith, as_long))),
-    )
+    let few : length c.args.bytes.now < 12 = omega arith in
+    let asked = first_asked c.args.bytes.now c.args.told 12
+    (λ d begins as_long. head_needed d (length c.args.bytes.now) few (omega (arith, as_long))) in
+    (rests_more c.args.bytes.now c.args.told 12 asked, tt, λ _. asked)
 
 pub returns-in-MaybeTga-clause-head : goal.returns-in-MaybeTga-clause-head
 returns-in-MaybeTga-clause-head c = λ few.
@@ -59,14 +56,3 @@ returns-in-Type-clause-head c = λ few.
     let says = c.read_front-found.ensures.says (sym c.is_faulted.ensures ∙ c.if-is_faulted.false) in
     let enough = first_typed c.args.bytes.now c.args.told c.requires.fits c.in-Ok.first (rw c.in-Ok.is at says) in
     absurd (omega (arith, few, enough))
-
-pub returns-then-is_faulted-clause-typed : goal.returns-then-is_faulted-clause-typed
-returns-then-is_faulted-clause-typed c =
-    type_missing c.args.bytes.now c.args.told
-    (c.read_front-found.ensures.complete (sym c.is_faulted.ensures ∙ c.if-is_faulted.true))
-
-pub returns-then-told-clause-typed : goal.returns-then-told-clause-typed
-returns-then-told-clause-typed c =
-    let few : length c.args.bytes.now < 12 = omega arith in
-    type_missing c.args.bytes.now c.args.told
-    (λ d begins as_long below. head_missing d (length c.args.bytes.now) few (omega (arith, as_long)) below)

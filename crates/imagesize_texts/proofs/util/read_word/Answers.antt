@@ -1,6 +1,6 @@
-use Rattle.std.proofs.Common.{rules}
+use Rattle.std.proofs.Common.{rules, arith}
 use Rattle.imagesize_texts.specs.Texts.{read_word_of}
-use Rattle.imagesize_texts.proofs.Texts.{word_runs, word_bound, word_pays}
+use Rattle.imagesize_texts.proofs.Texts.{text_made, text_runs, word_bound, word_made}
 use Rattle.imagesize_texts.proofs.util.read_word.Goals as goal
 
 pub returns-clause-bound : goal.returns-clause-bound
@@ -9,10 +9,9 @@ returns-clause-bound g c =
 
 pub returns-clause-pays : goal.returns-clause-pays
 returns-clause-pays g c =
-    word_pays read_word_of c.read_text.new.buffer c.in_ok-count.count c.word_text.result c.word_text.ensures
-    c.in_ok-count.ensures.pays
+    text_made word_made _ read_word_of c.read_text.new.buffer c.in_ok-count.count c.word_text.result c.word_text.ensures
+    (λ x some few fits. c.in_ok-count.ensures.pays (omega arith))
 
 pub returns-clause-runs : goal.returns-clause-runs
-returns-clause-runs g c =
-    word_runs _ c.read_text.new.buffer c.args.offset c.in_ok-count.count _ (search rules) c.in_ok-count.ensures.runs
-    c.word_text.ensures
+returns-clause-runs g c = text_runs word_made _ c.read_text.new.buffer c.args.offset c.in_ok-count.count _ (search rules)
+    c.in_ok-count.ensures.runs c.word_text.ensures

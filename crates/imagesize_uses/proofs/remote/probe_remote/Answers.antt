@@ -1,8 +1,28 @@
-use Rattle.std.proofs.Common.{◌≡◌, length, take, drop, refl, ◌∙◌, ap, arith, rules}
+use Rattle.std.proofs.Common.{◌≡◌, ◌+◌, ◌≤◌, length, take, drop, refl, ◌∙◌, arith, rules}
 use Rattle.std.proofs.lemmas.List.{length-append, length-drop, length-take}
-use Rattle.imagesize_source.specs.Input.{part}
-use Rattle.imagesize_uses.proofs.Rounds.{begun, few_by, fetched, if_err, most_by, rounds_by, smaller, some_place}
+use Rattle.imagesize_uses.proofs.Rounds.{Requests, begun, ended, fetched, if_err, smaller}
+use Rattle.imagesize_uses.proofs.remote.probe_remote.Given.{Over}
+use Rattle.imagesize_uses.proofs.remote.probe_remote.Goals.{After-fetch_part}
 use Rattle.imagesize_uses.proofs.remote.probe_remote.Goals as goal
+
+-- the fetch of a requested span
+module _ (g : Over) (c : After-fetch_part g) where
+  requests : Requests (g.R.Remote.input c.args.remote.now) c.rounds.probe c.in-Wanted.span
+  requests =
+      let says = c.in-Wanted.ensures in let d = g.R.Remote.input c.args.remote.now in record {
+        is = says.is;
+        within = says.within d;
+        fits = says.fits;
+        reaches = says.reaches d;
+        short = says.short;
+        shorter = says.shorter d;
+      }
+
+  long : length (take c.in-Wanted.span.len c.rounds.buffer) ≡ c.in-Wanted.span.len
+  long = omega (arith, length-take c.in-Wanted.span.len c.rounds.buffer, c.rounds.invariant.2, c.in-Wanted.ensures.short)
+
+  asks : g.R.Remote.asked c.fetch_part.new.remote ≤ g.R.Remote.asked c.rounds.remote + c.in-Wanted.span.len
+  asks = omega (arith, c.fetch_part.ensures.asks, long)
 
 pub rounds-init : goal.rounds-init
 rounds-init g c = (
@@ -16,41 +36,27 @@ rounds-init g c = (
 
 pub rounds-preserved : goal.rounds-preserved
 rounds-preserved g c =
-    let d = g.R.Remote.input c.args.remote.now in
-    let says = c.in-Wanted.ensures in
-    let w = c.in-Wanted.span in
-    let buffer = c.rounds.buffer in
-    let got = c.fetch_part.new.buffer in
-    let long : length (take w.len buffer) ≡ w.len =
-    omega (arith, length-take w.len buffer, c.rounds.invariant.2, says.short) in (
+    let h = (goal.at.rounds-preserved g c).After-fetch_part in
+    let got = rw (long g h, c.rounds.invariant.0) at c.in_ok-fetch_part-in-Wanted.ensures.bytes in (
       c.fetch_part.ensures.same ∙ c.rounds.invariant.0,
-      fetched w c.rounds.invariant.1 says.is (says.within d) says.fits (says.reaches d) says.short (says.shorter d) c.supply.new.self got
-          c.supply.ensures.beyond
-          (c.in_ok-fetch_part-in-Wanted.ensures.bytes ∙ ap (part (g.R.Remote.input c.rounds.remote) w.start) long
-          ∙ ap (λ e. part e w.start w.len) c.rounds.invariant.0)
-          (c.supply.ensures.goes_on d) c.fetch_part.ensures.counts (omega (arith, c.fetch_part.ensures.asks, long)),
+      fetched c.rounds.invariant.1 (requests g h) c.supply.new.self c.fetch_part.new.buffer c.supply.ensures.beyond got
+          (c.supply.ensures.goes_on (g.R.Remote.input c.args.remote.now)) c.fetch_part.ensures.counts (asks g h),
       omega (
         arith,
-        length-append got (drop w.len buffer),
-        length-drop w.len buffer,
+        length-append c.fetch_part.new.buffer (drop c.in-Wanted.span.len c.rounds.buffer),
+        length-drop c.in-Wanted.span.len c.rounds.buffer,
         c.fetch_part.auto.buffer,
-        long,
+        long g h,
         c.rounds.invariant.2,
-        says.short,
+        c.in-Wanted.ensures.short,
       ),
     )
 
 pub rounds-smaller : goal.rounds-smaller
 rounds-smaller g c =
-    let d = g.R.Remote.input c.args.remote.now in
-    let says = c.in-Wanted.ensures in
-    let w = c.in-Wanted.span in
-    let long : length (take w.len c.rounds.buffer) ≡ w.len =
-    omega (arith, length-take w.len c.rounds.buffer, c.rounds.invariant.2, says.short) in
-    smaller w c.rounds.invariant.1 says.is (says.within d) says.fits (says.reaches d) says.short (says.shorter d) c.supply.new.self c.fetch_part.new.buffer
-    c.supply.ensures.beyond
-    (c.in_ok-fetch_part-in-Wanted.ensures.bytes ∙ ap (part (g.R.Remote.input c.rounds.remote) w.start) long
-    ∙ ap (λ e. part e w.start w.len) c.rounds.invariant.0)
+    let h = (goal.at.rounds-smaller g c).After-fetch_part in
+    smaller c.rounds.invariant.1 (requests g h) c.supply.new.self c.fetch_part.new.buffer c.supply.ensures.beyond
+    (rw (long g h, c.rounds.invariant.0) at c.in_ok-fetch_part-in-Wanted.ensures.bytes)
 
 pub returns-in-Found-clause-answer : goal.returns-in-Found-clause-answer
 returns-in-Found-clause-answer g c =
@@ -59,26 +65,20 @@ returns-in-Found-clause-answer g c =
 
 pub returns-in_err-fetch_part-in-Wanted-clause-few : goal.returns-in_err-fetch_part-in-Wanted-clause-few
 returns-in_err-fetch_part-in-Wanted-clause-few g c =
-    let says = c.in-Wanted.ensures in
-    few_by c.in-Wanted.span c.rounds.invariant.1 says.is (says.within (g.R.Remote.input c.args.remote.now)) says.fits
-    (says.reaches (g.R.Remote.input c.args.remote.now)) says.short (says.shorter (g.R.Remote.input c.args.remote.now)) c.fetch_part.ensures.counts
+    let h = (goal.at.returns-in_err-fetch_part-in-Wanted-clause-few g c).After-fetch_part in
+    (ended c.rounds.invariant.1 (requests g h) c.fetch_part.ensures.counts (asks g h)).0
 
 pub returns-in_err-fetch_part-in-Wanted-clause-most : goal.returns-in_err-fetch_part-in-Wanted-clause-most
 returns-in_err-fetch_part-in-Wanted-clause-most g c =
-    let says = c.in-Wanted.ensures in
-    most_by c.in-Wanted.span c.rounds.invariant.1 says.is (says.within (g.R.Remote.input c.args.remote.now)) says.fits
-    (says.reaches (g.R.Remote.input c.args.remote.now)) says.short (says.shorter (g.R.Remote.input c.args.remote.now)) (omega (arith, c.fetch_part.ensures.asks, length-take c.in-Wanted.span.len c.rounds.buffer))
+    let h = (goal.at.returns-in_err-fetch_part-in-Wanted-clause-most g c).After-fetch_part in
+    (ended c.rounds.invariant.1 (requests g h) c.fetch_part.ensures.counts (asks g h)).1
 
 pub returns-in_err-fetch_part-in-Wanted-clause-some : goal.returns-in_err-fetch_part-in-Wanted-clause-some
 returns-in_err-fetch_part-in-Wanted-clause-some g c =
-    let d = g.R.Remote.input c.args.remote.now in
-    let says = c.in-Wanted.ensures in
-    if_err c.from_residual.result
-    (some_place c.in-Wanted.span c.rounds.invariant.1 says.is (says.within d) says.fits (says.reaches d) says.short (says.shorter d))
+    let h = (goal.at.returns-in_err-fetch_part-in-Wanted-clause-some g c).After-fetch_part in
+    if_err c.from_residual.result (ended c.rounds.invariant.1 (requests g h) c.fetch_part.ensures.counts (asks g h)).2
 
 pub returns-in_err-fetch_part-in-Wanted-clause-rounds : goal.returns-in_err-fetch_part-in-Wanted-clause-rounds
-returns-in_err-fetch_part-in-Wanted-clause-rounds g c = λ without.
-    let d = g.R.Remote.input c.args.remote.now in
-    let says = c.in-Wanted.ensures in
-    rounds_by c.in-Wanted.span c.rounds.invariant.1 says.is (says.within d) says.fits (says.reaches d) says.short
-    (says.shorter d) c.fetch_part.ensures.counts without
+returns-in_err-fetch_part-in-Wanted-clause-rounds g c =
+    let h = (goal.at.returns-in_err-fetch_part-in-Wanted-clause-rounds g c).After-fetch_part in
+    (ended c.rounds.invariant.1 (requests g h) c.fetch_part.ensures.counts (asks g h)).3

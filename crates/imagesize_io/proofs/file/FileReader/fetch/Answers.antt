@@ -1,4 +1,4 @@
-use Rattle.std.proofs.Common.{ℕ, ◌<◌, arith}
+use Rattle.std.proofs.Common.{◌<◌, arith}
 use Rattle.imagesize_io.proofs.file.FileReader.fetch.Goals.{then-self-gt0+then-eq, else-self-gt0}
 use Rattle.imagesize_io.proofs.file.FileReader.fetch.Goals as goal
 

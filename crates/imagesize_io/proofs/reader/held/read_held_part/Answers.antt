@@ -1,4 +1,4 @@
-use Rattle.std.proofs.Common.{◌≡◌, ◌≤◌, ◌++◌, ℕ, List, ◌∙◌, ap, arith, drop, length, rules, take}
+use Rattle.std.proofs.Common.{◌≡◌, ◌≤◌, ◌++◌, ℕ, List, arith, drop, length, rules, take}
 use Rattle.std.proofs.lemmas.List.{length-take, take-append-le}
 use Rattle.std.proofs.Math.Seq.{take-take}
 use Rattle.imagesize_io.proofs.HeldReads.{held_front}
@@ -13,20 +13,10 @@ returns-clause-reads g c = λ some.
     let few : n ≤ length bytes = omega (arith, c.min-count.ensures) in
     let copied : c.copy_from_slice.new.self ≡ take n bytes = c.copy_from_slice.ensures.after in
     let first : take n (c.copy_from_slice.new.self ++ drop n c.args.buffer.now) ≡ take n bytes =
-    ap (λ bs. take n (bs ++ drop n c.args.buffer.now)) copied
-    ∙ take-append-le n (take n bytes) (drop n c.args.buffer.now) (omega (arith, length-take n bytes, few))
-    ∙ take-take n n bytes (omega arith) in
+    grind (arith, copied, few, take-append-le, take-take, length-take) in
     held_front {n = n} bytes (take n (c.copy_from_slice.new.self ++ drop n c.args.buffer.now)) held.there held.counts few
     some first held.ahead held.told
     (search (rules, arith)) (search (rules, arith))
     (search rules)
-    (record {
-      told = passed.told;
-      budget = passed.budget;
-      offset = passed.offset;
-      retries = passed.retries;
-      fault = passed.fault;
-      taken = passed.taken;
-      position = passed.position;
-    })
-    (omega (arith, passed.taken, held.paid, c.min-count.ensures))
+    passed.passed
+    (omega (arith, passed.passed.taken, held.paid, c.min-count.ensures))

@@ -13,13 +13,5 @@ returns-clause-reads g c =
     text.copied held.ahead held.told
     (omega (arith, c.len.ensures.value, c.if-offset-len.false)) (omega (arith, c.len.ensures.value, c.len.ensures.fits))
     (search rules)
-    (record {
-      told = passed.told;
-      budget = passed.budget;
-      offset = passed.offset;
-      retries = passed.retries;
-      fault = passed.fault;
-      taken = passed.taken;
-      position = passed.position;
-    })
-    (omega (arith, passed.taken, held.paid, text.there))
+    passed.passed
+    (omega (arith, passed.passed.taken, held.paid, text.there))

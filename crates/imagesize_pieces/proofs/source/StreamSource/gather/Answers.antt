@@ -1,23 +1,21 @@
-use Rattle.std.proofs.Common.{arith, sym, ap, ◌∙◌, subst, zero-add, ℕ, zero, suc, List, length, take, drop, get_or, Some, is_some, ◌+◌, ◌-◌, ◌<◌, ◌≤◌, ◌≡◌, ◌++◌}
+use Rattle.std.proofs.Common.{arith, sym, ap, ◌∙◌, ℕ, List, length, take, get_or, Some, is_some, ◌+◌, ◌<◌, ◌≤◌, ◌≡◌, ◌++◌}
 use Rattle.std.proofs.lemmas.Bool.Decides.{nat_tests}
+use Rattle.std.proofs.lemmas.List.{length-take-le, take_at}
 use Rattle.imagesize_pieces.specs.Stream.{byte_at, came, stream_input}
-use Rattle.imagesize_pieces.proofs.Streaming.{last_none, run_ends}
+use Rattle.imagesize_pieces.proofs.Streaming.{front_part, last_none, run_ends}
 use Rattle.imagesize_source.specs.Input.{part}
 use Rattle.imagesize_source.proofs.Gathering.{gathered_run, known_run}
 use Rattle.imagesize_source.proofs.Parts.{part_none}
 use Rattle.imagesize_pieces.proofs.source.StreamSource.gather.Goals as goal
 
 -- the first known bytes of a read, in an empty front of the buffer
-first_copied : (n start : ℕ) (kept chunk run buffer new : List ℕ) (offset count : ℕ) → count ≤ length run → count ≤ n - offset
-    → new ≡ take 0 buffer ++ take count run ++ drop (0 + count) buffer
+first_copied : (n start : ℕ) (kept chunk run buffer new after : List ℕ) (offset count : ℕ) → count ≤ length run
+    → new ≡ take 0 buffer ++ take count run ++ after
     → ((i : ℕ) → i < length run → byte_at n start kept chunk (offset + i) ≡ Some (get_or run i 0))
     → take count new ≡ part (stream_input n start kept chunk) offset count
-first_copied n start kept chunk run buffer new offset zero few fits is_new is = sym (part_none (stream_input n start kept chunk) offset)
-first_copied n start kept chunk run buffer new offset (suc k) few fits is_new is =
-    subst (λ m. take m new ≡ part (stream_input n start kept chunk) offset m) (zero-add (suc k))
-    (gathered_run n (came start kept chunk) (kept ++ chunk) run buffer new offset 0 (suc k)
-    (sym (part_none (stream_input n start kept chunk) offset)) (omega arith) few (omega (arith, fits)) is_new
-    (λ i below. ap (byte_at n start kept chunk) (omega arith) ∙ is i below))
+first_copied n start kept chunk run buffer new after offset count few is_new is =
+    ap (take count) is_new ∙ take_at (take count run) after count (length-take-le count run few)
+    ∙ (front_part n start kept chunk run offset count is few).1
 
 pub returns-then-is_empty-clause-copied : goal.returns-then-is_empty-clause-copied
 returns-then-is_empty-clause-copied c =
@@ -27,9 +25,8 @@ returns-then-is_empty-clause-copied c =
 pub returns-then-count-buffer-clause-copied : goal.returns-then-count-buffer-clause-copied
 returns-then-count-buffer-clause-copied c =
     let s = c.args.self.now in
-    first_copied s.told s.start s.kept.now s.chunk.now c.known_from-first.result.now c.args.buffer.now c.put-count.new.buffer c.args.offset
-    c.put-count.result (omega (arith, c.put-count.ensures.count)) (omega (arith, c.put-count.ensures.count, c.requires))
-    c.put-count.ensures.copied c.known_from-first.ensures.known
+    first_copied s.told s.start s.kept.now s.chunk.now c.known_from-first.result.now c.args.buffer.now c.put-count.new.buffer _
+    c.args.offset c.put-count.result (omega (arith, c.put-count.ensures.count)) c.put-count.ensures.copied c.known_from-first.ensures.known
 
 pub returns-clause-copied : goal.returns-clause-copied
 returns-clause-copied c =
@@ -38,8 +35,8 @@ returns-clause-copied c =
     let second = c.put.ensures in
     gathered_run s.told (came s.start s.kept.now s.chunk.now) (s.kept.now ++ s.chunk.now) c.known_from.result.now
     c.put-count.new.buffer c.put.new.buffer c.args.offset c.put-count.result c.put.result
-    (first_copied s.told s.start s.kept.now s.chunk.now c.known_from-first.result.now c.args.buffer.now c.put-count.new.buffer c.args.offset
-    c.put-count.result (omega (arith, first.count)) (omega (arith, first.count, c.requires)) first.copied c.known_from-first.ensures.known)
+    (first_copied s.told s.start s.kept.now s.chunk.now c.known_from-first.result.now c.args.buffer.now c.put-count.new.buffer _
+    c.args.offset c.put-count.result (omega (arith, first.count)) first.copied c.known_from-first.ensures.known)
     (omega (arith, first.count, c.put-count.auto.buffer)) (omega (arith, second.count))
     (omega (arith, first.count, second.count, c.put-count.auto.buffer, c.requires)) second.copied
     c.known_from.ensures.known
@@ -56,7 +53,8 @@ pub returns-clause-missing : goal.returns-clause-missing
 returns-clause-missing c = λ more.
     let s = c.args.self.now in
     let count : ℕ = c.put-count.result in
-    let first : count ≡ length c.known_from-first.result.now = omega (arith, c.put-count.ensures.count, c.if-count-buffer.false, c.put-count.auto.buffer) in
+    let first : count ≡ length c.known_from-first.result.now =
+    omega (arith, c.put-count.ensures.count, c.if-count-buffer.false, c.put-count.auto.buffer) in
     let second : c.put.result ≡ length c.known_from.result.now = omega (arith, c.put.ensures.count, c.put-count.auto.buffer, more) in
     let some : 0 < length c.known_from-first.result.now = grind (arith, nat_tests, c.is_empty.ensures, c.if-is_empty.false) in
     let ends = run_ends s.told s.start s.kept.now s.chunk.now c.known_from-first.result.now c.args.offset c.known_from-first.ensures.run

@@ -1,10 +1,10 @@
-use Rattle.std.proofs.Common.{arith, refl, sym, ◌++◌, ◌≡◌, ℕ, List, length, take, min, false, ap, ◌∙◌}
+use Rattle.std.proofs.Common.{arith, sym, ◌++◌, ◌≡◌, ℕ, List, length, take, min, false, ap, ◌∙◌}
 use Rattle.imagesize_pieces.specs.Stream.{came}
-use Rattle.imagesize_pieces.proofs.Streaming.{first_known, run_is, both_bytes, whole_part}
-use Rattle.imagesize_source.proofs.KnownReadings.{cut_is, parts_text, state_is}
+use Rattle.imagesize_pieces.proofs.Streaming.{front_part}
+use Rattle.imagesize_source.proofs.KnownReadings.{cut_is, parts_text}
 use Rattle.imagesize_source.proofs.Unended.{open_first, open_part}
 use Rattle.imagesize_source.specs.Text.{is_ended}
-use Rattle.std.proofs.lemmas.List.{length-take, take_all, take-take}
+use Rattle.std.proofs.lemmas.List.{take_all}
 use Rattle.imagesize_pieces.proofs.source.StreamSource.gather_text.Goals as goal
 
 pub uncut_length-requires-clause-unended : goal.uncut_length-requires-clause-unended
@@ -13,21 +13,20 @@ uncut_length-requires-clause-unended c =
     let bs : List ℕ = c.known_from-run.result.now in
     let most : ℕ = length c.args.buffer.now in
     let n : ℕ = min (length bs) most in
-    let whole = whole_part s.told s.start s.kept.now s.chunk.now (take n bs) c.args.offset n (omega (arith, length-take n bs))
-    (λ i below. first_known s.told s.start s.kept.now s.chunk.now bs (take n bs) c.args.offset n i
-    c.known_from-run.ensures.known (omega arith) refl below) in
+    let whole = front_part s.told s.start s.kept.now s.chunk.now bs c.args.offset n c.known_from-run.ensures.known (omega arith) in
     let open_run : is_ended c.args.text (take most bs) ≡ false =
     ap (λ xs. is_ended c.args.text (take most xs)) c.known_from-run.ensures.run ∙ c.requires in
     let f = c.fill_known-found in
     open_part c.args.text _ _ c.args.offset n _ _ f.ensures.copied
     (omega (arith, c.min-searched.ensures, f.ensures.within, f.ensures.wanted, f.auto.buffer)) (omega (arith, c.min-searched.ensures))
-    (ap (is_ended c.args.text) (sym whole.1 ∙ take-take n n bs (omega arith)) ∙ open_first c.args.text bs n most (omega arith) open_run)
+    (ap (is_ended c.args.text) (sym whole.1) ∙ open_first c.args.text bs n most (omega arith) open_run)
 
 pub miss_text-requires-clause-copied : goal.miss_text-requires-clause-copied
 miss_text-requires-clause-copied c =
     let s = c.args.self.now in
     let run : List ℕ = c.known_from-run.result.now in
-    let whole = whole_part s.told s.start s.kept.now s.chunk.now run c.args.offset (length run) refl c.known_from-run.ensures.known in
+    let whole = front_part s.told s.start s.kept.now s.chunk.now run c.args.offset (length run) c.known_from-run.ensures.known
+    (omega arith) in
     sym (take_all (length run) run (omega arith)) ∙ whole.1
 
 pub returns-clause-runs : goal.returns-clause-runs
@@ -39,6 +38,4 @@ returns-clause-runs c =
     f.result.1 f.result.0 c.in-Some.count f.ensures.wanted f.ensures.within f.ensures.copied
     (cut_is f.new.buffer f.result.0 f.result.1 c.args.offset s.told _ _ f.ensures.wanted f.ensures.within
     (sym c.in-Some.ensures.uncut))
-    c.in-Some.ensures.length
-    (state_is _ _ _ _ _ _ _ _ _ _ c.see.ensures.told (run_is c.see.ensures.start c.see.ensures.kept c.see.ensures.chunk)
-    (both_bytes c.see.ensures.kept c.see.ensures.chunk) c.see.ensures.seen c.see.ensures.missed)
+    c.in-Some.ensures.length (cc)

@@ -1,44 +1,7 @@
 -- It notes the block, and gives it back to the inner allocator. Assumes `Logic`.
-use Rattle.std.proofs.Common.{◌≡◌, ℕ, ◌+◌, ◌^◌, ◌<◌, List, [], ◌∷◌, refl, w64, Bor}
-use seplogic.Ra.Ura.{Ura}
-use mir.Syntax.{Ty, Args, Fn, a_type, dnil, dcons}
-use mir.Val.{Val, vint, vptr}
-use mir.MapTy.{inst_fn}
-use base.Logic.{SProp, ent, id⊢}
-use base.Fml.{Lft, Share, ftrue, flft}
-use prog.Memory.{Memory, size, align, capped, up}
-use prog.Routine.{Routine}
-use prog.Wp.{WpFn, Tables}
-use types.Logic.{Logic}
-use contract.BorrowLft.{◌⊑◌, ⊑_trans}
-use contract.Monad.{Fun, fact}
-use contract.Running.{tables, tables_of}
-use sound.WpLaws.{fm_of, WpFn-mono}
-use types.Run.{stop, fld, addr, no_more, and_then, of_opd, returns, enter}
-use denote.Exit.{yes}
-use denote.RattleType.{owns}
-use denote.Ref.{shr_vals}
-use denote.Opens.{unhide}
-use denote.Param.{bounded, param}
-use denote.Plain.{uint_vals, uint_Tells}
-use denote.Signature.{Slot, plain, types_at}
-use denote.Steps.{heard, nothing}
-use denote.Triple.Clauses.{Ended, Clauses}
-use denote.Triple.Spec.{triple_of}
-use denote.Triple.Statement.{Triple}
-use denote.Triple.Table.{entered, cited}
-use denote.Triple.Walked.{Stays, stay_dropped, walk_of, ends_at, walked, Goes-dropped, walk_Meets}
-use mir.Val.{vunit}
-use base.Logic.{never_e}
-use base.Fml.{ffalse, fsep, froom}
-use types.Kit.{Item, ‵, raw, ◌⊛◌, later, given, ◌$◌, ◌∵◌, !, qed, by, move, keep, use1, use2, split, split3, join, learn, fsplit, fjoin, feq_i, suffices, await, done}
-use types.Run.{unit_lit}
-use types.ByLocal.{alloc_all, pass_all, free_all, look_at, get, through, sets, lands_as}
-use denote.RawPtr.{Ptr, block_ptr, null_ptr, ptr_val, rawptr_vals, rawptr_Tells}
-use denote.Builtin.{usize, RawPtr, RefOf}
-use denote.Triple.Call.{calls_at}
-use Rattle.std.proofs.alloc.Calls.{Al, α, seen, token, gives_key, Gives, at_gives, Gives-goes, Gives-Gives}
-use Rattle.imagesize_readers.proofs.Noting.{TakesBack, at_take_back, take_back_goes, take_back_gives}
+use contract.Running.{tables_of}
+use Rattle.imagesize_readers.proofs.Walks.{◌≡◌, ℕ, ◌+◌, ◌^◌, ◌<◌, List, [], ◌∷◌, refl, w64, Bor, Ura, Ty, Fn, Val, vint, vptr, inst_fn, SProp, ent, id⊢, Lft, Share, ftrue, flft, Memory, size, align, capped, up, Routine, WpFn, Tables, Logic, ◌⊑◌, ⊑_trans, Fun, fact, tables, fm_of, WpFn-mono, stop, fld, addr, no_more, and_then, of_opd, returns, enter, yes, owns, shr_vals, unhide, param, uint_vals, uint_Tells, plain, types_at, heard, nothing, Ended, Clauses, triple_of, Triple, entered, cited, Stays, stay_dropped, walk_of, ends_at, walked, Goes-dropped, walk_Meets, vunit, never_e, ffalse, fsep, froom, Item, ‵, raw, ◌⊛◌, later, given, ◌$◌, ◌∵◌, !, qed, by, move, keep, use1, use2, split, split3, join, learn, fsplit, fjoin, feq_i, suffices, await, done, unit_lit, alloc_all, pass_all, free_all, look_at, get, through, sets, lands_as, Ptr, block_ptr, null_ptr, ptr_val, rawptr_vals, rawptr_Tells, usize, RawPtr, calls_at, Al, α, seen, token, gives_key, Gives, at_gives, Gives-goes, Gives-Gives}
+use Rattle.imagesize_readers.proofs.Noting.{args, self, TakesBack, at_noted, noted_goes, take_back_gives}
 use Rattle.imagesize_readers.proofs.allocators.take_back.Symbol as c_sym
 use Rattle.imagesize_readers.proofs.allocators.take_back.Met as c_met
 use Rattle.imagesize_readers.specs.contracts.allocators.Refusing as wrapper
@@ -48,21 +11,15 @@ use Rattle.imagesize_readers.proofs.allocators.RefusingAllocator.deallocate.Stat
 use Rattle.imagesize_readers.proofs.allocators.RefusingAllocator.deallocate.Code as code
 
 module _ (Z : Al) where
-  abbrev args : Args
-  args = bounded (a_type ∷ []) (Z.row, tt) (dcons Z.d (dcons Z.drops dnil))
-
   abbrev here : Fn
-  here = inst_fn args code.function
-
-  abbrev self : Slot 2
-  self = RefOf (0 ∷ []) tt (plain (λ _. wrapper.the_row (param 0 Z.row))) (λ _. tt)
+  here = inst_fn (args Z) code.function
 
   abbrev ended : Ended
   ended = F.ended Z.row Z.g Z.d Z.drops
 
   abbrev stayed : Stays ended.signature.params ended.kept
   stayed = (
-    stay_dropped self yes,
+    stay_dropped (self Z) yes,
     (
       stay_dropped (plain (λ _. RawPtr)) yes,
       (stay_dropped (plain (λ _. usize)) yes, (stay_dropped (plain (λ _. usize)) yes, tt)),
@@ -128,9 +85,9 @@ module _ (Z : Al) {M : Type 1} {𝓤 : Ura M} (𝓛 : Logic 𝓤) (at_mem : Memo
         enter ! 𝓣.C 𝓣.Λ (here Z) (vs x) _ $ alloc_all !
         (λ l. pass_all ! refl ((tt, tt), ((tt, tt), ((tt, record { fits = fn }), ((tt, record { fits = fa }), tt)))) $
         sets ! (addr ! (through ! refl (fld ! refl (stop !)))) refl (tt, tt) $
-        use2 𝓛 (raw ((TakesBack 𝓛 at_mem run).pre (at_take_back 𝓛 at_mem run κ₁ q₁ c)))
-        (take_back_goes 𝓛 at_mem run κ₁ q₁ c) $
-        calls_at ! (fm_of 𝓤 H 𝓛.laws 𝓣) (TakesBack 𝓛 at_mem run) kn (at_take_back 𝓛 at_mem run κ₁ q₁ c)
+        use2 𝓛 (raw ((TakesBack 𝓛 at_mem run).pre (at_noted 𝓛 at_mem run κ₁ q₁ c)))
+        (noted_goes 𝓛 at_mem run κ₁ q₁ c) $
+        calls_at ! (fm_of 𝓤 H 𝓛.laws 𝓣) (TakesBack 𝓛 at_mem run) kn (at_noted 𝓛 at_mem run κ₁ q₁ c)
         (and_then ! (get ! refl) (no_more !)) (λ u.
         use1 𝓛 (later (given (u ≡ vunit) (‵ (flft κ₁ q₁))))
         (take_back_gives 𝓛 at_mem run κ₁ q₁ c u) $ await ! tt $ learn !

@@ -1,5 +1,4 @@
-use Rattle.std.proofs.Common.{◌≡◌, ℕ, ◌<◌, length, ◌∙◌, arith}
-use Rattle.imagesize_source.specs.Input.{part}
+use Rattle.std.proofs.Common.{◌<◌, ◌∙◌, arith}
 use Rattle.imagesize_source.proofs.Gathering.{joined_at}
 use Rattle.imagesize_source.proofs.Parts.{part_length}
 use Rattle.imagesize_source.proofs.source.parts.known_front.Goals as goal

@@ -2,7 +2,7 @@ use Rattle.std.proofs.Common.{◌≡◌, ℕ, ◌+◌, ◌-◌, ◌≤◌, max, 
 use Rattle.std.proofs.lemmas.List.{length-take}
 use Rattle.imagesize_stream.proofs.Ending.{as_many, awaiting_none}
 use Rattle.imagesize_stream.proofs.Given.{early_none, first_next, none_given, none_has, none_passed}
-use Rattle.imagesize_stream.proofs.Requests.{few_first, first_span, none_before}
+use Rattle.imagesize_stream.proofs.Requests.{none_before, wants}
 use Rattle.imagesize_stream.specs.Probe.{HoldsAt, IfAwaiting}
 use Rattle.imagesize_stream.specs.Pushed.{Came, answer_of}
 use Rattle.imagesize_stream.specs.declared.probe.StreamProbe.{StreamProbe}
@@ -35,19 +35,19 @@ at_first p s u enough kept keeps p_holds s_holds came many moves none =
 pub returns-clause-first : goal.returns-clause-first
 returns-clause-first c =
     let p = c.new-probe.result in let s = c.take_in.new.self in let u = c.skip.new.self in
-    first_span (answer_of u) u.stand u.stand.told (λ none.
+    wants (answer_of u) u.stand _ (λ none.
     let at = at_first p s u (omega arith) c.take_in.ensures.keeps c.skip.ensures.keeps p.holds s.holds
-    c.new-probe.ensures.begins c.take_in.ensures.passed c.skip.ensures.passed none in (
-      at,
-      first_next u.kind u.stage u.stand.start u.stand.offset u.stand.passed u.stand.end u.stand.told none u.holds
-          c.skip.ensures.next at,
-    ))
+    c.new-probe.ensures.begins c.take_in.ensures.passed c.skip.ensures.passed none in
+    let ends = first_next u.kind u.stage u.stand.start u.stand.offset u.stand.passed u.stand.end u.stand.told none u.holds
+    c.skip.ensures.next at in
+    (at, omega (arith, at, ends)))
 
 pub returns-clause-few : goal.returns-clause-few
 returns-clause-few c =
     let p = c.new-probe.result in let s = c.take_in.new.self in let u = c.skip.new.self in
-    few_first (answer_of u) u.stand (λ none.
+    wants (answer_of u) u.stand _ (λ none.
     let at = at_first p s u (omega arith) c.take_in.ensures.keeps c.skip.ensures.keeps p.holds s.holds
     c.new-probe.ensures.begins c.take_in.ensures.passed c.skip.ensures.passed none in
-    early_none u.kind u.stage u.stand.start u.stand.offset u.stand.passed u.stand.end u.stand.told none u.holds
-    c.skip.ensures.next (omega (arith, at)))
+    let few = early_none u.kind u.stage u.stand.start u.stand.offset u.stand.passed u.stand.end u.stand.told none u.holds
+    c.skip.ensures.next (omega (arith, at)) in
+    omega (arith, few))

@@ -1,10 +1,12 @@
-use Rattle.std.proofs.Common.{◌-◌, length, sym, ap, ◌∙◌, subst, arith}
+use Rattle.std.proofs.Common.{◌≡◌, ℕ, ◌+◌, ◌-◌, ◌<◌, ◌≤◌, min, List, drop, length, take, None, sym, ap, ◌∙◌, subst, arith}
 use Rattle.std.proofs.lemmas.List.{length-drop, length-take}
 use Rattle.imagesize_stream.proofs.Ending.{awaiting_none}
 use Rattle.imagesize_stream.proofs.Given.{given_later, next_none}
-use Rattle.imagesize_stream.proofs.Requests.{gets_beyond, gets_further, idle_both, keeps_found, no_gap}
+use Rattle.imagesize_stream.proofs.Requests.{idle_both, keeps_found, wants}
 use Rattle.imagesize_stream.specs.Given.{HasPart}
+use Rattle.imagesize_stream.specs.Probe.{HoldsAt, IfAwaiting, IsNext}
 use Rattle.imagesize_stream.specs.Pushed.{answer_of}
+use Rattle.imagesize_stream.specs.declared.probe.StreamProbe.{StreamProbe}
 use Rattle.imagesize_stream.proofs.parts.PartsProbe.supply.Goals as goal
 
 pub returns-clause-goes_on : goal.returns-clause-goes_on
@@ -22,50 +24,44 @@ returns-clause-keeps c =
     keeps_found (answer_of s) (answer_of t) (answer_of u) s.stand u.stand c.take_in.ensures.keeps c.skip.ensures.keeps
 
 pub returns-clause-gap : goal.returns-clause-gap
-returns-clause-gap c =
-    no_gap _ (answer_of c.args.self.now.probe) c.args.self.now.probe.stand c.args.offset c.if-offset-start.false
+returns-clause-gap c = let s = c.args.self.now.probe in
+    wants (answer_of s) s.stand _ (λ none late. absurd (omega (arith, late, c.if-offset-start.false)))
+
+-- some byte was requested, and those of them that were given came
+came_to : (s t : StreamProbe) (offset : ℕ) (bytes behind : List ℕ) → answer_of s ≡ None → answer_of t ≡ None
+    → HoldsAt s.stage s.stand → IsNext s.stage s.stand → offset ≤ s.stand.passed → behind ≡ drop (s.stand.passed - offset) bytes
+    → IfAwaiting t.stage (t.stand.passed ≡ s.stand.passed + length (take (s.stand.told - s.stand.passed) behind))
+    → (s.stand.passed < s.stand.end) × (min s.stand.end (offset + length bytes) ≤ t.stand.passed)
+came_to s t offset bytes behind none later holds next before is many =
+    let ahead = next_none s.kind s.stage s.stand.start s.stand.offset s.stand.passed s.stand.end s.stand.told none holds next in
+    let comes = awaiting_none t.kind t.stage later many in (
+      ahead.0,
+      omega (
+        arith,
+        ahead.1,
+        before,
+        comes,
+        length-take (s.stand.told - s.stand.passed) behind,
+        ap length is,
+        length-drop (s.stand.passed - offset) bytes,
+      ),
+    )
 
 pub returns-clause-further : goal.returns-clause-further
 returns-clause-further c =
     let s = c.args.self.now.probe in let t = c.take_in.new.self in let u = c.skip.new.self in
-    gets_further (answer_of s) (answer_of u) s.stand u.stand c.args.offset (length c.args.bytes.now) (λ none later some.
-    let ahead = next_none s.kind s.stage s.stand.start s.stand.offset s.stand.passed s.stand.end s.stand.told none s.holds
-    c.args.self.now.next in
-    let many = awaiting_none t.kind t.stage (sym c.skip.ensures.keeps ∙ later) c.take_in.ensures.passed in
-    let behind = c.skip.ensures.later in
-    omega (
-      arith,
-      ahead.0,
-      ahead.1,
-      many,
-      behind,
-      some,
-      c.if-offset-start.false,
-      length-take (s.stand.told - s.stand.passed) c.bytes_behind.result.now,
-      ap length c.bytes_behind.ensures,
-      length-drop (s.stand.passed - c.args.offset) c.args.bytes.now,
-    ))
+    wants (answer_of s) s.stand _ (λ none _ some. wants (answer_of u) u.stand _ (λ later.
+    let came = came_to s t c.args.offset c.args.bytes.now c.bytes_behind.result.now none (sym c.skip.ensures.keeps ∙ later) s.holds
+    c.args.self.now.next c.if-offset-start.false c.bytes_behind.ensures c.take_in.ensures.passed in
+    let behind = c.skip.ensures.later in omega (arith, came.0, came.1, behind, some)))
 
 pub returns-clause-beyond : goal.returns-clause-beyond
 returns-clause-beyond c =
     let s = c.args.self.now.probe in let t = c.take_in.new.self in let u = c.skip.new.self in
-    gets_beyond (answer_of s) (answer_of u) s.stand u.stand c.args.offset (length c.args.bytes.now) (λ none later all.
-    let ahead = next_none s.kind s.stage s.stand.start s.stand.offset s.stand.passed s.stand.end s.stand.told none s.holds
-    c.args.self.now.next in
-    let many = awaiting_none t.kind t.stage (sym c.skip.ensures.keeps ∙ later) c.take_in.ensures.passed in
-    let behind = c.skip.ensures.later in
-    omega (
-      arith,
-      ahead.0,
-      ahead.1,
-      many,
-      behind,
-      all,
-      c.if-offset-start.false,
-      length-take (s.stand.told - s.stand.passed) c.bytes_behind.result.now,
-      ap length c.bytes_behind.ensures,
-      length-drop (s.stand.passed - c.args.offset) c.args.bytes.now,
-    ))
+    wants (answer_of s) s.stand _ (λ none _ all. wants (answer_of u) u.stand _ (λ later.
+    let came = came_to s t c.args.offset c.args.bytes.now c.bytes_behind.result.now none (sym c.skip.ensures.keeps ∙ later) s.holds
+    c.args.self.now.next c.if-offset-start.false c.bytes_behind.ensures c.take_in.ensures.passed in
+    let behind = c.skip.ensures.later in omega (arith, came.0, came.1, behind, all)))
 
 pub returns-clause-idle : goal.returns-clause-idle
 returns-clause-idle c =

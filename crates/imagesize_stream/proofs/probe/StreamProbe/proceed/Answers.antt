@@ -1,9 +1,8 @@
-use Rattle.std.proofs.Common.{◌≡◌, ◌-◌, ◌++◌, length, take, refl, sym, ap, subst, ◌∙◌, arith}
+use Rattle.std.proofs.Common.{length, take, ◌∙◌}
 use Rattle.imagesize_stream.proofs.Coming.{awaiting_map}
-use Rattle.imagesize_stream.proofs.Ending.{as_many, rests_cut}
+use Rattle.imagesize_stream.proofs.Ending.{rests_cut}
 use Rattle.imagesize_stream.proofs.Given.{cut_part, given_on}
 use Rattle.imagesize_stream.proofs.Unfinished.{none_searched}
-use Rattle.imagesize_stream.specs.Probe.{CameTo}
 use Rattle.imagesize_stream.specs.declared.stage.Stage.TheVariants.{Done, Records}
 use Rattle.imagesize_stream.proofs.probe.StreamProbe.proceed.Goals as goal
 
@@ -11,8 +10,7 @@ pub returns-in-First-clause-parts : goal.returns-in-First-clause-parts
 returns-in-First-clause-parts c = λ d given has.
     let s = c.args.self.now in
     let cut = c.front_of-chunk.result.now in
-    let is = cut_part d cut s.stand.passed (length c.args.chunk.now)
-    (c.front_of-chunk.ensures ∙ ap (λ k. take (k - s.stand.passed) c.args.chunk.now) (sym given.as_long) ∙ has) in
+    let is = cut_part d cut s.stand.passed (length c.args.chunk.now) (c.front_of-chunk.ensures ∙ (rw given.as_long at has)) in
     let here = rw c.in-First.is at given in
     let now = c.begin.new in
     given_on c.begin.new.into now.kind now.stand now.buffer d cut s.stand.passed s.stand.told given.as_long is
@@ -25,19 +23,13 @@ pub returns-in-Some-clause-goes_on : goal.returns-in-Some-clause-goes_on
 returns-in-Some-clause-goes_on c = λ front came.
     let s = c.args.self.now in
     let here = rw c.in-Records.is at came in
-    let many : s.stand.passed ≡ length front =
-    as_many s.kind s.stage s.stand.start s.stand.offset s.stand.passed s.stand.told s.buffer front
-    (rw c.in-Records.is refl) (omega arith) s.holds came in
-    subst (λ bytes. CameTo (Done c.in-Some.size) s.kind c.walk-found.new.stand c.walk-found.new.buffer (front ++ bytes))
-    (c.front_of-chunk.ensures ∙ ap (λ n. take (s.stand.told - n) c.args.chunk.now) many)
-    (c.in-Some.ensures.goes_on s.kind front here)
+    rw (c.front_of-chunk.ensures, here.1.as_many) at (c.in-Some.ensures.goes_on s.kind front here)
 
 pub returns-in-Some-clause-parts : goal.returns-in-Some-clause-parts
 returns-in-Some-clause-parts c = λ d given has.
     let s = c.args.self.now in
     let cut = c.front_of-chunk.result.now in
-    let is = cut_part d cut s.stand.passed (length c.args.chunk.now)
-    (c.front_of-chunk.ensures ∙ ap (λ k. take (k - s.stand.passed) c.args.chunk.now) (sym given.as_long) ∙ has) in
+    let is = cut_part d cut s.stand.passed (length c.args.chunk.now) (c.front_of-chunk.ensures ∙ (rw given.as_long at has)) in
     let here = rw c.in-Records.is at given in
     let now = c.walk-found.new in
     given_on (Done c.in-Some.size) s.kind now.stand now.buffer d cut s.stand.passed s.stand.told given.as_long is
@@ -48,17 +40,14 @@ pub returns-in_default-clause-complete : goal.returns-in_default-clause-complete
 returns-in_default-clause-complete c = λ front came.
     let s = c.args.self.now in
     let here = rw c.in-Records.is at came in
-    rests_cut front c.args.chunk.now c.front_of-chunk.result.now s.stand.passed s.stand.told
-    (as_many s.kind s.stage s.stand.start s.stand.offset s.stand.passed s.stand.told s.buffer front
-    (rw c.in-Records.is refl) (omega arith) s.holds came)
+    rests_cut front c.args.chunk.now c.front_of-chunk.result.now s.stand.passed s.stand.told here.1.as_many
     c.front_of-chunk.ensures (c.in_default.ensures.complete s.kind front here)
 
 pub returns-in_default-clause-parts : goal.returns-in_default-clause-parts
 returns-in_default-clause-parts c = λ d given has.
     let s = c.args.self.now in
     let cut = c.front_of-chunk.result.now in
-    let is = cut_part d cut s.stand.passed (length c.args.chunk.now)
-    (c.front_of-chunk.ensures ∙ ap (λ k. take (k - s.stand.passed) c.args.chunk.now) (sym given.as_long) ∙ has) in
+    let is = cut_part d cut s.stand.passed (length c.args.chunk.now) (c.front_of-chunk.ensures ∙ (rw given.as_long at has)) in
     let here = rw c.in-Records.is at given in
     let now = c.walk-found.new in
     given_on (Records now.next) s.kind now.stand now.buffer d cut s.stand.passed s.stand.told given.as_long is
@@ -71,8 +60,7 @@ pub returns-in-Footer-clause-parts : goal.returns-in-Footer-clause-parts
 returns-in-Footer-clause-parts c = λ d given has.
     let s = c.args.self.now in
     let cut = c.front_of-chunk.result.now in
-    let is = cut_part d cut s.stand.passed (length c.args.chunk.now)
-    (c.front_of-chunk.ensures ∙ ap (λ k. take (k - s.stand.passed) c.args.chunk.now) (sym given.as_long) ∙ has) in
+    let is = cut_part d cut s.stand.passed (length c.args.chunk.now) (c.front_of-chunk.ensures ∙ (rw given.as_long at has)) in
     c.wait-self.ensures.parts d (rw c.in-Footer.is at given) is
 
 pub invariant_of-self-clause-pending : goal.invariant_of-self-clause-pending

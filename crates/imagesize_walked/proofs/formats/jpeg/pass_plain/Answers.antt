@@ -1,4 +1,4 @@
-use Rattle.std.proofs.Common.{◌+◌, ◌<◌, ◌≤◌, ap, ◌∙◌, sym, arith}
+use Rattle.std.proofs.Common.{◌+◌, ap, ◌∙◌, sym, arith}
 use Rattle.imagesize_walked.proofs.Jpeg.{plain_strides}
 use Rattle.imagesize_walked.proofs.formats.jpeg.pass_plain.Goals as goal
 

@@ -1,6 +1,5 @@
-use Rattle.std.proofs.Common.{ℕ, List, refl}
+use Rattle.std.proofs.Common.{refl}
 use Rattle.imagesize_source.specs.Chain.{start}
-use Rattle.imagesize_source.specs.Strides.{Strides}
 use Rattle.imagesize_source.proofs.Reached.{reached_end}
 use Rattle.imagesize_source.proofs.Strides.{strides_start}
 use Rattle.imagesize_walked.specs.Jpeg.{jpeg_segments}

@@ -1,4 +1,4 @@
-use Rattle.std.proofs.Common.{◌≡◌, ℕ, ◌+◌, ◌-◌, ◌%◌, arith}
+use Rattle.std.proofs.Common.{◌≡◌, ◌+◌, ◌-◌, ◌%◌, arith}
 use Rattle.imagesize_source.proofs.Shown.{shown_behind}
 use Rattle.imagesize_source.proofs.source.held.HeldSource.whole.Goals as goal
 

@@ -1,4 +1,4 @@
-use Rattle.std.proofs.Common.{ℕ, ◌-◌, length, take, arith}
+use Rattle.std.proofs.Common.{◌≡◌, ℕ, ◌+◌, ◌-◌, length, take, arith}
 use Rattle.imagesize_source.specs.Reading.{text_read}
 use Rattle.imagesize_source.proofs.Shown.{shown_text, shown_reads}
 use Rattle.imagesize_source.proofs.source.held.HeldSourceSource.read_text.Goals as goal
@@ -15,7 +15,8 @@ returns-clause-runs g c =
     let n : ℕ = c.in-Some-copy_ended.count in
     let buffer = c.copy_ended.new.buffer in
     let counted = paid.paid (c.if-not-pays.false) in
-    rw (paid.told, paid.budget, paid.of, counted.0, counted.1)
+    let taken : s.budget - c.pays.new.self.left ≡ (s.budget - s.left) + n = omega (arith, counted.0, s.paid) in
+    rw (paid.told, paid.budget, paid.of, taken, counted.1)
     (shown_reads s.told s.budget kept claim (s.budget - s.left) s.position c.args.offset n
     (take n buffer) (text_read claim.input c.args.text c.args.offset (length buffer))
     (λ honest. let is = s.shown honest in (is.1, is.2)) s.within.0 (omega (arith, s.within.1, known.ahead)) (omega (arith, c.if-count-eq0.false))
