@@ -13,11 +13,11 @@ use Rattle.imagesize_source.specs.Layout.{layout_reads}
 use Rattle.imagesize_source.specs.Outcome.{stated}
 use Rattle.imagesize_source.proofs.Marks.{behind-behind}
 use Rattle.imagesize_stream.proofs.Hearing.{opened_behind, type_is}
-use Rattle.imagesize_stream.proofs.Opened.{opened_rest}
-use Rattle.imagesize_stream.specs.Steps.{Awaits, IsSteady, awaited_said, is_text}
-use Rattle.imagesize_stream.specs.Streamed.{opening}
-use Rattle.imagesize_stream.specs.declared.awaited.Awaited.{Awaited}
-use Rattle.imagesize_stream.specs.declared.front.Opening.TheVariants as opened
+use Rattle.imagesize_records.proofs.Opened.{opened_rest}
+use Rattle.imagesize_records.specs.Steps.{Awaits, IsSteady, awaited_said, is_text}
+use Rattle.imagesize_records.specs.Streamed.{opening}
+use Rattle.imagesize_records.specs.declared.awaited.Awaited.{Awaited}
+use Rattle.imagesize_records.specs.declared.front.Opening.TheVariants as opened
 use Rattle.imagesize_stream.specs.declared.stage.Stage.{Stage}
 use Rattle.imagesize_stream.specs.declared.stage.Stage.TheVariants.{Records}
 use Rattle.imagesize_source.specs.Reading.{Reads, uncounted}

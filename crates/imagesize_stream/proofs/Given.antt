@@ -21,9 +21,9 @@ use Rattle.imagesize_stream.specs.Heard.{IsByFooter, OutOfHeader, RestsOnMore}
 use Rattle.imagesize_stream.specs.Probe.{AheadBy, CameBy, CameTo, HoldsAt, HoldsBy, IfAwaiting, IsCut, MarkedBy, NextBy, RestsOnNext, latest_by}
 use Rattle.imagesize_stream.specs.Pushed.{stage_answer}
 use Rattle.imagesize_stream.proofs.Coming.{awaiting_map, texts_stated}
-use Rattle.imagesize_stream.proofs.Far.{reach_few, reach_most, reach_some}
+use Rattle.imagesize_records.proofs.Far.{reach_few, reach_most, reach_some}
 use Rattle.imagesize_types.specs.declared.size.ImageSize.{ImageSize}
-use Rattle.imagesize_stream.specs.declared.awaited.Awaited.{Awaited}
+use Rattle.imagesize_records.specs.declared.awaited.Awaited.{Awaited}
 use Rattle.imagesize_stream.specs.declared.stage.Stage.{Stage}
 use Rattle.imagesize_stream.specs.declared.stage.Stage.TheVariants.{Done, First, Footer, Records}
 

@@ -10,7 +10,7 @@ use Rattle.imagesize_source.specs.Agreement.{has_offset}
 use Rattle.imagesize_source.specs.Input.{span_of}
 use Rattle.imagesize_source.specs.Layout.{layout_reads}
 use Rattle.imagesize_source.specs.Reading.{bytes_at}
-use Rattle.imagesize_stream.specs.Streamed.{first_by, first_layout}
+use Rattle.imagesize_records.specs.Streamed.{first_by, first_layout}
 
 -- the span of a read within the input has each byte of the read, and ends with the last
 pub whole_needed : (d : List ℕ) (offset n low high : ℕ) → offset ≤ low → low < high → offset + n ≡ high → high ≤ length d

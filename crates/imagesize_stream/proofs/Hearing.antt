@@ -16,17 +16,17 @@ use Rattle.imagesize_source.specs.declared.halt.Halt.TheVariants.{Ended}
 use Rattle.imagesize_source.specs.declared.span.Span.{Span}
 use Rattle.imagesize_source.proofs.Among.{any_right}
 use Rattle.imagesize_source.specs.Outcome.{stated}
-use Rattle.imagesize_stream.proofs.Firsts.{type_by_first}
-use Rattle.imagesize_stream.proofs.Opened.{opened_as, opened_rest}
-use Rattle.imagesize_stream.proofs.Saying.{OpensSteady, opening_steady, saying}
+use Rattle.imagesize_records.proofs.Firsts.{type_by_first}
+use Rattle.imagesize_records.proofs.Opened.{opened_as, opened_rest}
+use Rattle.imagesize_records.proofs.Saying.{OpensSteady, opening_steady, saying}
 use Rattle.imagesize_stream.specs.Heard.{RestsBetween, RestsOnMore, SizeIs, TypeIs, TypeRests}
-use Rattle.imagesize_stream.specs.Steps.{IsSteady, is_text}
-use Rattle.imagesize_stream.specs.Streamed.{first_layout, opening, type_behind}
-use Rattle.imagesize_stream.specs.declared.awaited.Awaited.{Awaited}
-use Rattle.imagesize_stream.specs.declared.front.First.{First}
-use Rattle.imagesize_stream.specs.declared.front.First.TheVariants as first
-use Rattle.imagesize_stream.specs.declared.front.Opening.{Opening}
-use Rattle.imagesize_stream.specs.declared.front.Opening.TheVariants as opened
+use Rattle.imagesize_records.specs.Steps.{IsSteady, is_text}
+use Rattle.imagesize_records.specs.Streamed.{first_layout, opening, type_behind}
+use Rattle.imagesize_records.specs.declared.awaited.Awaited.{Awaited}
+use Rattle.imagesize_records.specs.declared.front.First.{First}
+use Rattle.imagesize_records.specs.declared.front.First.TheVariants as first
+use Rattle.imagesize_records.specs.declared.front.Opening.{Opening}
+use Rattle.imagesize_records.specs.declared.front.Opening.TheVariants as opened
 use Rattle.imagesize_types.specs.declared.size.ImageSize.{ImageSize}
 
 first_short : (d : List ℕ) → length d < 12 → (layout_reads d first_layout).answer ≡ Err Ended

@@ -19,11 +19,12 @@ use Rattle.imagesize_source.specs.Layout.{Layout, begin_record, field, layout_re
 use Rattle.imagesize_source.specs.Layout.Layout.{«done», refuse}
 use Rattle.imagesize_source.specs.Reading.{AllOf, PartOf, TextOf, Reads, number_read, read_of}
 use Rattle.imagesize_source.specs.declared.span.Span.{Span}
-use Rattle.imagesize_stream.proofs.Steps.{awaited_advances}
+use Rattle.imagesize_records.proofs.Steps.{awaited_advances}
 use Rattle.imagesize_stream.specs.Probe.{CameTo}
-use Rattle.imagesize_stream.specs.Skips.{PassesOver, ReadsFirst}
-use Rattle.imagesize_stream.specs.Steps.{awaited_chain, awaited_said, step}
-use Rattle.imagesize_stream.specs.declared.awaited.Awaited.{Awaited}
+use Rattle.imagesize_records.specs.FirstReads.{ReadsFirst}
+use Rattle.imagesize_stream.specs.Skips.{PassesOver}
+use Rattle.imagesize_records.specs.Steps.{awaited_chain, awaited_said, step}
+use Rattle.imagesize_records.specs.declared.awaited.Awaited.{Awaited}
 use Rattle.imagesize_stream.specs.declared.stage.Stage.TheVariants.{Records}
 
 -- what holds of the span of the first read holds of one of all

@@ -25,10 +25,10 @@ use Rattle.imagesize_stream.proofs.Coming.{texts_known, type_on}
 use Rattle.imagesize_stream.proofs.Given.{drop_both, dropped}
 use Rattle.imagesize_stream.proofs.Skipping.{walk_needs}
 use Rattle.imagesize_stream.specs.Probe.{CameTo, HoldsAt, IsAhead, SearchedBy}
-use Rattle.imagesize_stream.specs.Skips.{ReadsText}
-use Rattle.imagesize_stream.proofs.Far.{reach_few, reach_most}
-use Rattle.imagesize_stream.specs.Steps.{awaited_said, first_text, is_text, reach_at, step}
-use Rattle.imagesize_stream.specs.declared.awaited.Awaited.{Awaited}
+use Rattle.imagesize_records.specs.FirstReads.{ReadsText}
+use Rattle.imagesize_records.proofs.Far.{reach_few, reach_most}
+use Rattle.imagesize_records.specs.Steps.{awaited_said, first_text, is_text, reach_at, step}
+use Rattle.imagesize_records.specs.declared.awaited.Awaited.{Awaited}
 use Rattle.imagesize_stream.specs.declared.stage.Stage.{Stage}
 use Rattle.imagesize_stream.specs.declared.stage.Stage.TheVariants.{Records}
 

@@ -13,9 +13,9 @@ use Rattle.imagesize_source.specs.Layout.{layout_reads}
 use Rattle.imagesize_source.specs.declared.halt.Halt.{Halt}
 use Rattle.imagesize_source.specs.declared.halt.Halt.TheVariants.{NotSupported}
 use Rattle.imagesize_types.specs.declared.size.ImageSize.{ImageSize}
-use Rattle.imagesize_stream.specs.Steps.{IsSteady, is_text}
-use Rattle.imagesize_stream.specs.Streamed.{opening}
-use Rattle.imagesize_stream.specs.declared.front.Opening.TheVariants as opened
+use Rattle.imagesize_records.specs.Steps.{IsSteady, is_text}
+use Rattle.imagesize_records.specs.Streamed.{opening}
+use Rattle.imagesize_records.specs.declared.front.Opening.TheVariants as opened
 use Rattle.imagesize_stream.specs.declared.hear.Heard.{Heard}
 use Rattle.imagesize_stream.specs.declared.hear.Heard.TheVariants.{Answer, Footer, Missing, Records}
 

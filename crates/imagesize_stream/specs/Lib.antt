@@ -4,5 +4,3 @@ pub mod Parts
 pub mod Probe
 pub mod Pushed
 pub mod Skips
-pub mod Steps
-pub mod Streamed

@@ -12,8 +12,8 @@ use Rattle.imagesize_source.specs.Text.{is_ended}
 use Rattle.imagesize_source.specs.declared.halt.Halt.{Halt}
 use Rattle.imagesize_source.specs.declared.span.Span.{Span}
 use Rattle.imagesize_stream.specs.Heard.{IsByFooter, OutOfHeader, SizeIs, TypeIs, TypeMissing, TypeRests}
-use Rattle.imagesize_stream.specs.Steps.{Awaits, IsSteady, awaited_said, first_text, is_text, reach_at, reach_of, steady_prop}
-use Rattle.imagesize_stream.specs.declared.awaited.Awaited.{Awaited}
+use Rattle.imagesize_records.specs.Steps.{Awaits, IsSteady, awaited_said, first_text, is_text, reach_at, reach_of, steady_prop}
+use Rattle.imagesize_records.specs.declared.awaited.Awaited.{Awaited}
 use Rattle.imagesize_stream.specs.declared.stage.Stage.{Stage}
 use Rattle.imagesize_stream.specs.declared.stage.Stage.TheVariants.{Done, First, Footer, Records}
 use Rattle.imagesize_types.specs.declared.size.ImageSize.{ImageSize}

@@ -5,12 +5,12 @@ ghost use Rattle.imagesize.specs.Meaning.{kind_reads};
 ghost use Rattle.imagesize_pieces.specs.Stream.{Says};
 ghost use Rattle.imagesize_source.specs.Layout.{layout_reads};
 ghost use Rattle.imagesize_source.specs.Reading.{is_stopped};
-ghost use Rattle.imagesize_stream.specs.declared.front.First.TheVariants as first;
-ghost use Rattle.imagesize_stream.specs.Streamed.{first_layout};
+ghost use Rattle.imagesize_records.specs.declared.front.First.TheVariants as first;
+ghost use Rattle.imagesize_records.specs.Streamed.{first_layout};
 ghost use Rattle.imagesize_stream.specs.Heard.{EndsBehind, EndsIn, Hears, HearsType, IfAnswer, IfMissing};
 
-use crate::awaited::Awaited;
-use crate::front::{First, FirstBytes, FirstSize, Opening, TgaHeader, TgaSize};
+use imagesize_records::awaited::Awaited;
+use imagesize_records::front::{First, FirstBytes, FirstSize, Opening, TgaHeader, TgaSize};
 use imagesize::ImageType;
 use imagesize_fixed::formats::tga::lacks_its_map;
 use imagesize_pieces::front::read_front;

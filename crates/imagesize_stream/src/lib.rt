@@ -1,13 +1,10 @@
 //! The type of an image and its size in pixels, from bytes that arrive in chunks.
 #![tactic(auto)]
 
-mod awaited;
-mod front;
 mod hear;
 mod laws;
 mod parts;
 mod probe;
-mod records;
 mod stage;
 
 pub use laws::probe_two;

@@ -6,12 +6,12 @@ ghost use Rattle.imagesize_stream.specs.Given.{IsGiven, MayBeAt};
 ghost use Rattle.imagesize_stream.specs.Heard.{RestsOnMore};
 ghost use Rattle.imagesize_stream.specs.Probe.{CameTo, HoldsAt, IfAwaiting, IsAhead, RestsOnNext, TypedBy, stage_after};
 ghost use Rattle.imagesize_stream.specs.Skips.{PassesOver};
-ghost use Rattle.imagesize_stream.specs.Steps.{IsSteady, is_text};
+ghost use Rattle.imagesize_records.specs.Steps.{IsSteady, is_text};
 ghost use Rattle.imagesize_stream.specs.declared.stage.Stage.TheVariants as stage;
 
-use crate::awaited::Awaited;
+use imagesize_records::awaited::Awaited;
 use crate::hear::{Heard, hear};
-use crate::records::Texts;
+use imagesize_records::records::Texts;
 use imagesize::ImageType;
 use imagesize_fixed::formats::tga::is_footer;
 use imagesize_pieces::buffer::{bytes_behind, front_of, keep_behind};

@@ -1,8 +1,8 @@
 use Rattle.std.proofs.Common.{◌<◌, false, length, sym, ◌∙◌, arith}
 use Rattle.imagesize_stream.proofs.Heads.{head_needed}
 use Rattle.imagesize_stream.proofs.Hearing.{first_asked, first_typed, rests_more, type_asked, type_refused, type_said}
-use Rattle.imagesize_stream.proofs.Plain.{first_plain}
-use Rattle.imagesize_stream.proofs.Reaches.{first_reaches}
+use Rattle.imagesize_records.proofs.Plain.{first_plain}
+use Rattle.imagesize_records.proofs.Reaches.{first_reaches}
 use Rattle.imagesize_stream.proofs.hear.hear.Goals as goal
 
 pub returns-then-is_faulted-clause-typed : goal.returns-then-is_faulted-clause-typed

@@ -1,9 +1,9 @@
 use Rattle.std.proofs.Common.{Ok, Err, sym, ◌∙◌}
 use Rattle.imagesize_stream.proofs.Hearing.{kind_typed, rests_more, size_asked, size_said, steady_said, type_is}
 use Rattle.imagesize.specs.Parted.{has_texts}
-use Rattle.imagesize_stream.proofs.Plain.{opening_read}
-use Rattle.imagesize_stream.proofs.Reaches.{opening_reaches}
-use Rattle.imagesize_stream.specs.declared.front.Opening.TheVariants as opened
+use Rattle.imagesize_records.proofs.Plain.{opening_read}
+use Rattle.imagesize_records.proofs.Reaches.{opening_reaches}
+use Rattle.imagesize_records.specs.declared.front.Opening.TheVariants as opened
 use Rattle.imagesize_stream.proofs.hear.hear_size.Goals as goal
 
 pub returns-then-is_faulted-clause-hears : goal.returns-then-is_faulted-clause-hears

@@ -2,7 +2,7 @@ use Rattle.std.proofs.Common.{refl, sym, ◌∙◌, arith}
 use Rattle.imagesize_fixed.specs.Tga.{tga, tga_by_header}
 use Rattle.imagesize_stream.proofs.Footers.{footer_decides, header_sure, header_tells, never_refused, rests_on_more, short_refused, size_sure, type_on_more}
 use Rattle.imagesize_stream.proofs.Hearing.{first_typed}
-use Rattle.imagesize_stream.specs.declared.front.First.TheVariants as first
+use Rattle.imagesize_records.specs.declared.front.First.TheVariants as first
 use Rattle.imagesize_stream.proofs.hear.hear_tga.Goals as goal
 
 pub returns-then-told-lt18-clause-hears : goal.returns-then-told-lt18-clause-hears

@@ -3,10 +3,10 @@ use Rattle.std.proofs.lemmas.List.{length-append}
 use Rattle.imagesize.specs.Meaning.{meaning_reads}
 use Rattle.imagesize_pieces.proofs.Needing.{needs_as}
 use Rattle.imagesize_stream.proofs.Coming.{stands, texts_are, texts_same, type_on, walked}
-use Rattle.imagesize_stream.proofs.Far.{awaits_far, reach_few, step_far}
-use Rattle.imagesize_stream.proofs.Plain.{awaits_read}
-use Rattle.imagesize_stream.proofs.Steps.{awaited_advances}
-use Rattle.imagesize_stream.specs.Steps.{last_awaited, reach_of}
+use Rattle.imagesize_records.proofs.Far.{awaits_far, reach_few, step_far}
+use Rattle.imagesize_records.proofs.Plain.{awaits_read}
+use Rattle.imagesize_records.proofs.Steps.{awaited_advances}
+use Rattle.imagesize_records.specs.Steps.{last_awaited, reach_of}
 use Rattle.imagesize_stream.proofs.stage.walk.Goals as goal
 
 pub read_on-requires-clause-follows : goal.read_on-requires-clause-follows

@@ -1,0 +1,10 @@
+pub mod Opened
+pub mod Running
+pub mod Words
+pub mod Saying
+pub mod Behind
+pub mod Plain
+pub mod Reaches
+pub mod Steps
+pub mod Firsts
+pub mod Far

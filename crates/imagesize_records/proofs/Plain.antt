@@ -1,0 +1,126 @@
+-- Which of the readings of a stream read no text.
+use Rattle.std.proofs.Common.{◌≡◌, ℕ, Bool, true, false, cond, List, Option, None, Some, Result, Ok, Err, refl, ap, ◌∙◌}
+use Rattle.imagesize.proofs.Detection.{kind_cost, with_costs}
+use Rattle.imagesize.specs.Kind.{first_row, with_compression}
+use Rattle.imagesize.specs.Parted.{has_texts}
+use Rattle.imagesize.specs.Types.{rows}
+use Rattle.imagesize.specs.declared.types.ImageType.{ImageType}
+use Rattle.imagesize.specs.declared.types.ImageType.TheVariants.{Exr, Hdr, Pnm}
+use Rattle.imagesize_boxes.specs.Heif.{property_found}
+use Rattle.imagesize_boxes.specs.Jxl.{box_head, piece_at}
+use Rattle.imagesize_boxes.specs.declared.formats.heif.Gathered.{Gathered}
+use Rattle.imagesize_boxes.specs.declared.formats.heif.Property as heif
+use Rattle.imagesize_source.proofs.Agreement.{costed_texts, with_texts}
+use Rattle.imagesize_source.specs.Agreement.{AllRead}
+use Rattle.imagesize_source.specs.Chain.{Said, Decided, Next}
+use Rattle.imagesize_source.specs.Layout.{Layout, accept, bind}
+use Rattle.imagesize_source.specs.Layout.Layout.{begin_record, field, reading, refuse, «done»}
+use Rattle.imagesize_source.specs.declared.endian.Endian.{Endian}
+use Rattle.imagesize_source.specs.declared.halt.Halt.{Halt}
+use Rattle.imagesize_records.specs.Steps.{Awaits, after, awaited_said, is_text, last_awaited, property_step, step}
+use Rattle.imagesize_records.specs.Streamed.{first_by, first_layout, jxl_opened, opening}
+use Rattle.imagesize_records.specs.declared.awaited.Awaited.{Awaited}
+use Rattle.imagesize_records.specs.declared.awaited.Awaited.TheVariants.{Attribute, Comment, Height, Line, Word}
+use Rattle.imagesize_records.specs.declared.front.First.TheVariants as first
+use Rattle.imagesize_types.specs.declared.size.ImageSize.{ImageSize}
+use Rattle.imagesize_walked.specs.Ico.{icon_answer, icon_entry}
+use Rattle.imagesize_walked.specs.Tiff.{stated_offset, tiff_entry, tiff_head, tiff_header, tiff_value}
+use Rattle.imagesize_walked.specs.declared.formats.tiff.Version.{Version}
+use Rattle.imagesize_walked.specs.declared.formats.tiff.Version.TheVariants.{BigTiff, Tiff as Tiff_version}
+
+plain_if : {X : Type 0} (b : Bool) (t u : Layout X) → AllRead false t → AllRead false u → AllRead false (cond b t u)
+plain_if true t u first second = first
+plain_if false t u first second = second
+
+plain_accept : {X Y : Type 0} (r : Result X Halt) (f : X → Layout Y) → ((x : X) → AllRead false (f x))
+    → AllRead false (accept r f)
+plain_accept (Ok x) f rest = rest x
+plain_accept (Err e) f rest = tt
+
+plain_bind : {X Y : Type 0} (t : Layout X) (g : X → Layout Y) → AllRead false t → ((x : X) → AllRead false (g x))
+    → AllRead false (bind t g)
+plain_bind (done x) g read rest = rest x
+plain_bind (refuse e) g read rest = tt
+plain_bind (field order offset n f) g read rest = λ v. plain_bind (f v) g (read v) rest
+plain_bind (reading r offset f) g read rest = (read.0, λ bs. plain_bind (f bs) g (read.1 bs) rest)
+plain_bind (begin_record t) g read rest = plain_bind t g read rest
+
+ruleset plain = (plain_if, plain_accept, plain_bind)
+
+-- ---- the records
+
+plain_after : {C Y : Type 0} (on : C → Awaited) (verdict : Y → Layout (Said Awaited ImageSize))
+    → ((y : Y) → AllRead false (verdict y)) → (said : Said C Y) → AllRead false (after on verdict said)
+plain_after on verdict each (Decided y) = each y
+plain_after on verdict each (Next v offset) = tt
+
+icon_plain : (best : Option ImageSize) → AllRead false (icon_answer best)
+icon_plain None = tt
+icon_plain (Some size) = tt
+
+entry_plain : (best : Option ImageSize) (offset : ℕ) (found : Option (List ℕ)) → AllRead false (icon_entry best offset found)
+entry_plain best offset None = icon_plain best
+entry_plain best offset (Some bytes) = tt
+
+found_plain : (left offset : ℕ) (found : Option (List ℕ)) → AllRead false (property_found left offset found)
+found_plain left offset None = tt
+found_plain left offset (Some head) = search plain
+
+listed_plain : (g : Gathered) (offset : ℕ) (found : Option heif.Property) → AllRead false (property_step g offset found)
+listed_plain g offset None = search plain
+listed_plain g offset (Some property) = tt
+
+ruleset records = (plain, plain_after, icon_plain, entry_plain, found_plain, listed_plain)
+
+-- a record that is no text
+step_plain : (next : Awaited) (offset : ℕ) → is_text next ≡ false → AllRead false (step next offset)
+unfolding tiff_entry tiff_head tiff_value box_head piece_at
+step_plain (Attribute long) offset other = absurd cc
+step_plain Line offset other = absurd cc
+step_plain Word offset other = absurd cc
+step_plain Comment offset other = absurd cc
+step_plain (Height width) offset other = absurd cc
+step_plain next offset other = search records depth 12 fits 3000
+
+step_read : (texts : Bool) (next : Awaited) (offset : ℕ) → is_text next ≡ texts → AllRead texts (step next offset)
+step_read true next offset is = with_texts (step next offset)
+step_read false next offset is = step_plain next offset is
+
+pub awaits_read : {texts : Bool} {next : Awaited} (held : List Awaited) (offset : ℕ) → Awaits texts next held offset
+    → AllRead texts (awaited_said held offset)
+awaits_read {texts} held offset awaits = step_read texts (last_awaited held) offset (ap is_text awaits.0 ∙ awaits.2)
+
+-- ---- the first bytes
+
+offset_plain : (order : Endian) (version : Version) → AllRead false (stated_offset order version)
+unfolding stated_offset
+offset_plain order Tiff_version = search plain
+offset_plain order BigTiff = search plain
+
+jxl_plain : (found : Option (List ℕ)) → AllRead false (jxl_opened found)
+jxl_plain (Some front) = search plain
+jxl_plain None = tt
+
+ruleset openings = (plain, offset_plain, jxl_plain)
+
+opening_plain : (type : ImageType) → has_texts type ≡ false → AllRead false (opening type)
+unfolding tiff_header
+opening_plain Exr none = absurd cc
+opening_plain Hdr none = absurd cc
+opening_plain Pnm none = absurd cc
+opening_plain type none = search openings depth 12
+
+pub opening_read : (type : ImageType) → AllRead (has_texts type) (opening type)
+opening_read type = by_test (has_texts type) refl where
+  by_test : (texts : Bool) → has_texts type ≡ texts → AllRead texts (opening type)
+  by_test true is = with_texts (opening type)
+  by_test false is = opening_plain type is
+
+-- a type is read from no text
+first_plain_by : (head : List ℕ) (found : Option ImageType) → AllRead false (first_by head found)
+first_plain_by head (Some found) = plain_bind (with_compression 0 head found) (λ type. done (first.Type type))
+    (costed_texts false kind_cost 37 12 (with_compression 0 head found) (with_costs 0 head found)) (λ type. tt)
+first_plain_by head None = search plain
+
+pub first_plain : AllRead false first_layout
+first_plain = (tt, λ head. first_plain_by head (first_row rows head))

@@ -1,0 +1,3 @@
+pub mod FirstReads
+pub mod Steps
+pub mod Streamed

@@ -1,0 +1,108 @@
+-- What the first bytes of an image say: its type, and its size or the first record on the way to it.
+use Rattle.std.specs.Prelude.{ℕ, List, [], length, nat_lt, if◌then◌else◌, Option, None, Some}
+use Rattle.imagesize.specs.Kind.{first_row, tga_or_none, with_compression}
+use Rattle.imagesize.specs.Types.{rows, way_of}
+use Rattle.imagesize.specs.declared.types.ImageType.{ImageType}
+use Rattle.imagesize.specs.declared.types.ImageType.TheVariants.{Exr, Hdr, Heif, Ico, Ilbm, Jpeg, Jxl, Pnm, Tiff}
+use Rattle.imagesize_fixed.specs.Tga.{is_tga, may_be_tga}
+use Rattle.imagesize_source.specs.Layout.{Layout, accept, bind, bytes, layout_reads}
+use Rattle.imagesize_source.specs.Layout.Layout.{field, refuse, «done»}
+use Rattle.imagesize_source.specs.Reading.{Reads, gives}
+use Rattle.imagesize_source.specs.Way.{Way, Fixed, Recorded, Texts}
+use Rattle.imagesize_source.specs.declared.endian.Endian.TheVariants.{Big, Little}
+use Rattle.imagesize_source.specs.declared.halt.Halt.TheVariants.{NotSupported}
+use Rattle.imagesize_boxes.specs.Jxl.{jxl_size, jxl_start}
+use Rattle.imagesize_records.specs.Steps.{kept_of}
+use Rattle.imagesize_records.specs.declared.awaited.Awaited.{Awaited}
+use Rattle.imagesize_records.specs.declared.awaited.Awaited.TheVariants.{Attribute, Box, Chunk, Directory, Icon, Line, Meta, Segment, Word}
+use Rattle.imagesize_records.specs.declared.front.First.{First}
+use Rattle.imagesize_records.specs.declared.front.First.TheVariants as first
+use Rattle.imagesize_records.specs.declared.front.Opening.{Opening}
+use Rattle.imagesize_records.specs.declared.front.Opening.TheVariants as opened
+use Rattle.imagesize_texts.specs.Exr.{name_room}
+use Rattle.imagesize_texts.specs.Hdr.{hdr_identifier}
+use Rattle.imagesize_types.specs.declared.size.ImageSize.{ImageSize}
+use Rattle.imagesize_walked.specs.Tiff.{tiff_header}
+
+-- what the first bytes say about the type, by the first row that holds of them
+abbrev pub first_by : List ℕ → Option ImageType → Layout First
+first_by head (Some found) = bind (with_compression 0 head found) (λ type. done (first.Type type))
+first_by head None = if may_be_tga head then done (first.MaybeTga head) else refuse NotSupported
+
+abbrev pub first_layout : Layout First
+first_layout = bytes 0 12 (λ head. first_by head (first_row rows head))
+
+-- the type that follows from what the first bytes say
+abbrev pub type_behind : List ℕ → First → Reads ImageType
+type_behind d (first.Type type) = gives type
+type_behind d (first.MaybeTga head) = layout_reads d (bind (is_tga (length d) head) tga_or_none)
+
+-- a size at fixed offsets
+abbrev pub sized : Layout ImageSize → Layout Opening
+sized layout = bind layout (λ size. done (opened.Size size))
+
+abbrev pub opens : Awaited → ℕ → Layout Opening
+opens next offset = done (opened.Records next offset)
+
+-- the version of an EXR, which says whether its names may be long
+abbrev pub open_exr : Layout Opening
+open_exr = field Little 4 4 (λ version. opens (Attribute (nat_lt 32 (name_room version))) 8)
+
+-- the first line of a Radiance picture
+abbrev pub open_hdr : Layout Opening
+open_hdr = bind hdr_identifier (λ first. opens Line first)
+
+-- the size of the first box
+abbrev pub open_heif : Layout Opening
+open_heif = field Big 0 4 (λ first. opens Meta first)
+
+-- a JPEG XL codestream without boxes, or the boxes
+abbrev pub jxl_opened : Option (List ℕ) → Layout Opening
+jxl_opened (Some front) = accept (jxl_size front) (λ size. done (opened.Size size))
+jxl_opened None = opens (Box (kept_of [])) 12
+
+abbrev pub open_jxl : Layout Opening
+open_jxl = bind jxl_start jxl_opened
+
+-- the count of the icons
+abbrev pub open_ico : Layout Opening
+open_ico = field Little 4 2 (λ count. opens (Icon count 0 None) 6)
+
+-- the header of a TIFF
+abbrev pub open_tiff : Layout Opening
+open_tiff = bind tiff_header (λ header. opens (Directory header) header.directory)
+
+-- the first record of a type that stores its size in records
+abbrev pub opening_records : ImageType → Layout Opening
+opening_records Exr = open_exr
+opening_records Hdr = open_hdr
+opening_records (Heif _) = open_heif
+opening_records Ico = open_ico
+opening_records Ilbm = opens Chunk 12
+opening_records Jpeg = opens (Segment 0) 2
+opening_records Jxl = open_jxl
+opening_records Pnm = opens Word 2
+opening_records Tiff = open_tiff
+opening_records type = refuse NotSupported
+
+-- what holds for the layout of a size at fixed offsets
+abbrev pub IfFixed : Way ImageSize → (Layout ImageSize → Type 0) → Type 0
+IfFixed (Fixed most layout) Holds = Holds layout
+IfFixed (Recorded outside each stated reads) Holds = Unit {0}
+IfFixed (Texts reads) Holds = Unit {0}
+
+-- what holds for the reads of a size in records
+abbrev pub IfRecorded : Way ImageSize → ((List ℕ → Reads ImageSize) → Type 0) → Type 0
+IfRecorded (Fixed most layout) Holds = Unit {0}
+IfRecorded (Recorded outside each stated reads) Holds = Holds reads
+IfRecorded (Texts reads) Holds = Holds reads
+
+-- the size, if it is at fixed offsets, or else the first record
+abbrev pub opening_by : Way ImageSize → Layout Opening → Layout Opening
+opening_by (Fixed most layout) first = sized layout
+opening_by (Recorded outside each stated reads) first = first
+opening_by (Texts reads) first = first
+
+-- what the first bytes say about the size, by the type
+abbrev pub opening : ImageType → Layout Opening
+opening type = opening_by (way_of type) (opening_records type)
