@@ -15,8 +15,8 @@ PAGE = TOP / "docs" / "CLAUSES.md"
 BLOCK = re.compile(r"(<!-- by docs/check.py --write -->\n)(.*?)(<!-- end -->\n)", re.S)
 # The crates in the order of the page; the benchmarks have no promise.
 CRATES = ("imagesize imagesize_stream imagesize_png imagesize_c imagesize_probe imagesize_uses imagesize_types imagesize_source "
-          "imagesize_io imagesize_pieces imagesize_fixed imagesize_walked imagesize_boxes imagesize_texts imagesize_readers "
-          "imagesize_vectors").split()
+          "imagesize_io imagesize_pieces imagesize_records imagesize_fixed imagesize_walked imagesize_boxes imagesize_texts "
+          "imagesize_readers imagesize_vectors").split()
 OWNER = re.compile(r"^(?:unsafe )?(impl|(?:pub(?:\(\w+\))? )?trait)\b(.*)$")
 FN = re.compile(r"^( *)((?:pub(?:\(\w+\))? )?(?:const )?(?:unsafe )?(?:extern \"C\" )?)fn (\w+)")
 CALL = re.compile(r"(?<!fn )(\.|(?:\w+(?:::<[^>]*>)?::)+)?\b([a-z]\w*)(?:::<[^>]*>)?\(")
@@ -352,7 +352,8 @@ def tested():
 
 
 # Crates whose public functions are internal: a clause of theirs that no mutation tests and no words explain is left out.
-INTERNAL = set("imagesize_source imagesize_pieces imagesize_fixed imagesize_walked imagesize_boxes imagesize_texts imagesize_io".split())
+INTERNAL = set("imagesize_source imagesize_pieces imagesize_records imagesize_fixed imagesize_walked imagesize_boxes imagesize_texts "
+               "imagesize_io".split())
 
 
 def rows_of(function):

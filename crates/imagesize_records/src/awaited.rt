@@ -92,7 +92,7 @@ pub struct Listed {
 }
 
 impl Awaited {
-    // Whether the record is a text.
+    /// Whether the record is a text.
     pub fn is_text(&self) -> bool
         ensures { result ≡ is_text self.now }
     {
@@ -106,8 +106,8 @@ impl Awaited {
         )
     }
 
-    // How many bytes the first read of the record requests, from the record's offset on. 0 if that is not known without a
-    // read: for texts, and for entries of a table, which follow one another.
+    /// How many bytes the first read of the record requests, from the record's offset on. 0 if that is not known without a
+    /// read: for texts, and for entries of a table, which follow one another.
     #[inline]
     pub fn first_read(&self) -> u64
         ensures first { 0 < result → (offset : ℕ) → ReadsFirst offset result (step self.now offset) }
@@ -126,7 +126,7 @@ impl Awaited {
         }
     }
 
-    // How many bytes from its offset on the record is read at most.
+    /// How many bytes from its offset on the record is read at most.
     #[inline]
     pub fn most_read(&self) -> u64
         ensures is { result ≡ reach_at self.now }
@@ -148,7 +148,7 @@ impl Awaited {
         }
     }
 
-    // The text that the record begins with, if it is a text, and how many bytes it has at most.
+    /// The text that the record begins with, if it is a text, and how many bytes it has at most.
     #[inline(always)]
     pub fn first_text(&self) -> Option<(Text, usize)>
         ensures kind { IfSome result (λ _. is_text self.now ≡ true) }
@@ -165,8 +165,8 @@ impl Awaited {
         }
     }
 
-    // Reads the record at an offset, which is a text. Then this is the record after it. A word is read into the buffer. Inlined
-    // into its walk, as is `advance_other` into the other: this saves a call and a copy of its result a record.
+    /// Reads the record at an offset, which is a text. Then this is the record after it. A word is read into the buffer. Inlined
+    /// into its walk, as is `advance_other` into the other: this saves a call and a copy of its result a record.
     #[inline(always)]
     pub fn advance_text<S: Source>(
         &mut self,
@@ -190,7 +190,7 @@ impl Awaited {
         }
     }
 
-    // Reads the record at an offset, which is no text. Then this is the record after it.
+    /// Reads the record at an offset, which is no text. Then this is the record after it.
     #[inline(always)]
     pub fn advance_other<S: Source>(
         &mut self,
@@ -226,7 +226,7 @@ impl Awaited {
         }
     }
 
-    // The result at the end of the input.
+    /// The result at the end of the input.
     pub fn ending(self) -> Result<ImageSize, Halt>
         ensures goes_on { is_stopped result ≡ false }
         ensures is { result ≡ ends_with self }

@@ -9,12 +9,12 @@ ghost use Rattle.imagesize_records.specs.declared.front.First.TheVariants as fir
 ghost use Rattle.imagesize_records.specs.Streamed.{first_layout};
 ghost use Rattle.imagesize_stream.specs.Heard.{EndsBehind, EndsIn, Hears, HearsType, IfAnswer, IfMissing};
 
-use imagesize_records::awaited::Awaited;
-use imagesize_records::front::{First, FirstBytes, FirstSize, Opening, TgaHeader, TgaSize};
 use imagesize::ImageType;
 use imagesize_fixed::formats::tga::lacks_its_map;
 use imagesize_pieces::front::read_front;
 use imagesize_pieces::walk::is_faulted;
+use imagesize_records::awaited::Awaited;
+use imagesize_records::front::{First, FirstBytes, FirstSize, Opening, TgaHeader, TgaSize};
 use imagesize_source::Halt;
 use imagesize_types::size::ImageSize;
 
