@@ -308,6 +308,7 @@ fn names_of(long: bool) -> usize
     if long { 256 } else { 32 }
 }
 
+#[tactic(auto, using(imagesize_source::proofs::Runs::steps, imagesize_source::proofs::Runs::missed_before, imagesize_source::proofs::Layouts::binding))]
 fn read_line<S: Source>(
     source: &mut S,
     offset: u64,
@@ -495,6 +496,7 @@ fn read_entry<S: Source>(
 }
 
 // Reads an entry with a head of `HEAD` bytes and a value of `VALUE` bytes.
+#[tactic(auto, using(imagesize_source::proofs::Runs::steps, imagesize_source::proofs::Runs::missed_before, imagesize_source::proofs::Layouts::binding))]
 fn read_entry_of<S: Source, const HEAD: usize, const VALUE: usize>(
     listed: &mut Listed,
     source: &mut S,
@@ -630,7 +632,7 @@ fn read_listed<S: Source>(
 }
 
 /// Keeps the first bytes of a codestream.
-pub fn keep(front: &Front) -> Kept
+pub(crate) fn keep(front: &Front) -> Kept
     ensures is { result ≡ kept_of front.now }
     ensures few { result.len ≤ 16 }
 {
