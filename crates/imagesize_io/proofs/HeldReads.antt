@@ -1,28 +1,18 @@
 -- What is read from the bytes that a reader holds is what calls of the reader would give.
-use Rattle.std.proofs.Common.{◌≡◌, ℕ, ◌+◌, ◌-◌, ◌≤◌, ◌<◌, min, false, List, [], ◌∷◌, length, take, drop, Option, None, Ok, IfSome, ap, ◌∙◌, sym, arith}
+use Rattle.std.proofs.Common.{◌≡◌, ℕ, ◌+◌, ◌-◌, ◌≤◌, ◌<◌, min, List, [], length, take, drop, Option, None, Ok, IfSome, ap, ◌∙◌, sym, arith}
 use Rattle.std.proofs.lemmas.Bool.Decides.{nat_tests}
-use Rattle.std.proofs.lemmas.List.{nil_from_length, append-nil, drop_min, length-drop, length-take, take_all}
-use Rattle.imagesize_source.specs.declared.text.Text.{Text}
+use Rattle.std.proofs.lemmas.List.{append-nil, drop_min, length-drop, length-take, take_all}
 use Rattle.imagesize_source.specs.Input.{part}
 use Rattle.imagesize_io.specs.declared.progress.Progress.{Progress}
 use Rattle.imagesize_io.specs.declared.reader.Ledger.{Ledger}
-use Rattle.imagesize_io.specs.Held.{Holds, HoldsFrom, IsWhole}
+use Rattle.imagesize_io.specs.Held.{Holds, HoldsFrom}
 use Rattle.imagesize_io.specs.ReaderState.{ReadsAt, held_at, kept_window}
 use Rattle.imagesize_source.specs.Shown.{AreShown}
 use Rattle.imagesize_io.proofs.Windows.{part-behind, reader_sound}
 use Rattle.imagesize_io.specs.Standing.{Passed, stand, GivesFrom}
 use Rattle.imagesize_io.specs.Telling.{Account, Telling}
-use Rattle.imagesize_io.proofs.TextReads.{rest_start, rest_some}
 use Rattle.imagesize_io.proofs.Layers.{reads_past}
 use Rattle.imagesize_source.proofs.Parts.{part_behind as part-drop, part_front, part_length, part_none}
-
--- a whole text has a byte
-pub whole_some : (t : Text) (bs : List ℕ) → IsWhole t bs → 0 < length bs
-whole_some t bs whole =
-    let start = rest_start t (0 ∷ []) in
-    let some = rest_some t false 0 [] in
-    let front = whole (0 ∷ []) in
-    grind (arith, nil_from_length)
 
 -- the later ones of the bytes from an offset on
 drop_held : (d held : List ℕ) (offset ahead n : ℕ) → held ≡ part d offset (length held)

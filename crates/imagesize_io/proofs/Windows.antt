@@ -9,11 +9,9 @@ use Rattle.imagesize_source.specs.State.{State, Held, Runs, IsSound, state_after
 use Rattle.imagesize_source.proofs.Counts.{total-span_at}
 use Rattle.imagesize_source.proofs.Parts.{part_front, part_length}
 use Rattle.imagesize_io.specs.declared.progress.Progress.{Progress}
-use Rattle.imagesize_io.specs.ReaderState.{held_at, kept_window, reader_frame, reader_state, state_at, with_window}
+use Rattle.imagesize_io.specs.ReaderState.{held_at, kept_window, reader_frame, reader_state, with_window}
 use Rattle.imagesize_io.specs.Standing.{Standing, behind, drift, stand, KeepsCounts}
-use Rattle.imagesize_io.specs.StopOf.{Failures}
 use Rattle.imagesize_io.specs.Telling.{Account, Telling}
-use Rattle.imagesize_source.specs.State.{Frame}
 use Rattle.imagesize_io.proofs.Standings.{StandsAt, stands_at}
 
 length-with_window : (w d : List ℕ) → length w ≤ length d → length (with_window w d) ≡ length d

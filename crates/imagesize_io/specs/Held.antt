@@ -1,7 +1,6 @@
 -- The bytes that a reader holds, and texts in them.
-use Rattle.std.specs.Prelude.{◌≡◌, ℕ, ◌+◌, ◌-◌, Bool, true, false, List, ◌++◌, length, Option, None, Some, ⊤}
+use Rattle.std.specs.Prelude.{◌≡◌, ℕ, ◌+◌, ◌-◌, List, ◌++◌, length, Option, None, Some, ⊤}
 use Rattle.imagesize_source.specs.declared.text.Text.{Text}
-use Rattle.imagesize_source.specs.declared.text.Text.TheVariants.{Line, Word}
 use Rattle.imagesize_source.specs.Input.{part}
 use Rattle.imagesize_source.specs.Text.{text_front}
 use Rattle.imagesize_io.specs.Telling.{Telling}
@@ -19,8 +18,3 @@ HoldsFrom (Some t) present offset bytes = bytes ≡ part t.bytes (t.offset + (of
 -- The bytes are one text, with the byte that ends it. Whatever follows them, this text is at the front.
 abbrev pub IsWhole : Text → List ℕ → Type 0
 IsWhole text bs = (more : List ℕ) → text_front text (bs ++ more) ≡ bs
-
--- whether the text is a line, so that what is left of it after some bytes is a line too
-abbrev pub is_line : Text → Bool
-is_line (Line delimiter) = true
-is_line Word = false

@@ -54,11 +54,7 @@ impl Block {
     pub(crate) fn forget(&mut self)
         ensures { (self.new.filled ≡ 0) × (self.new.front.items ≡ []) }
     {
-        let Block {
-            filled,
-            front,
-            ..
-        } = self;
+        let Block { filled, front, .. } = self;
         *filled = 0;
         front.clear();
     }

@@ -1,6 +1,7 @@
 //! Texts from the bytes that a reader holds.
-ghost use Rattle.std.specs.Prelude.{◌≡◌, ◌≤◌, IfSome, length, take};
-ghost use Rattle.imagesize_io.specs.Held.{IsWhole, is_line};
+ghost use Rattle.std.specs.Prelude.{◌≡◌, ◌≤◌, false, None, IfSome, length, take};
+ghost use Rattle.imagesize_source.specs.Text.{is_ended};
+ghost use Rattle.imagesize_io.specs.Held.{IsWhole};
 
 use imagesize_source::Text;
 use imagesize_source::part::copy_ended;
@@ -13,6 +14,7 @@ pub(crate) fn copy_text(text: Text, bytes: &[u8], buffer: &mut [u8]) -> Option<u
     ensures whole { IfSome result (λ n. IsWhole text (take n buffer.new)) }
     ensures there { IfSome result (λ n. n ≤ length bytes.now) }
     ensures copied { IfSome result (λ n. take n buffer.new ≡ take n bytes.now) }
+    ensures open { result ≡ None → is_ended text (take (length buffer.new) bytes.now) ≡ false }
 {
     if let Some(count) = copy_early(text, bytes, buffer) {
         return Some(count);
@@ -62,12 +64,4 @@ fn copy_short(delimiter: u8, bytes: &[u8], buffer: &mut [u8]) -> Option<usize>
         return Some(2);
     }
     None
-}
-
-/// Whether the text is a line.
-#[inline(always)]
-pub(crate) fn is_line(text: Text) -> bool
-    ensures { result ≡ is_line text }
-{
-    matches!(text, Text::Line { .. })
 }

@@ -1,17 +1,18 @@
 //! Reads of the bytes that a reader holds, without a call of the reader.
-ghost use Rattle.std.specs.Prelude.{◌≡◌, ◌+◌, ◌-◌, ◌^◌, ◌<◌, ◌≤◌, min, true, false, None, Ok, IfSome, length, take};
+ghost use Rattle.std.specs.Prelude.{◌≡◌, ◌+◌, ◌-◌, ◌^◌, ◌<◌, ◌≤◌, min, true, false, None, Ok, IfSome, [], length, take};
 ghost use Rattle.imagesize_source.specs.Text.{is_ended};
-ghost use Rattle.imagesize_io.specs.Held.{HoldsFrom, IsWhole, is_line};
-ghost use Rattle.imagesize_io.specs.ReaderState.{ReadsAt, ReadsOn};
+ghost use Rattle.imagesize_io.specs.Held.{HoldsFrom};
+ghost use Rattle.imagesize_io.specs.ReaderState.{ReadsOn, kept_window};
+ghost use Rattle.imagesize_io.specs.Rest.{ReadsHeld, ReadsMore};
 ghost use Rattle.imagesize_io.specs.Standing.{Passed};
 ghost use Rattle.imagesize_io.specs.Telling.{account};
 
 use super::Ledger;
 use crate::Told;
-use crate::held::{copy_text, is_line};
+use crate::held::copy_text;
 use crate::window::{WINDOW, keep};
 use imagesize_source::Text;
-use imagesize_source::text::ended_length;
+use imagesize_source::text::ended_behind;
 
 /// Fills the buffer from an offset on, if the reader holds all of these bytes. Returns whether it did.
 ///
@@ -45,7 +46,16 @@ pub(super) fn read_held<R: Told>(
     true
 }
 
-/// Reads the text from an offset on, if the reader holds all of it, and returns how many bytes it has. Otherwise nothing is read.
+/// How much of a text was read from the bytes that a reader holds.
+#[derive(Clone, Copy)]
+pub(super) enum HeldText {
+    /// All of it, which is so many bytes.
+    Whole(usize),
+    /// So many bytes, and the text goes on after them.
+    Part(usize),
+}
+
+/// Reads what the reader holds of the text from an offset on.
 #[inline(always)]
 pub(super) fn read_held_text<R: Told>(
     reader: &R,
@@ -53,56 +63,76 @@ pub(super) fn read_held_text<R: Told>(
     offset: u64,
     text: Text,
     buffer: &mut [u8],
-) -> Option<usize>
-    ensures bound { IfSome result (λ n. n ≤ length buffer.new) }
-    ensures whole { IfSome result (λ n. IsWhole text (take n buffer.new)) }
-    ensures none { result ≡ None → ledger.new ≡ ledger.old }
-    ensures reads { IfSome result (λ n. ReadsAt ledger.old ledger.new (account R.telling R.count R.failure reader.now)
-        (account R.telling R.count R.failure reader.now) offset (take n buffer.new) (Ok n)) }
+) -> HeldText
+    ensures { ReadsHeld ledger.old ledger.new (account R.telling R.count R.failure reader.now) text offset buffer.new result }
 {
     if offset < ledger.window.len() as u64 {
-        return None;
+        return HeldText::Part(0);
     }
-    let bytes = held_from(reader, ledger, offset)?;
-    let count = copy_text(text, bytes, buffer)?;
-    keep(&mut ledger.window, offset, &buffer[..count]);
-    pass(ledger, offset, count);
-    Some(count)
+    let Some(bytes) = held_from(reader, ledger, offset) else {
+        return HeldText::Part(0);
+    };
+    match copy_text(text, bytes, buffer) {
+        Some(count) => {
+            keep(&mut ledger.window, offset, &buffer[..count]);
+            pass(ledger, offset, count);
+            HeldText::Whole(count)
+        }
+        None => HeldText::Part(read_part(ledger, offset, bytes, buffer)),
+    }
 }
 
-/// Reads what the reader holds of a line from an offset on, if the line does not end there. Returns how many bytes were read.
-/// Otherwise nothing is read, and 0 is returned.
+/// Reads what the reader holds of the rest of a text from an offset on, of which the buffer has the first `count` bytes. Returns
+/// how many bytes of the text it has then.
 ///
-/// A line often goes on in the next block of a buffered reader. This saves a read for each of its bytes before that.
-#[inline(always)]
-pub(super) fn read_held_part<R: Told>(
+/// A text often goes on in the next block of a buffered reader. This saves a read for each of its bytes there.
+#[inline(never)]
+pub(super) fn read_held_rest<R: Told>(
     reader: &R,
     ledger: &mut Ledger,
     offset: u64,
     text: Text,
+    count: usize,
     buffer: &mut [u8],
-) -> usize
-    ensures bound { result ≤ length buffer.new }
-    ensures line { 0 < result → is_line text ≡ true }
-    ensures open { 0 < result → is_ended text (take result buffer.new) ≡ false }
-    ensures none { result ≡ 0 → ledger.new ≡ ledger.old }
-    ensures reads { 0 < result → ReadsAt ledger.old ledger.new (account R.telling R.count R.failure reader.now)
-        (account R.telling R.count R.failure reader.now) offset (take result buffer.new) (Ok result) }
+) -> HeldText
+    requires bound { count ≤ length buffer.old }
+    requires open { is_ended text (take count buffer.old) ≡ false }
+    ensures { ReadsMore ledger.old ledger.new (account R.telling R.count R.failure reader.now)
+        (account R.telling R.count R.failure reader.now) text offset (take count buffer.old) buffer.new result }
 {
-    if !is_line(text) || offset < ledger.window.len() as u64 {
-        return 0;
+    let next = offset.saturating_add(count as u64);
+    if next < ledger.window.len() as u64 {
+        return HeldText::Part(count);
     }
-    let Some(bytes) = held_from(reader, ledger, offset) else {
-        return 0;
+    let Some(bytes) = held_from(reader, ledger, next) else {
+        return HeldText::Part(count);
     };
-    let count = bytes.len().min(buffer.len());
-    let part = &bytes[..count];
-    if count == 0 || ended_length(text, part).is_some() {
-        return 0;
+    let most = bytes.len().min(buffer.len() - count);
+    match ended_behind(text, &buffer[..count], &bytes[..most]) {
+        Some(last) => {
+            HeldText::Whole(count + read_part(ledger, next, &bytes[..last], &mut buffer[count..]))
+        }
+        None => HeldText::Part(count + read_part(ledger, next, bytes, &mut buffer[count..])),
     }
-    buffer[..count].copy_from_slice(part);
-    keep(&mut ledger.window, offset, part);
-    pass(ledger, offset, count);
+}
+
+// Copies held bytes from an offset on into the buffer, as far as they fit, and returns how many.
+#[inline(always)]
+fn read_part(ledger: &mut Ledger, offset: u64, bytes: &[u8], buffer: &mut [u8]) -> usize
+    requires { ledger.old.progress.taken + length bytes.now ≤ ledger.old.progress.budget }
+    ensures count { result ≡ min (length bytes.now) (length buffer.new) }
+    ensures copied { take result buffer.new ≡ take result bytes.now }
+    ensures none { result ≡ 0 → ledger.new ≡ ledger.old }
+    ensures kept { 0 < result → ledger.new.window.items ≡ kept_window ledger.old.window.items offset (take result bytes.now) }
+    ensures passed { 0 < result → Passed ledger.old.progress ledger.new.progress offset result }
+{
+    let count = bytes.len().min(buffer.len());
+    if count > 0 {
+        let part = &bytes[..count];
+        buffer[..count].copy_from_slice(part);
+        keep(&mut ledger.window, offset, part);
+        pass(ledger, offset, count);
+    }
     count
 }
 
