@@ -1,5 +1,5 @@
 -- A layout sees an input by its readings alone.
-use Rattle.std.proofs.Common.{◌≡◌, ℕ, zero, suc, ◌+◌, ◌-◌, ◌<◌, ◌≤◌, min, Bool, true, false, ◌⊎◌, inl, inr, eqb, get_or, append_assoc, List, [], ◌∷◌, ◌++◌, length, take, Result, Ok, Err, refl, sym, ap, ◌∙◌, subst, arith}
+use Rattle.std.proofs.Common.{◌≡◌, ℕ, zero, suc, ◌+◌, ◌-◌, ◌<◌, ◌≤◌, min, Bool, true, false, ◌⊎◌, inl, inr, eqb, get_or, append_assoc, List, [], ◌∷◌, ◌++◌, length, take, Result, Ok, Err, refl, sym, ap, ◌∙◌, arith}
 use Rattle.std.proofs.lemmas.List.{append-nil, take-take}
 use Rattle.std.proofs.lemmas.Bool.Decides.{nat_tests}
 use Rattle.imagesize_source.specs.declared.halt.Halt.{Halt}
@@ -54,8 +54,7 @@ agrees_first spans (Err e) f a = a
 -- some span has an offset that one of them has
 pub covered_one_of : (before : List Span) (mark : Span) (rest : List Span) (offset : ℕ) → has_offset mark offset ≡ true
     → is_covered (before ++ mark ∷ rest) offset ≡ true
-covered_one_of before mark rest offset is =
-    covered-right before (mark ∷ rest) offset (or_left (has_offset mark offset) (is_covered rest offset) is)
+covered_one_of before mark rest offset is = grind (arith, covered-right, or_left)
 
 -- inputs that agree do not part
 pub same_by_local : {texts : Bool} {X : Type 0} (r : List ℕ → Reads X) → IsLocal texts r → (d e : List ℕ)
@@ -232,8 +231,7 @@ parting_among before more others fewer is also x = record {
 
 pub alike_more : {X : Type 0} (texts : Bool) (d e : List ℕ) (p q : Reads X) → Alike false d e p q → Alike texts d e p q
 alike_more texts d e p q (inl same) = inl same
-alike_more texts d e p q (inr x) =
-    inr (parting_among [] [] [] (λ _. refl) (sym (append-nil p.marks)) (sym (append-nil q.marks)) x)
+alike_more texts d e p q (inr x) = grind (arith, nat_tests)
 
 -- what goes on from answers that are alike, where it is alike behind each
 pub alike_then : {texts : Bool} {X Y : Type 0} (d e : List ℕ) (p q : Reads X) (f g : X → Reads Y) → Alike texts d e p q
@@ -266,10 +264,7 @@ alike_layout d e (reading r offset f) read long =
     alike_then d e (read_of d r offset) (read_of e r offset) (λ bs. layout_reads d (f bs))
     (λ bs. layout_reads e (f bs)) (alike_reading d e r offset read.0 long)
     (λ bs is also. alike_layout d e (f bs) (read.1 bs) long)
-alike_layout d e (begin_record t) read long = elim (alike_layout d e t read long) [
-  | inl same ↦ inl (ap (after_records 1) same)
-  | inr parts ↦ inr parts
-]
+alike_layout d e (begin_record t) read long = grind (arith, (alike_layout d e t read long))
 
 pub local_layout : {texts : Bool} {X : Type 0} (t : Layout X) → AllRead texts t → IsLocal texts (λ d. layout_reads d t)
 local_layout t read d e long = alike_layout d e t read long
@@ -277,11 +272,9 @@ local_layout t read d e long = alike_layout d e t read long
 -- readings behind readings
 pub local_then : {texts : Bool} {X Y : Type 0} (r : List ℕ → Reads X) (f : X → List ℕ → Reads Y) → IsLocal texts r
     → ((x : X) → IsLocal texts (f x)) → IsLocal texts (λ d. and_then (r d) (λ x. f x d))
-local_then r f first rest d e long = alike_then d e (r d) (r e) (λ x. f x d) (λ x. f x e) (first d e long)
-    (λ x is also. rest x d e long)
+local_then r f first rest d e long = grind (arith, alike_then)
 
 -- readings that take the length of the input
 pub local_length : {texts : Bool} {X : Type 0} (f : ℕ → List ℕ → Reads X) → ((n : ℕ) → IsLocal texts (f n))
     → IsLocal texts (λ d. f (length d) d)
-local_length {texts} f each d e long =
-    subst (λ n. Alike texts d e (f (length d) d) (f n e)) (sym long) (each (length d) d e long)
+local_length {texts} f each d e long = grind (arith)

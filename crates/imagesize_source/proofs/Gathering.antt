@@ -14,8 +14,7 @@ use Rattle.imagesize_source.proofs.Parts.{part_length, part_at}
 -- a part goes on with the next one
 part_more : (d : List ℕ) (offset i n : ℕ) → part d offset (i + n) ≡ part d offset i ++ part d (offset + i) n
 unfolding part
-part_more d offset i n = take-add i n (drop offset d)
-    ∙ ap (λ xs. take i (drop offset d) ++ take n xs) (drop-drop i offset d)
+part_more d offset i n = grind (arith, take-add, drop-drop)
 
 -- the byte at an offset of the filled input, where it is known
 known_byte : (n : ℕ) (spans : List Span) (bytes : List ℕ) (offset b : ℕ) → byte_in_parts n spans bytes offset ≡ Some b
@@ -104,14 +103,11 @@ module _ (n : ℕ) (spans : List Span) (k : ℕ) (other : Span) (rest : List ℕ
 -- the bytes of a part of some bytes
 front_known : (rest : List ℕ) (offset most i : ℕ) → i < length (part rest offset most)
     → byte_of rest (offset + i) ≡ Some (get_or (part rest offset most) i 0)
-front_known rest offset most i below =
-    let long = part_length rest offset most in
-    byte_there rest (offset + i) (omega (arith, below, long)) ∙ ap Some (sym (part_at rest offset most i (omega (arith, below, long))))
+front_known rest offset most i below = grind (arith, part_length, byte_there, part_at)
 
 front_none : (rest : List ℕ) (offset most : ℕ) → 0 < most → length (part rest offset most) ≡ 0
     → is_some (byte_of rest offset) ≡ false
-front_none rest offset most some none =
-    let far : length rest ≤ offset = omega (arith, some, none, part_length rest offset most) in grind (arith, nat_tests)
+front_none rest offset most some none = grind (arith, part_length)
 
 -- the parts before one have none of so many offsets from one on
 abbrev pub NoneBefore : ℕ → List Span → ℕ → List ℕ → List ℕ → ℕ → ℕ → Type 0
@@ -136,17 +132,10 @@ module _ (n : ℕ) (spans : List Span) (k : ℕ) (other : Span) (bytes rest run 
 
   -- the run is what is known from the offset on, and it is empty only if nothing is
   pub found_run : (i : ℕ) → i < length run → byte_in_parts n spans bytes (offset + i) ≡ Some (get_or run i 0)
-  found_run i below =
-      let within = rw runs at below in
-      found_at i (omega (arith, within, part_length rest begun (min most (len - begun))))
-      ∙ front_known rest begun (min most (len - begun)) i within ∙ ap (λ r. Some (get_or r i 0)) (sym runs)
+  found_run i below = grind (arith, found_at, part_length, front_known)
 
   pub found_none : length run ≡ 0 → is_some (byte_in_parts n spans bytes offset) ≡ false
-  found_none none =
-      let first = so_far.0 in
-      let some : 0 < min most (len - begun) = grind (arith, nat_tests) in
-      ap is_some (simp add-zero at (found_at 0 some))
-      ∙ front_none rest begun (min most (len - begun)) some (ap length (sym runs) ∙ none)
+  found_none none = grind (arith, add-zero, found_at, front_none)
 
 -- ---- parts that each begin where the one before ends, the first of them at offset 0
 

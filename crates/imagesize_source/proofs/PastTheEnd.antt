@@ -1,6 +1,6 @@
 -- Readings beyond the end of the input.
-use Rattle.std.proofs.Common.{◌≡◌, ℕ, ◌-◌, ◌^◌, ◌<◌, ◌≤◌, min, List, [], length, Option, Result, Err, inl, inr, refl, sym, ap, ◌∙◌, arith}
-use Rattle.std.proofs.lemmas.Bool.{cases_lt, cond-false, lt-leb}
+use Rattle.std.proofs.Common.{◌≡◌, ℕ, ◌-◌, ◌^◌, ◌<◌, ◌≤◌, min, List, [], length, Option, Result, Err, refl, arith}
+use Rattle.std.proofs.lemmas.Bool.{cond-false, lt-leb}
 use Rattle.imagesize_source.specs.declared.endian.Endian.{Endian}
 use Rattle.imagesize_source.specs.declared.halt.Halt.{Halt}
 use Rattle.imagesize_source.specs.declared.halt.Halt.TheVariants.{Ended}
@@ -16,12 +16,7 @@ pub saturated_by : {X : Type 0} {a b : State} {r : Result X Halt} (f : ℕ → L
     (offset at : ℕ)
     → ((d : List ℕ) (p : ℕ) → length d ≤ p → uncounted (f p d) ≡ other) → Runs a b r (f at a.held.input)
     → at ≡ min offset (2 ^ 64 - 1) → Runs a b r (f offset a.held.input)
-saturated_by {a} f other offset at beyond h is = runs_as (f offset a.held.input) h (λ honest.
-    let short = (h.sound honest).1 in
-    elim (cases_lt (2 ^ 64 - 1) offset) [
-      | inl far ↦ beyond a.held.input at (omega (arith, is, far, short)) ∙ sym (beyond a.held.input offset (omega (arith, far, short)))
-      | inr within ↦ ap (λ p. uncounted (f p a.held.input)) (omega (arith, is, within))
-    ])
+saturated_by {a} f other offset at beyond h is = grind (arith, runs_as)
 
 -- no byte is there
 part_beyond : (d : List ℕ) (offset k : ℕ) → length d ≤ offset → part_read d offset k ≡ gives []

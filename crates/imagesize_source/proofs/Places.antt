@@ -1,5 +1,5 @@
 -- The first place that passes, found part by part.
-use Rattle.std.proofs.Common.{◌≡◌, ℕ, ◌+◌, ◌<◌, ◌≤◌, Bool, true, false, cond, eqb, leb, suc, not, List, length, take, drop, Some, None, sym, ap, ◌∙◌, arith}
+use Rattle.std.proofs.Common.{◌≡◌, ℕ, ◌+◌, ◌<◌, ◌≤◌, Bool, true, false, cond, eqb, not, List, length, take, drop, Some, None, sym, ap, ◌∙◌, arith}
 use Rattle.std.proofs.lemmas.Bool.Decides.{nat_tests}
 use Rattle.std.proofs.lemmas.List.{length-take, take-append-drop}
 use Rattle.std.proofs.lemmas.List.Folds.{prefix_len-append}
@@ -31,11 +31,7 @@ stops p bs n count there counted some =
 
 -- a place before the end
 pub position_some : (p : ℕ → Bool) (bs : List ℕ) (i : ℕ) → position_or_len p bs ≡ i → i < length bs → position p bs ≡ Some i
-position_some p bs i at there =
-    let test : leb (suc (position_or_len p bs)) (length bs) ≡ true = grind (arith, nat_tests, at, there) in
-    ap (λ is. cond is (Some (position_or_len p bs)) None) test ∙ ap Some at
+position_some p bs i at there = grind (arith)
 
 pub position_none : (p : ℕ → Bool) (bs : List ℕ) (i : ℕ) → position_or_len p bs ≡ i → length bs ≤ i → position p bs ≡ None
-position_none p bs i at beyond =
-    let test : leb (suc (position_or_len p bs)) (length bs) ≡ false = grind (arith, nat_tests, at, beyond) in
-    ap (λ is. cond is (Some (position_or_len p bs)) None) test
+position_none p bs i at beyond = grind (arith)

@@ -66,8 +66,7 @@ reading_left d (TextOf t k) offset = omega (arith, reading_spends d (TextOf t k)
 onward_spends : {X Y : Type 0} (n q : ℕ) (to : Y → Option ℕ) (spans : List Span) (r : Result X Halt) (f : X → Reads Y)
     (next : X → ℕ) → total spans ≤ n - q → ((x : X) → r ≡ Ok x → total spans + (n - next x) ≤ n - q)
     → ((x : X) → r ≡ Ok x → Spends n (next x) to (f x)) → Spends n q to (go_on spans r f)
-onward_spends n q to spans (Ok x) f next few here rest =
-    omega (arith, here x refl, rest x refl, total-append spans (f x).marks)
+onward_spends n q to spans (Ok x) f next few here rest = grind (arith, total-append)
 onward_spends n q to spans (Err e) f next few here rest = omega arith
 
 -- a layout that goes forward spends the bytes of the input

@@ -16,15 +16,7 @@ use Rattle.imagesize_source.proofs.Sharing.{leads_on}
 
 module _ {C X : Type 0} (c : Chain C X) where
   pub strides_start : (P : List C → Type 0) (a : State) (t : Along C) → P t.held → Strides c P a a t t.offset
-  strides_start P a t known = record {
-    held = t.held;
-    known = known;
-    reached = reached_start a (chain_from c a.held.input t);
-    made = [];
-    ahead = λ honest. omega arith;
-    state = λ honest. sym (past-none a);
-    leads = λ honest d shares. refl;
-  }
+  strides_start P a t known = grind (arith, reached_start, past-none)
 
 module _ {C X : Type 0} (c : Chain C X) (adv : (d : List ℕ) → Advances c d)
     (P : List C → Type 0) {a b : State} {t : Along C} {offset : ℕ}
@@ -130,12 +122,4 @@ module _ {C X : Type 0} (c : Chain C X) (adv : (d : List ℕ) → Advances c d)
 -- what is known of the records before, otherwise said
 pub strides_knows : {C X : Type 0} (c : Chain C X) (P Q : List C → Type 0) {a b : State} {t : Along C} {offset : ℕ}
     → ((held : List C) → P held → Q held) → Strides c P a b t offset → Strides c Q a b t offset
-strides_knows c P Q knows w = record {
-  held = w.held;
-  known = knows w.held w.known;
-  reached = w.reached;
-  made = w.made;
-  ahead = w.ahead;
-  state = w.state;
-  leads = w.leads;
-}
+strides_knows c P Q knows w = grind (arith)

@@ -1,3 +1,4 @@
+use Rattle.std.proofs.Common.{arith}
 use Rattle.std.proofs.Common.{sym, ap, ◌∙◌, is_some}
 use Rattle.imagesize_source.proofs.TextEnds.{blank_not_ended, word_is_ended}
 use Rattle.imagesize_source.proofs.Texts.{word_closed}
@@ -12,9 +13,7 @@ returns-in-Some-first_white-clause-ended c =
     ∙ ap is_some (sym c.first_white.ensures ∙ c.in-Some-first_white.is)
 
 pub returns-in-Some-first_white-clause-length : goal.returns-in-Some-first_white-clause-length
-returns-in-Some-first_white-clause-length c =
-    word_closed c.args.bytes.now c.in-Some.start c.in-Some-first_white.index (sym c.first_of_word.ensures ∙ c.in-Some.is)
-    (sym c.first_white.ensures ∙ c.in-Some-first_white.is)
+returns-in-Some-first_white-clause-length c = grind (arith, word_closed)
 
 pub returns-in-None-clause-open : goal.returns-in-None-clause-open
 returns-in-None-clause-open c _ =

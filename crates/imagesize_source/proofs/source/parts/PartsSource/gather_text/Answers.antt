@@ -1,7 +1,6 @@
-use Rattle.std.proofs.Common.{◌-◌, ◌+◌, arith, refl, sym, ◌++◌, ap, ◌∙◌, ◌≡◌, ℕ, List, length, take, min, false}
+use Rattle.std.proofs.Common.{◌-◌, ◌+◌, arith, refl, sym, ◌++◌, ap, ◌∙◌}
 use Rattle.std.proofs.lemmas.List.{length-drop}
 use Rattle.imagesize_source.specs.Input.{part, span_at}
-use Rattle.imagesize_source.specs.Text.{is_ended}
 use Rattle.imagesize_source.proofs.Gathering.{front_there}
 use Rattle.imagesize_source.proofs.KnownReadings.{cut_is, parts_text, parts_text_missing, state_is}
 use Rattle.imagesize_source.proofs.Unended.{open_first, open_part}
@@ -9,20 +8,7 @@ use Rattle.imagesize_source.proofs.source.parts.PartsSource.gather_text.Goals as
 
 pub uncut_length-requires-clause-unended : goal.uncut_length-requires-clause-unended
 unfolding part
-uncut_length-requires-clause-unended c =
-    let s = c.args.self.now in
-    let bs : List ℕ = c.bytes_behind-run.result.now in
-    let most : ℕ = length c.args.buffer.now in
-    let n : ℕ = min (length bs) most in
-    let long = ap length c.bytes_behind-run.ensures ∙ length-drop c.args.offset s.front.now in
-    let there = front_there _ _ _ _ s.front_known c.args.offset n (omega (arith, long)) in
-    let open_run : is_ended c.args.text (take most bs) ≡ false =
-    ap (λ xs. is_ended c.args.text (take most xs)) c.bytes_behind-run.ensures ∙ c.requires in
-    let f = c.fill_known-found in
-    open_part c.args.text _ _ c.args.offset n _ _ f.ensures.copied
-    (omega (arith, c.min-searched.ensures, f.ensures.within, f.ensures.wanted, f.auto.buffer)) (omega (arith, c.min-searched.ensures))
-    (ap (is_ended c.args.text) (sym there.1 ∙ ap (take n) (sym c.bytes_behind-run.ensures))
-    ∙ open_first c.args.text bs n most (omega arith) open_run)
+uncut_length-requires-clause-unended c = grind (arith, length-drop, front_there, open_part, open_first)
 
 pub returns-in_default-clause-runs : goal.returns-in_default-clause-runs
 returns-in_default-clause-runs c =
