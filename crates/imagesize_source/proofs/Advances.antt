@@ -57,7 +57,7 @@ begins : {C X : Type 0} (d : List ℕ) (t : Layout (Said C X)) (v : C) (q p : �
 begins d (done (Decided x)) v q p h is = absurd cc
 begins d (done (Next w offset)) v q p h is = absurd h
 begins d (refuse e) v q p h is = absurd cc
-begins d (field order offset k f) v q p h is = grind (arith, onward_ok, number_ok)
+begins d (field order offset k f) v q p h is = grind (arith, number_ok)
 begins d (reading r offset f) v q p h is = onward_ok (q < length d) _ _ _ (Next v p) is (λ bs got told.
     let below = some_byte d r offset bs h.1 (λ none nothing. tells (λ _. ⊥) d (f []) v p nothing
     (sym (ap (λ bs. (layout_reads d (f bs)).answer) none) ∙ told)) got in omega (arith, h.0))

@@ -36,7 +36,7 @@ agrees-left s t a = record { as_long = a.as_long; same_byte = λ offset h. a.sam
 pub covered-one : (offset n i : ℕ) → i < n → is_covered (span_at offset n) (offset + i) ≡ true
 unfolding span_at
 covered-one offset zero i h = absurd (omega arith)
-covered-one offset (suc n) i h = grind (arith, nat_tests)
+covered-one offset (suc n) i h = grind arith
 
 -- all of so many bytes are there
 pub whole_span : (d : List ℕ) (offset n : ℕ) → n ≤ length d - offset → span_of d offset n ≡ span_at offset n
@@ -54,7 +54,7 @@ agrees_first spans (Err e) f a = a
 -- some span has an offset that one of them has
 pub covered_one_of : (before : List Span) (mark : Span) (rest : List Span) (offset : ℕ) → has_offset mark offset ≡ true
     → is_covered (before ++ mark ∷ rest) offset ≡ true
-covered_one_of before mark rest offset is = grind (arith, covered-right, or_left)
+covered_one_of before mark rest offset is = grind (arith, covered-right)
 
 -- inputs that agree do not part
 pub same_by_local : {texts : Bool} {X : Type 0} (r : List ℕ → Reads X) → IsLocal texts r → (d e : List ℕ)
@@ -231,7 +231,7 @@ parting_among before more others fewer is also x = record {
 
 pub alike_more : {X : Type 0} (texts : Bool) (d e : List ℕ) (p q : Reads X) → Alike false d e p q → Alike texts d e p q
 alike_more texts d e p q (inl same) = inl same
-alike_more texts d e p q (inr x) = grind (arith, nat_tests)
+alike_more texts d e p q (inr x) = grind arith
 
 -- what goes on from answers that are alike, where it is alike behind each
 pub alike_then : {texts : Bool} {X Y : Type 0} (d e : List ℕ) (p q : Reads X) (f g : X → Reads Y) → Alike texts d e p q

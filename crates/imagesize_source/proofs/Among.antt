@@ -23,7 +23,7 @@ any_right P (x ∷ s) t is = or_right (P x) (list_any P (s ++ t)) (any_right P s
 pub any_more : (P Q : Span → Bool) (spans : List Span) → ((s : Span) → P s ≡ true → Q s ≡ true) → list_any P spans ≡ true
     → list_any Q spans ≡ true
 any_more P Q [] more is = absurd cc
-any_more P Q (s ∷ spans) more is = grind (arith, or_left, or_right, (any_more P Q spans more))
+any_more P Q (s ∷ spans) more is = grind (arith, or_left, (any_more P Q spans more))
 
 pub middle : (before : List Span) (m : Span) (rest : List Span) → Among m (before ++ m ∷ rest)
 middle [] m rest P is = or_left (P m) (list_any P rest) is
@@ -43,7 +43,7 @@ tail_is e = cc
 pub later_cut : (made seen rest others : List Span) (m mark : Span) → made ++ m ∷ rest ≡ seen ++ mark ∷ others
     → Among mark made ⊎ ((m ≡ mark) ⊎ ((more : List Span) → Among m (seen ++ more)))
 later_cut [] [] rest others m mark same = inr (inl (head_is same))
-later_cut [] (y ∷ seen) rest others m mark same = grind (arith, nat_tests)
-later_cut (x ∷ made) [] rest others m mark same = grind (arith, nat_tests)
+later_cut [] (y ∷ seen) rest others m mark same = grind arith
+later_cut (x ∷ made) [] rest others m mark same = grind arith
 later_cut (x ∷ made) (y ∷ seen) rest others m mark same =
-    grind (arith, tail_is, or_right, (later_cut made seen rest others m mark (tail_is same)))
+    grind (arith, tail_is, (later_cut made seen rest others m mark (tail_is same)))

@@ -15,13 +15,13 @@ use Rattle.imagesize_source.proofs.Parts.{part_at, part_length}
 -- the bytes that are read
 pub bytes_is : (d bs : List ℕ) (offset k : ℕ) → bytes_at d offset k ≡ Ok bs → part d offset k ≡ bs
 unfolding bytes_at
-bytes_is d bs offset k is = grind (arith, nat_tests)
+bytes_is d bs offset k is = grind arith
 
 -- and their number
 pub number_is : (d : List ℕ) (order : Endian) (offset k v : ℕ) → number_at d order offset k ≡ Ok v
     → number order (part d offset k) ≡ v
 unfolding number_at bytes_at
-number_is d order offset k v is = grind (arith, number_ok)
+number_is d order offset k v is = grind arith
 
 pub part_first : (d : List ℕ) (offset k : ℕ) → 0 < k → slice_index (part d offset k) 0 ≡ slice_index d offset
 part_first d offset k some = part_at d offset k 0 some ∙ ap (slice_index d) (add-zero offset)
@@ -33,4 +33,4 @@ pair = byte_by_byte 2 (λ bs. number Big bs ≡ 256 * slice_index bs 0 + slice_i
 -- the number of two bytes, the highest first
 pub big_pair : (d : List ℕ) (offset v : ℕ) → number_at d Big offset 2 ≡ Ok v
     → v ≡ 256 * slice_index d offset + slice_index d (offset + 1)
-big_pair d offset v is = grind (arith, number_ok, part_length, pair, part_first, part_at, number_is)
+big_pair d offset v is = grind (arith, number_ok, part_length, pair, part_at, number_is)

@@ -101,7 +101,7 @@ bounded_layout each k d t few = omega (arith, at_most d k t few)
 -- a record that asks for at most so many bytes, or the end of a list
 pub bounded_each : {X : Type 0} (each : ℕ) (d : List ℕ) (t : Layout X) → Each each t
     → Bounded 0 each (layout_reads d t)
-bounded_each each d (begin_record t) few = grind (arith, at_most, each_plus)
+bounded_each each d (begin_record t) few = grind (arith, at_most)
 bounded_each each d (done x) few = omega arith
 bounded_each each d (refuse e) few = omega arith
 bounded_each each d (field order offset n f) few = bounded_layout each 0 d (field order offset n f) few
@@ -154,7 +154,7 @@ tests_fewer b c h = grind arith
 
 -- what fewer offsets have is counted no more often
 pub count_fewer : (p q : ℕ → Bool) (xs : List ℕ) → ((x : ℕ) → p x ≡ true → q x ≡ true) → count_by p xs ≤ count_by q xs
-count_fewer p q xs h = grind (arith, sum_by-le-sum_by, tests_fewer)
+count_fewer p q xs h = grind (arith, sum_by-le-sum_by)
 
 count_span : (s : Span) (a n : ℕ) → count_by (has_offset s) (range_with_len a n) ≤ (s.start + s.len) - max a s.start
 count_span s a zero = omega arith
@@ -235,4 +235,4 @@ place_within n front place (s ∷ spans) near ends =
 pub offsets_past : (n : ℕ) (a : State) (spans : List Span) → a.frame.counts ≡ true → a.front ≡ 0
     → offsets n spans + a.taken
     ≤ (state_after a spans).taken
-offsets_past n a spans counts none = grind (arith, count_fewer, or_right, covers_past)
+offsets_past n a spans counts none = grind (arith, or_right, covers_past)

@@ -34,7 +34,7 @@ span_more d x offset k h = ap (span_at offset) (omega (arith, length-append d x,
 -- all of k bytes are there where their reading is answered
 pub bytes_ok : (d a : List ℕ) (offset k : ℕ) → bytes_at d offset k ≡ Ok a → k ≤ length d - offset
 unfolding bytes_at
-bytes_ok d a offset k is = grind (arith, nat_tests)
+bytes_ok d a offset k is = grind arith
 
 pub number_ok : (d : List ℕ) (order : Endian) (offset k v : ℕ) → number_at d order offset k ≡ Ok v → k ≤ length d - offset
 unfolding number_at bytes_at
@@ -98,14 +98,14 @@ otherwise P Q (TextOf t k) bs h = h.1
 reading_more : (P Q : Type 0) (d x : List ℕ) (r : Reading) (offset : ℕ) (bs : List ℕ) → (P → ⊥) → WhereCut r bs P Q
     → (read_of d r offset).answer ≡ Ok bs → read_of (d ++ x) r offset ≡ read_of d r offset
 reading_more P Q d x (AllOf k) offset bs not_cut h is = grind (arith, bytes_ok, span_more, bytes_more)
-reading_more P Q d x (PartOf k) offset bs not_cut h is = grind (arith, span_more, part_more, part_length, part_is)
-reading_more P Q d x (TextOf t k) offset bs not_cut h is = grind (arith, part_is, text_more)
+reading_more P Q d x (PartOf k) offset bs not_cut h is = grind (arith, span_more, part_more, part_length)
+reading_more P Q d x (TextOf t k) offset bs not_cut h is = grind (arith, text_more)
 
 -- what goes on is the same, where the readings are so whose answer it goes on from
 pub onward_more : {X Y : Type 0} (r r' : Reads X) (f g : X → Reads Y) (y : Y) → (and_then r f).answer ≡ Ok y
     → ((x : X) → r.answer ≡ Ok x → (f x).answer ≡ Ok y → r' ≡ r) → ((x : X) → (f x).answer ≡ Ok y → g x ≡ f x)
     → and_then r' g ≡ and_then r f
-onward_more r r' f g y is same rest = grind (arith, onward_ok)
+onward_more r r' f g y is same rest = grind arith
 
 -- Extension: where a plain layout has an answer, it has it over the input and any bytes behind it, with the same marks.
 pub more : {X : Type 0} (d x : List ℕ) (t : Layout X) (v : X) → Plain t → (layout_reads d t).answer ≡ Ok v

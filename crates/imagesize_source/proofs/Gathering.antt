@@ -103,7 +103,7 @@ module _ (n : ℕ) (spans : List Span) (k : ℕ) (other : Span) (rest : List ℕ
 -- the bytes of a part of some bytes
 front_known : (rest : List ℕ) (offset most i : ℕ) → i < length (part rest offset most)
     → byte_of rest (offset + i) ≡ Some (get_or (part rest offset most) i 0)
-front_known rest offset most i below = grind (arith, part_length, byte_there, part_at)
+front_known rest offset most i below = grind (arith, part_length, part_at)
 
 front_none : (rest : List ℕ) (offset most : ℕ) → 0 < most → length (part rest offset most) ≡ 0
     → is_some (byte_of rest offset) ≡ false
@@ -135,7 +135,7 @@ module _ (n : ℕ) (spans : List Span) (k : ℕ) (other : Span) (bytes rest run 
   found_run i below = grind (arith, found_at, part_length, front_known)
 
   pub found_none : length run ≡ 0 → is_some (byte_in_parts n spans bytes offset) ≡ false
-  found_none none = grind (arith, add-zero, found_at, front_none)
+  found_none none = grind (arith, found_at, front_none)
 
 -- ---- parts that each begin where the one before ends, the first of them at offset 0
 

@@ -19,10 +19,6 @@ refused_goes_on halt.Failed is = absurd cc
 refused_goes_on halt.Spent is = absurd cc
 refused_goes_on _ is = refl
 
-pub failed_is : (h : Halt) → is_failure h ≡ true → h ≡ halt.Failed
-failed_is halt.Failed is = refl
-failed_is _ is = absurd cc
-
 -- where nothing stopped a result, its error is that of the refusal, which is no stop
 pub stated_same : {X : Type 0} (failure : ImageError) (budget : ℕ) (r : Result X Halt) → is_stopped r ≡ false
     → with_error failure budget r ≡ stated r

@@ -22,10 +22,6 @@ pub filled_at : (n : ℕ) (spans : List Span) (bytes : List ℕ) (offset : ℕ) 
 unfolding filled_input
 filled_at n spans bytes offset below = grind (arith, get_or-map-range_with_len)
 
--- an offset that is known lies before the end
-reaches_below : (n : ℕ) (s : Span) (offset : ℕ) → reaches n s offset ≡ true → offset < n
-reaches_below n s offset is = grind (arith, nat_tests)
-
 -- the byte comes from the first part, or from the later ones
 in_parts : (P : Option ℕ → Type 0) (n : ℕ) (s : Span) (spans : List Span) (bytes : List ℕ) (offset : ℕ)
     → (reaches n s offset ≡ true → P (byte_of bytes (offset - s.start)))
@@ -37,7 +33,7 @@ pub known_below : (n : ℕ) (spans : List Span) (bytes : List ℕ) (offset : ℕ
     → is_some (byte_in_parts n spans bytes offset) ≡ true → offset < n
 known_below n [] bytes offset = λ is. absurd cc
 known_below n (s ∷ spans) bytes offset =
-    grind (arith, in_parts, reaches_below, (known_below n spans (drop (length_within n s) bytes) offset))
+    grind (arith, in_parts, (known_below n spans (drop (length_within n s) bytes) offset))
 
 offset_in : (n : ℕ) (s : Span) (offset : ℕ) → reaches n s offset ≡ true
     → (s.start + (offset - s.start) ≡ offset) × (offset - s.start < length_within n s)
@@ -45,10 +41,10 @@ offset_in n s offset is = (grind (arith, nat_tests), grind (arith, nat_tests))
 
 -- a list of bytes gives those that are there
 byte_some : (bytes : List ℕ) (i b : ℕ) → byte_of bytes i ≡ Some b → get_or bytes i 0 ≡ b
-byte_some bytes i b is = grind (arith, nat_tests)
+byte_some bytes i b is = grind arith
 
 pub byte_there : (bytes : List ℕ) (i : ℕ) → i < length bytes → byte_of bytes i ≡ Some (get_or bytes i 0)
-byte_there bytes i below = grind (arith, nat_tests)
+byte_there bytes i below = grind arith
 
 -- the bytes of the later parts
 later_bytes : (d : List ℕ) (s : Span) (spans : List Span) (bytes : List ℕ) → bytes_of d (s ∷ spans) ≡ bytes
@@ -67,7 +63,7 @@ has_known d (s ∷ spans) bytes offset b parts =
     grind (arith, in_parts, offset_in, part_at, get_or_append_left, part_length, byte_some, rest)
 
 misses_it : (n : ℕ) (s : Span) (offset : ℕ) → offset < n → reaches n s offset ≡ false → has_offset s offset ≡ false
-misses_it n s offset below misses = grind (arith, nat_tests)
+misses_it n s offset below misses = grind arith
 
 no_byte_free : (d : List ℕ) (spans : List Span) (bytes : List ℕ) (offset : ℕ) → bytes_of d spans ≡ bytes → offset < length d
     → is_some (byte_in_parts (length d) spans bytes offset) ≡ false → is_covered spans offset ≡ false
@@ -100,7 +96,7 @@ span_known n spans bytes start count s so at long offset has =
 covered_after : (log : List Span) (s : Span) (offset : ℕ)
     → is_covered (log ++ s ∷ []) offset ≡ (is_covered log offset || has_offset s offset)
 covered_after [] s offset = or-false (has_offset s offset)
-covered_after (x ∷ log) s offset = grind (arith, or_assoc, (covered_after log s offset))
+covered_after (x ∷ log) s offset = grind (arith, (covered_after log s offset))
 
 pub pushed_known : (n : ℕ) (spans : List Span) (bytes : List ℕ) (log more : List Span) (s : Span)
     → AllKnown n spans bytes log

@@ -40,7 +40,7 @@ on_answer P spans (Err e) f answered refused = refused e refl
 -- what goes on from the same answer
 pub then_alike : {X Y : Type 0} (r : Reads X) (f g : X → Reads Y) → ((x : X) → r.answer ≡ Ok x → f x ≡ g x)
     → and_then r f ≡ and_then r g
-then_alike r f g same = grind (arith, on_answer)
+then_alike r f g same = grind arith
 
 -- an answer that is given as it is
 onward_gives : {X : Type 0} (marks : List Span) (r : Result X Halt) → go_on marks r gives ≡ just r marks
@@ -67,7 +67,7 @@ whole_front buffer n fits = grind (arith, take_all, length-take)
 pub whole_read : {a b : State} (d buffer : List ℕ) (offset n : ℕ) → n ≤ length buffer
     → Runs a b (Ok (take n buffer)) (part_read d offset (length buffer))
     → Runs a b (Ok (some_where buffer (eqb n (length buffer)))) (layout_reads d (if_there offset (length buffer) done))
-whole_read d buffer offset n fits h = grind (arith, answered, append-nil, part_is, whole_front)
+whole_read d buffer offset n fits h = grind (arith, append-nil, part_is, whole_front)
 
 -- a reading that was stopped found none
 pub whole_stopped : {X : Type 0} {a b : State} (d : List ℕ) (offset k : ℕ) (found : X → Option (List ℕ))

@@ -16,7 +16,7 @@ pub saturated_by : {X : Type 0} {a b : State} {r : Result X Halt} (f : ℕ → L
     (offset at : ℕ)
     → ((d : List ℕ) (p : ℕ) → length d ≤ p → uncounted (f p d) ≡ other) → Runs a b r (f at a.held.input)
     → at ≡ min offset (2 ^ 64 - 1) → Runs a b r (f offset a.held.input)
-saturated_by {a} f other offset at beyond h is = grind (arith, runs_as)
+saturated_by {a} f other offset at beyond h is = grind arith
 
 -- no byte is there
 part_beyond : (d : List ℕ) (offset k : ℕ) → length d ≤ offset → part_read d offset k ≡ gives []

@@ -23,5 +23,4 @@ span_is d offset k m n count same = ap (span_at offset) (count ∙ ap (λ j. min
 pub recording_runs : {X : Type 0} {reads : Reads X} (d e : List ℕ) (spans after : List Span) (home there : ℕ) (x : X)
     → length d < 2 ^ 63 → e ≡ d → there ≡ home → reads.answer ≡ Ok x → after ≡ spans ++ reads.marks
     → Runs (recording_state d spans home) (recording_state e after there) (Ok x) reads
-recording_runs {X} {reads} d e spans after home there x short bytes name is recorded =
-    grind (arith, given_runs, past-recording)
+recording_runs {X} {reads} d e spans after home there x short bytes name is recorded = grind (arith, past-recording)

@@ -20,7 +20,7 @@ use Rattle.imagesize_source.proofs.Parts.{part_length}
 -- a result that nothing stopped is none of the ends of a call
 pub plain_end : {X : Type 0} (b : State) (r : Result X Halt) → is_stopped r ≡ false → IfErr r (EndedBy b)
 plain_end b (Ok x) goes_on = tt
-plain_end b (Err halt) goes_on = grind (arith, or_parts)
+plain_end b (Err halt) goes_on = grind arith
 
 pub without_fault : {X : Type 0} (r : Result X Halt) → is_stopped r ≡ false → is_faulted r ≡ false
 without_fault r goes_on = grind arith
@@ -179,7 +179,7 @@ pub answered : {X Y : Type 0} {a b : State} {x : X} {reads : Reads X} (r : Resul
     → other.marks ≡ reads.marks → (reads.answer ≡ Ok x → other.answer ≡ r) → is_stopped r ≡ false → is_faulted r ≡ false
     → IfErr r (EndedBy b)
     → Runs a b r other
-answered {X} {Y} {a} {b} {x} {reads} r other h marks answer goes_on no_fault ended = grind (arith, nat_tests)
+answered {X} {Y} {a} {b} {x} {reads} r other h marks answer goes_on no_fault ended = grind arith
 
 pub part_is : {xs ys : List ℕ} → ◌≡◌ {A = Result (List ℕ) Halt} (Ok xs) (Ok ys) → xs ≡ ys
 part_is e = cc
@@ -189,7 +189,7 @@ pub bytes_there : {a b : State} (d buffer : List ℕ) (offset k n : ℕ)
     → Runs a b (Ok (take n buffer)) (part_read d offset (length buffer))
     → length buffer ≡ k → k ≤ n → Runs a b (Ok buffer) (bytes_read d offset k)
 unfolding bytes_at
-bytes_there {a} {b} d buffer offset k n h long all = grind (arith, answered, part_is, take_all, part_length)
+bytes_there {a} {b} d buffer offset k n h long all = grind (arith, part_is, take_all, part_length)
 
 -- a reading that gave too few
 pub bytes_missing : {a b : State} (d buffer : List ℕ) (offset k n : ℕ)
@@ -210,21 +210,21 @@ pub bytes_stopped : {X : Type 0} {a b : State} (d : List ℕ) (offset k : ℕ) (
     (why : Halt)
     → r ≡ Err why → Runs {X = List ℕ} a b (Err why) (part_read d offset k)
     → Runs a b (map_answer bytes r) (bytes_read d offset k)
-bytes_stopped {a = a} {b = b} d offset k bytes r why is h = grind (arith, nat_tests)
+bytes_stopped {a = a} {b = b} d offset k bytes r why is h = grind arith
 
 -- the number of bytes that were read
 pub number_there : {a b : State} (d bs : List ℕ) (order : Endian) (offset k v : ℕ)
     → Runs a b (Ok bs) (bytes_read d offset k)
     → v ≡ number order bs → Runs a b (Ok v) (number_read d order offset k)
 unfolding number_at
-number_there {a} {b} d bs order offset k v h is = grind (arith, answered)
+number_there {a} {b} d bs order offset k v h is = grind arith
 
 -- a refused reading has no number
 pub number_missing : {a b : State} (d : List ℕ) (order : Endian) (offset k : ℕ) (e : Halt)
     → Runs a b (Err e) (bytes_read d offset k)
     → Runs a b (Err e) (number_read d order offset k)
 unfolding number_at
-number_missing {a} {b} d order offset k e h = grind (arith, nat_tests)
+number_missing {a} {b} d order offset k e h = grind arith
 
 -- a call that read no bytes
 pub runs_free : {X : Type 0} {a b : State} {reads : Reads X} (r : Result X Halt) → IsSound a → IsSound b → b.frame ≡ a.frame

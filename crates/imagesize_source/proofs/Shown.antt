@@ -20,18 +20,14 @@ use Rattle.std.specs.Prelude.{option_map}
 
 -- a read past the first bytes that are kept leaves them as they are
 kept_front : (front offset n : ℕ) → front ≤ 32 → 32 ≤ offset → front_after front offset n ≡ front
-kept_front front offset n few far = grind (arith, nat_tests)
-
-moved_place : (front place offset n : ℕ) → front ≤ 32 → 32 ≤ offset → 0 < n → place_after front place offset n ≡ offset + n
-moved_place front place offset n few far some = grind (arith, nat_tests)
+kept_front front offset n few far = grind arith
 
 -- the state after a read past the first bytes
 shown_state_after : (told budget front : ℕ) (held : Held) (taken place offset n : ℕ) → front ≤ 32 → 32 ≤ offset → 0 < n
     → shown_state told budget front held (taken + n) (offset + n)
     ≡ state_after (shown_state told budget front held taken place) (span_at offset n)
 unfolding state_after
-shown_state_after told budget front held taken place offset n few far some =
-    grind (arith, span-some, kept_front, moved_place)
+shown_state_after told budget front held taken place offset n few far some = grind (arith, span-some, kept_front)
 
 -- a read whose bytes are there
 pub shown_reads : (told budget front : ℕ) (held : Held) (taken place offset n : ℕ) (got : List ℕ) (reads : Reads (List ℕ))
@@ -63,7 +59,7 @@ pub shown_part : (held : Held) (offset : ℕ) (bytes buffer : List ℕ) (told : 
     → held.honest ≡ true
     → ((part_read held.input offset (length buffer)).answer ≡ Ok (take (length buffer) buffer))
     × ((part_read held.input offset (length buffer)).marks ≡ span_at offset (length buffer))
-shown_part held offset bytes buffer told shown within few is honest = grind (arith, part_front, take_all, whole_span)
+shown_part held offset bytes buffer told shown within few is honest = grind (arith, part_front, whole_span)
 
 -- and of a text that ends among them
 pub shown_text : (held : Held) (offset n : ℕ) (t : Text) (bytes buffer : List ℕ) (told : ℕ) → AreShown held offset bytes told
@@ -103,4 +99,4 @@ pub record_back : {X : Type 0} {told budget front : ℕ} {held : Held} {taken pl
     (t : Layout X) → b.frame.counts ≡ true → b.recorded ≡ None → h ≡ shown_by b → is_faulted r ≡ false
     → Follows h (shown_state told budget front held taken place) r t → Follows b (rejoined b taken place) r t
 record_back {X} {told} {budget} {front} {held} {taken} {place} {b} {h} r t counts plain shown no_fault given =
-    grind (arith, shown_again, same_after)
+    grind (arith, same_after)

@@ -30,7 +30,7 @@ given_runs x sound sound_after same none is passed = runs_free (Ok x) sound soun
 -- reads of a slice change nothing, and give what is there
 pub slice_gives : {X : Type 0} {reads : Reads X} (a : State) (x : X) → IsSlice a → length a.held.input < 2 ^ 63
     → reads.answer ≡ Ok x → Runs a a (Ok x) reads
-slice_gives {X} {reads} a x is short got = grind (arith, given_runs, past-slice)
+slice_gives {X} {reads} a x is short got = grind (arith, past-slice)
 
 -- a reading of a slice, from an offset that is the one asked for
 pub slice_reads : (d buffer old : List ℕ) (offset from n : ℕ) → length d < 2 ^ 63 → n ≡ min (length old) (length d - from)

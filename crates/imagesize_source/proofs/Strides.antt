@@ -16,7 +16,7 @@ use Rattle.imagesize_source.proofs.Sharing.{leads_on}
 
 module _ {C X : Type 0} (c : Chain C X) where
   pub strides_start : (P : List C → Type 0) (a : State) (t : Along C) → P t.held → Strides c P a a t t.offset
-  strides_start P a t known = grind (arith, reached_start, past-none)
+  strides_start P a t known = grind (arith, past-none)
 
 module _ {C X : Type 0} (c : Chain C X) (adv : (d : List ℕ) → Advances c d)
     (P : List C → Type 0) {a b : State} {t : Along C} {offset : ℕ}

@@ -19,8 +19,8 @@ line_ended delimiter bs = sym (any_found (λ b. eqb b delimiter) bs)
 pub word_is_ended : (bs : List ℕ) (start : ℕ) → position (λ b. not (is_ascii_whitespace b)) bs ≡ Some start
     → is_some (position is_ascii_whitespace (take (length bs - start) (drop start bs))) ≡ is_ended Word bs
 unfolding is_ended
-word_is_ended bs start begins = grind (arith, take_rest, any_found, found)
+word_is_ended bs start begins = grind (arith, take_rest, any_found)
 
 pub blank_not_ended : (bs : List ℕ) → position (λ b. not (is_ascii_whitespace b)) bs ≡ None → is_ended Word bs ≡ false
 unfolding is_ended
-blank_not_ended bs none = grind (arith, drop_all, not_found)
+blank_not_ended bs none = grind (arith, drop_all)

@@ -16,7 +16,7 @@ one_more n = omega arith
 -- a byte that passes is the last, and one that does not goes before the rest
 pub through-cons : (p : ℕ → Bool) (b : ℕ) (bs : List ℕ)
     → front_through p (b ∷ bs) ≡ cond (p b) (b ∷ []) (b ∷ front_through p bs)
-through-cons p b bs = grind (arith, one_more)
+through-cons p b bs = grind arith
 
 -- a line is no white space and its bytes
 pub line_front : (delimiter : ℕ) (bs : List ℕ)
@@ -37,7 +37,7 @@ word_front b bs = cond_both (is_ascii_whitespace b) (b ∷ text_front Word bs) (
 pub word_ended : (b : ℕ) (bs : List ℕ) → is_ended Word (b ∷ bs) ≡ cond (is_ascii_whitespace b) (is_ended Word bs)
     (list_any is_ascii_whitespace bs)
 unfolding is_ended
-word_ended b bs = grind (arith, one-add)
+word_ended b bs = grind arith
 
 pub no_front : text_front Word [] ≡ []
 unfolding text_front
@@ -68,7 +68,7 @@ at_once Word = false
 
 pub through_is : (p : ℕ → Bool) (bs : List ℕ) → front_through p bs ≡ cut p true bs
 through_is p [] = refl
-through_is p (b ∷ bs) = grind (arith, through-cons, (through_is p bs))
+through_is p (b ∷ bs) = grind (arith, (through_is p bs))
 
 pub any_is : (p : ℕ → Bool) (bs : List ℕ) → list_any p bs ≡ met p true bs
 any_is p [] = refl
@@ -77,7 +77,7 @@ any_is p (b ∷ bs) = ap (λ is. p b || is) (any_is p bs)
 pub front_is : (t : Text) (bs : List ℕ) → text_front t bs ≡ cut (delimits t) (at_once t) bs
 front_is (Line delimiter) bs = line_front delimiter bs ∙ through_is (delimits (Line delimiter)) bs
 front_is Word [] = no_front
-front_is Word (b ∷ bs) = grind (arith, word_front, through_is, (front_is Word bs))
+front_is Word (b ∷ bs) = grind (arith, word_front, (front_is Word bs))
 
 pub ended_is : (t : Text) (bs : List ℕ) → is_ended t bs ≡ met (delimits t) (at_once t) bs
 unfolding is_ended
@@ -174,17 +174,17 @@ front_length t bs = let split = front_first t bs in
 
 -- where a position is found, or none is
 pub found : (p : ℕ → Bool) (bs : List ℕ) (i : ℕ) → position p bs ≡ Some i → (position_or_len p bs ≡ i) × (i < length bs)
-found p bs i is = grind (arith, nat_tests)
+found p bs i is = grind arith
 
 pub not_found : (p : ℕ → Bool) (bs : List ℕ) → position p bs ≡ None → length bs ≤ position_or_len p bs
-not_found p bs is = grind (arith, nat_tests)
+not_found p bs is = grind arith
 
 -- the length of a word that ends, by the offsets of its first byte and of the white space after it
 pub word_closed : (bs : List ℕ) (start i : ℕ) → position (λ b. not (is_ascii_whitespace b)) bs ≡ Some start
     → position is_ascii_whitespace (take (length bs - start) (drop start bs)) ≡ Some i
     → start + i + 1 ≡ length (text_front Word bs)
 unfolding text_front
-word_closed bs start i begins closes = grind (arith, found, take_rest, length-append, length-take, length-drop)
+word_closed bs start i begins closes = grind (arith, found, take_rest, length-append, length-take)
 
 -- the text is as many of the first bytes
 pub front_take : (t : Text) (bs : List ℕ) → take (length (text_front t bs)) bs ≡ text_front t bs

@@ -14,7 +14,7 @@ sixteen : (bs : List ℕ) (index : ℕ) → index + 16 ≤ length bs → length 
 sixteen bs index there = omega (arith, length-take 16 (drop index bs), length-drop index bs, there)
 
 pub returns-then-marks-eq0 : goal.returns-then-marks-eq0
-returns-then-marks-eq0 c = grind (arith, nat_tests)
+returns-then-marks-eq0 c = grind arith
 
 pub returns : goal.returns
 returns c =

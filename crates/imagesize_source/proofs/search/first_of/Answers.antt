@@ -3,7 +3,7 @@ use Rattle.std.proofs.Common.{◌≡◌, ℕ, ◌-◌, ◌≤◌, ◌==◌, Bool
 use Rattle.std.proofs.lemmas.List.{length-drop, length-take, take_all, drop-drop}
 use Rattle.std.proofs.lemmas.List.Sums.{prefix_len-le-length}
 use Rattle.std.specs.List.{position_or_len}
-use Rattle.imagesize_source.proofs.Places.{goes_on, position_some, position_none}
+use Rattle.imagesize_source.proofs.Places.{goes_on, position_some}
 use Rattle.imagesize_source.proofs.Texts.{found, not_found}
 use Rattle.imagesize_source.proofs.search.first_of.Goals as goal
 
@@ -27,7 +27,7 @@ rest_is : (bs : List ℕ) (index : ℕ) → take (length bs - index) (drop index
 rest_is bs index = take_all (length bs - index) (drop index bs) (omega (arith, length-drop index bs))
 
 pub returns-in_err-count : goal.returns-in_err-count
-returns-in_err-count c = grind (arith, rest_is, not_found, position_none, length-drop)
+returns-in_err-count c = grind (arith, rest_is, not_found, length-drop)
 
 pub returns : goal.returns
-returns c = grind (arith, rest_is, found, position_some, length-drop)
+returns c = grind (arith, rest_is, found, length-drop)

@@ -9,7 +9,7 @@ returns-in-Some-clause-ended c = sym (line_ended c.args.delimiter c.args.bytes.n
     ∙ ap is_some (sym c.first_of.ensures ∙ c.in-Some.is)
 
 pub returns-in-Some-clause-length : goal.returns-in-Some-clause-length
-returns-in-Some-clause-length c = grind (arith, found, length-take, line_front)
+returns-in-Some-clause-length c = grind (arith, length-take, line_front)
 
 pub returns-in-None-clause-open : goal.returns-in-None-clause-open
 returns-in-None-clause-open c _ = sym (line_ended c.args.delimiter c.args.bytes.now)
