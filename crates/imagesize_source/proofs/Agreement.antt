@@ -28,10 +28,6 @@ pub covered-right : (s t : List Span) (offset : ℕ) → is_covered t offset ≡
 covered-right [] t offset h = h
 covered-right (x ∷ s) t offset h = or_right (has_offset x offset) (is_covered (s ++ t) offset) (covered-right s t offset h)
 
--- inputs that agree on spans agree on the first of them
-agrees-left : {d e : List ℕ} (s t : List Span) → Agrees d e (s ++ t) → Agrees d e s
-agrees-left s t a = record { as_long = a.as_long; same_byte = λ offset h. a.same_byte offset (covered-left s t offset h) }
-
 -- an offset of a span
 pub covered-one : (offset n i : ℕ) → i < n → is_covered (span_at offset n) (offset + i) ≡ true
 unfolding span_at
@@ -46,7 +42,7 @@ whole_span d offset n all = let same : min n (length d - offset) ≡ n = omega a
 -- what goes on from an answer rests on its spans
 pub agrees_first : {d e : List ℕ} {X Y : Type 0} (spans : List Span) (r : Result X Halt) (f : X → Reads Y)
     → Agrees d e (go_on spans r f).marks → Agrees d e spans
-agrees_first spans (Ok x) f a = agrees-left spans (f x).marks a
+agrees_first spans (Ok x) f a = grind (arith, covered-left)
 agrees_first spans (Err e) f a = a
 
 -- ---- where two inputs part
@@ -237,10 +233,7 @@ alike_more texts d e p q (inr x) = grind arith
 pub alike_then : {texts : Bool} {X Y : Type 0} (d e : List ℕ) (p q : Reads X) (f g : X → Reads Y) → Alike texts d e p q
     → ((x : X) → p.answer ≡ Ok x → q.answer ≡ Ok x → Alike texts d e (f x) (g x))
     → Alike texts d e (and_then p f) (and_then q g)
-alike_then d e p q f g (inr parts) rest =
-    let here = marks_onward p.marks p.answer f in
-    let there = marks_onward q.marks q.answer g in
-    inr (parting_among [] here.0 there.0 (λ none. none) here.1 there.1 parts)
+alike_then d e p q f g (inr parts) rest = grind (arith, marks_onward, append_assoc)
 alike_then {texts} {X} {Y} d e p q f g (inl same) rest = rw same (by_answer p.answer refl) where
   by_answer : (r : Result X Halt) → p.answer ≡ r
       → Alike texts d e (after_records p.begun (go_on p.marks r f)) (after_records p.begun (go_on p.marks r g))

@@ -1,7 +1,5 @@
 -- One list of spans, cut at two of them.
-use Rattle.std.proofs.Common.{arith}
-use Rattle.std.proofs.lemmas.Bool.Decides.{nat_tests}
-use Rattle.std.proofs.Common.{◌≡◌, ℕ, Bool, true, ◌||◌, ◌⊎◌, inl, inr, List, [], ◌∷◌, ◌++◌, refl, ap}
+use Rattle.std.proofs.Common.{arith, ◌≡◌, ℕ, Bool, true, ◌||◌, ◌⊎◌, List, [], ◌∷◌, ◌++◌, refl, ap}
 use Rattle.std.specs.List.{list_any}
 use Rattle.std.proofs.lemmas.Bool.{or_left, or_right}
 use Rattle.imagesize_source.specs.declared.span.Span.{Span}
@@ -33,17 +31,14 @@ pub covered-any : (spans : List Span) (offset : ℕ) → is_covered spans offset
 covered-any [] offset = refl
 covered-any (s ∷ spans) offset = ap (λ b. has_offset s offset || b) (covered-any spans offset)
 
-pub head_is : {x y : Span} {xs ys : List Span} → ◌≡◌ {A = List Span} (x ∷ xs) (y ∷ ys) → x ≡ y
-head_is e = cc
-
 pub tail_is : {x y : Span} {xs ys : List Span} → ◌≡◌ {A = List Span} (x ∷ xs) (y ∷ ys) → xs ≡ ys
 tail_is e = cc
 
 -- the second is before the first, is the first, or is behind it
 pub later_cut : (made seen rest others : List Span) (m mark : Span) → made ++ m ∷ rest ≡ seen ++ mark ∷ others
     → Among mark made ⊎ ((m ≡ mark) ⊎ ((more : List Span) → Among m (seen ++ more)))
-later_cut [] [] rest others m mark same = inr (inl (head_is same))
+later_cut [] [] rest others m mark same = grind arith
 later_cut [] (y ∷ seen) rest others m mark same = grind arith
 later_cut (x ∷ made) [] rest others m mark same = grind arith
 later_cut (x ∷ made) (y ∷ seen) rest others m mark same =
-    grind (arith, tail_is, (later_cut made seen rest others m mark (tail_is same)))
+    grind (arith, (later_cut made seen rest others m mark (tail_is same)))

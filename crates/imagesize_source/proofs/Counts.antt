@@ -1,5 +1,5 @@
 -- How many bytes are read, and how many offsets are seen.
-use Rattle.std.proofs.Common.{◌≡◌, ℕ, zero, suc, ◌+◌, ◌-◌, ◌*◌, ◌<◌, ◌≤◌, min, max, Bool, true, false, cond, ◌||◌, List, [], ◌∷◌, length, get_or, Result, Ok, Err, refl, ap, ◌∙◌, arith}
+use Rattle.std.proofs.Common.{◌≡◌, ℕ, zero, suc, ◌+◌, ◌-◌, ◌*◌, ◌<◌, ◌≤◌, min, max, Bool, true, false, cond, ◌||◌, List, [], ◌∷◌, length, get_or, Ok, refl, ap, ◌∙◌, arith}
 use Rattle.std.proofs.Math.Nat.{add-zero, mul-add}
 use Rattle.std.proofs.lemmas.Bool.Decides.{nat_tests}
 use Rattle.std.proofs.lemmas.List.Sums.{sum_by-cons, sum_by-le-sum_by}
@@ -8,14 +8,13 @@ use Rattle.std.specs.List.{range_with_len}
 use Rattle.imagesize_source.proofs.Agreement.{span-some}
 use Rattle.imagesize_source.proofs.Runs.{total-append}
 use Rattle.imagesize_source.proofs.Texts.{front_length}
-use Rattle.imagesize_source.specs.declared.halt.Halt.{Halt}
 use Rattle.imagesize_source.specs.declared.span.Span.{Span}
 use Rattle.imagesize_source.specs.declared.text.Text.{Text}
 use Rattle.imagesize_source.specs.Agreement.{has_offset, is_covered}
 use Rattle.imagesize_source.specs.Counts.{offsets, AtMost, Each, IfBytes}
 use Rattle.imagesize_source.specs.Input.{part, span_at, span_of}
 use Rattle.imagesize_source.specs.Layout.{Layout, done, refuse, field, reading, begin_record, layout_reads, bind}
-use Rattle.imagesize_source.specs.Reading.{Reads, Reading, AllOf, PartOf, TextOf, after_records, and_then, go_on, plus, number_read, text_part, read_of, most}
+use Rattle.imagesize_source.specs.Reading.{Reads, Reading, AllOf, PartOf, TextOf, and_then, plus, number_read, text_part, read_of, most}
 use Rattle.imagesize_source.specs.State.{State, state_after, step, total, new_bytes, front_after, place_after, place_by}
 use Rattle.imagesize_source.proofs.Marks.{plus-is}
 use Rattle.imagesize_source.proofs.Parts.{part_length}
@@ -63,16 +62,10 @@ Bounded outside each r = total r.marks ≤ outside + each * r.begun
 pub each_plus : (each k n : ℕ) → each * plus k n ≡ each * k + each * n
 each_plus each k n = ap (λ m. each * m) (plus-is k n) ∙ mul-add each k n
 
-onward_bounded : {X Y : Type 0} (each j k begun : ℕ) (spans : List Span) (r : Result X Halt) (f : X → Reads Y)
-    → total spans ≤ j + each * begun → ((x : X) → r ≡ Ok x → Bounded k each (f x))
-    → Bounded (j + k) each (after_records begun (go_on spans r f))
-onward_bounded each j k begun spans (Ok x) f here rest = grind (arith, total-append, each_plus)
-onward_bounded each j k begun spans (Err e) f here rest = omega (arith, here, each_plus each begun 0)
-
 -- readings behind readings
 pub bounded_then : {X Y : Type 0} (each j k : ℕ) (r : Reads X) (f : X → Reads Y) → Bounded j each r
     → ((x : X) → r.answer ≡ Ok x → Bounded k each (f x)) → Bounded (j + k) each (and_then r f)
-bounded_then each j k r f here rest = onward_bounded each j k r.begun r.marks r.answer f here rest
+bounded_then each j k r f here rest = grind (arith, total-append, each_plus)
 
 -- readings behind readings are at most as many as both
 pub then_within : {X Y : Type 0} (r : Reads X) (f : X → Reads Y) (j k : ℕ) → total r.marks ≤ j

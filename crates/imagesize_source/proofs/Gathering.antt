@@ -1,5 +1,5 @@
 -- How known bytes are gathered, from one part after another.
-use Rattle.std.proofs.Common.{◌≡◌, ℕ, suc, ◌+◌, ◌-◌, ◌<◌, ◌≤◌, min, true, false, ◌&&◌, leb, List, ◌∷◌, ◌++◌, length, take, drop, get_or, slice_index, Some, is_some, inl, inr, refl, sym, ap, ◌∙◌, subst, arith, add-one, add-zero}
+use Rattle.std.proofs.Common.{◌≡◌, ℕ, suc, ◌+◌, ◌-◌, ◌<◌, ◌≤◌, min, true, false, ◌&&◌, leb, List, ◌++◌, length, take, drop, get_or, slice_index, Some, is_some, inl, inr, sym, ap, ◌∙◌, subst, arith, add-one}
 use Rattle.std.specs.Prelude.{unwrap_or}
 use Rattle.std.proofs.lemmas.Bool.{cases_lt, cond-true}
 use Rattle.std.proofs.lemmas.Bool.Decides.{nat_tests}
@@ -8,7 +8,7 @@ use Rattle.std.proofs.Math.Seq.{drop-cons, take-add, take-append_seam}
 use Rattle.imagesize_source.specs.declared.span.Span.{Span}
 use Rattle.imagesize_source.specs.Input.{part}
 use Rattle.imagesize_source.specs.Known.{byte_of, filled_input, byte_in_parts, reaches, length_within}
-use Rattle.imagesize_source.proofs.Known.{byte_there, filled_at, known_below, length-filled_input}
+use Rattle.imagesize_source.proofs.Known.{filled_at, known_below, length-filled_input}
 use Rattle.imagesize_source.proofs.Parts.{part_length, part_at}
 
 -- a part goes on with the next one
@@ -91,14 +91,10 @@ module _ (n : ℕ) (spans : List Span) (bytes front : List ℕ)
 -- ---- one part after another
 
 module _ (n : ℕ) (spans : List Span) (k : ℕ) (other : Span) (rest : List ℕ) (offset : ℕ) (here : k < length spans) where
-  -- what is known from one part on
-  known_turn : byte_in_parts n (drop k spans) rest offset ≡ byte_in_parts n (get_or spans k other ∷ drop (k + 1) spans) rest offset
-  known_turn = rw (drop-cons spans k other here, add-one) refl
-
   -- a part that has the offset gives its byte
   known_here : reaches n (get_or spans k other) offset ≡ true
       → byte_in_parts n (drop k spans) rest offset ≡ byte_of rest (offset - (get_or spans k other).start)
-  known_here has = known_turn ∙ cond-true _ _ _ has
+  known_here has = grind (arith, drop-cons, add-one, cond-true)
 
 -- the bytes of a part of some bytes
 front_known : (rest : List ℕ) (offset most i : ℕ) → i < length (part rest offset most)
@@ -145,4 +141,4 @@ Joined n spans k end = ((bytes : List ℕ) (i : ℕ) → i < end → byte_in_par
 
 -- a byte of the first ones
 pub joined_at : (bytes : List ℕ) (end i : ℕ) → i < length (part bytes 0 end) → byte_of bytes i ≡ Some (slice_index (part bytes 0 end) i)
-joined_at bytes end i below = ap (byte_of bytes) (omega arith) ∙ front_known bytes 0 end i below
+joined_at bytes end i below = grind (arith, part_length, part_at)

@@ -111,7 +111,7 @@ module _ (n : ℕ) (spans : List Span) (bytes : List ℕ) (log : List Span) (mis
 
   span_is : (offset k wanted : ℕ) → wanted ≡ min k (n - offset) → span_of filled offset k ≡ span_at offset wanted
   unfolding span_of
-  span_is offset k wanted is = ap (span_at offset) (sym (wanted_is offset k wanted is))
+  span_is offset k wanted is = grind (arith, length-filled_input)
 
   pub parts_read : (b : State) (buffer : List ℕ) (offset wanted found : ℕ) → wanted ≡ min (length buffer) (n - offset)
       → found ≤ wanted → wanted ≤ found → take found buffer ≡ part filled offset found

@@ -1,5 +1,5 @@
 -- What a layout says of an input.
-use Rattle.std.proofs.Common.{◌≡◌, ℕ, ◌-◌, ◌≤◌, min, true, eqb, List, [], ◌++◌, length, take, Option, Result, Ok, Err, refl, sym, ap, ◌∙◌, subst, arith, append_assoc}
+use Rattle.std.proofs.Common.{◌≡◌, ℕ, ◌-◌, ◌≤◌, min, true, eqb, List, [], length, take, Option, Result, Ok, Err, refl, sym, ap, ◌∙◌, subst, arith, append_assoc}
 use Rattle.std.proofs.lemmas.List.{length-take, take_all, drop_all, append-nil}
 use Rattle.std.proofs.Math.Seq.{take-nil}
 use Rattle.imagesize_source.specs.declared.span.Span.{Span}
@@ -12,16 +12,11 @@ use Rattle.imagesize_source.specs.State.{State, Runs}
 use Rattle.imagesize_source.proofs.Marks.{plus-assoc, plus-zero}
 use Rattle.imagesize_source.proofs.Runs.{answered, part_is, runs_refused}
 
-behind-onward : {Y Z : Type 0} (marks more : List Span) (r : Result Y Halt) (g : Y → Reads Z)
-    → put_behind marks (go_on more r g) ≡ go_on (marks ++ more) r g
-behind-onward marks more (Ok y) g = ap (λ m. record (g y) { marks = m }) (sym (append_assoc marks more (g y).marks))
-behind-onward marks more (Err e) g = refl
-
 -- what goes on from an answer that itself goes on
 pub onward-and_then : {X Y Z : Type 0} (marks : List Span) (r : Result X Halt) (f : X → Reads Y) (g : Y → Reads Z)
     (both : X → Reads Z)
     → ((x : X) → both x ≡ and_then (f x) g) → go_on marks r both ≡ and_then (go_on marks r f) g
-onward-and_then marks (Ok x) f g both is = grind (arith, behind-onward)
+onward-and_then marks (Ok x) f g both is = grind (arith, append_assoc)
 onward-and_then marks (Err e) f g both is = refl
 
 -- the same of readings that begin records
@@ -42,13 +37,8 @@ pub then_alike : {X Y : Type 0} (r : Reads X) (f g : X → Reads Y) → ((x : X)
     → and_then r f ≡ and_then r g
 then_alike r f g same = grind arith
 
--- an answer that is given as it is
-onward_gives : {X : Type 0} (marks : List Span) (r : Result X Halt) → go_on marks r gives ≡ just r marks
-onward_gives marks (Ok x) = ap (just (Ok x)) (append-nil marks)
-onward_gives marks (Err e) = refl
-
 pub then_gives : {X : Type 0} (r : Reads X) → and_then r gives ≡ r
-then_gives r = grind (arith, onward_gives, plus-zero)
+then_gives r = grind (arith, append-nil, plus-zero)
 
 -- one layout behind the other: first the readings of the one, then those of the other
 pub over-bind : {X Y : Type 0} (d : List ℕ) (t : Layout X) (f : X → Layout Y)
@@ -59,15 +49,10 @@ over-bind d (field order offset k g) f = onward-and_then _ _ _ _ _ (λ v. over-b
 over-bind d (reading r offset g) f = onward-and_then _ _ _ _ _ (λ bs. over-bind d (g bs) f)
 over-bind d (begin_record t) f = ap (after_records 1) (over-bind d t f)
 
--- of a reading: all of the bytes are there, or some are missing
-whole_front : (buffer : List ℕ) (n : ℕ) → n ≤ length buffer
-    → whole (length buffer) (take n buffer) ≡ some_where buffer (eqb n (length buffer))
-whole_front buffer n fits = grind (arith, take_all, length-take)
-
 pub whole_read : {a b : State} (d buffer : List ℕ) (offset n : ℕ) → n ≤ length buffer
     → Runs a b (Ok (take n buffer)) (part_read d offset (length buffer))
     → Runs a b (Ok (some_where buffer (eqb n (length buffer)))) (layout_reads d (if_there offset (length buffer) done))
-whole_read d buffer offset n fits h = grind (arith, append-nil, part_is, whole_front)
+whole_read d buffer offset n fits h = grind (arith, append-nil, part_is, take_all, length-take)
 
 -- a reading that was stopped found none
 pub whole_stopped : {X : Type 0} {a b : State} (d : List ℕ) (offset k : ℕ) (found : X → Option (List ℕ))

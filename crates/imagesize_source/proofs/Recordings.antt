@@ -5,7 +5,6 @@ use Rattle.imagesize_source.specs.declared.span.Span.{Span}
 use Rattle.imagesize_source.specs.Input.{span_at, span_of}
 use Rattle.imagesize_source.specs.Reading.{Reads}
 use Rattle.imagesize_source.specs.State.{Runs, state_after, recording_state}
-use Rattle.imagesize_source.proofs.Slices.{given_runs}
 
 -- the spans of readings are recorded behind those before
 pub past-recording : (d : List ℕ) (spans more : List Span) (home : ℕ) → state_after

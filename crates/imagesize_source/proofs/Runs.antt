@@ -1,6 +1,5 @@
 -- How a call's readings follow from those of the calls that it makes.
 use Rattle.std.proofs.Common.{◌≡◌, ℕ, ◌+◌, ◌-◌, ◌<◌, ◌≤◌, min, Bool, true, false, List, [], ◌∷◌, ◌++◌, length, take, leb, Result, Ok, Err, zero-add, add_assoc, append_assoc, refl, sym, ap, ◌∙◌, subst, arith, IfErr}
-use Rattle.std.proofs.lemmas.Bool.{or_parts}
 use Rattle.std.proofs.lemmas.List.{length-take, take_all, append-nil}
 use Rattle.std.proofs.lemmas.Bool.Decides.{nat_tests}
 use Rattle.std.proofs.lemmas.Option.{IfSome_then}
@@ -48,7 +47,7 @@ pub past-recorded : (a : State) (s : List Span)
     → (state_after a s).recorded ≡ option_map (λ spans. spans ++ s) a.recorded
 unfolding state_after
 past-recorded a [] = grind (arith, append-nil)
-past-recorded a (x ∷ s) = past-recorded (step a x) s ∙ both a.recorded (x ∷ []) s
+past-recorded a (x ∷ s) = grind (arith, append_assoc, (past-recorded (step a x) s))
 
 pub past-held : (a : State) (s : List Span) → (state_after a s).held ≡ a.held
 unfolding state_after
@@ -83,7 +82,7 @@ pub missed_past : (a m b : State) (before marks : List Span) → m ≡ state_aft
 missed_past a m b before marks past h = rw append-nil at (missed_among a m b before marks [] past h)
 
 pub missed_before : (a b : State) (marks more : List Span) → Missed a b marks → Missed a b (marks ++ more)
-missed_before a b marks more h = missed_among a a b [] marks more (sym (past-none a)) h
+missed_before a b marks more h = grind (arith, past-recorded, both, append_assoc, past-none)
 
 pub missed_first : {X Y : Type 0} (a b : State) (spans : List Span) (r : Result X Halt) (f : X → Reads Y)
     → Missed a b spans

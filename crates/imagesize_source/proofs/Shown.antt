@@ -1,6 +1,5 @@
 -- What is read of the bytes that a source holds, and what it is for that source.
 use Rattle.std.proofs.Common.{◌≡◌, ℕ, ◌+◌, ◌-◌, ◌^◌, ◌<◌, ◌≤◌, true, false, List, [], ◌∷◌, ◌++◌, length, take, drop, None, Result, Ok, refl, sym, ap, ◌∙◌, arith}
-use Rattle.std.proofs.lemmas.Bool.Decides.{nat_tests}
 use Rattle.std.proofs.lemmas.List.{length-drop, length-take, take_all}
 use Rattle.imagesize_source.specs.declared.halt.Halt.{Halt}
 use Rattle.imagesize_source.specs.declared.span.Span.{Span}
@@ -9,7 +8,7 @@ use Rattle.imagesize_source.specs.Input.{part, span_at}
 use Rattle.imagesize_source.specs.Reading.{Reads, is_faulted, part_read, text_part, text_read}
 use Rattle.imagesize_source.specs.Shown.{AreShown}
 use Rattle.imagesize_source.specs.Layout.{Layout}
-use Rattle.imagesize_source.specs.State.{State, Held, Runs, Follows, front_after, place_after, shown_state, shown_by, rejoined, state_after, step}
+use Rattle.imagesize_source.specs.State.{State, Held, Runs, Follows, shown_state, shown_by, rejoined, state_after, step}
 use Rattle.imagesize_source.specs.Text.{is_ended, text_front}
 use Rattle.imagesize_source.proofs.Agreement.{span-some, whole_span}
 use Rattle.imagesize_source.proofs.Counts.{total-span_at}
@@ -18,16 +17,12 @@ use Rattle.imagesize_source.proofs.Parts.{part_behind, part_front}
 use Rattle.imagesize_source.proofs.Texts.{front_more}
 use Rattle.std.specs.Prelude.{option_map}
 
--- a read past the first bytes that are kept leaves them as they are
-kept_front : (front offset n : ℕ) → front ≤ 32 → 32 ≤ offset → front_after front offset n ≡ front
-kept_front front offset n few far = grind arith
-
 -- the state after a read past the first bytes
 shown_state_after : (told budget front : ℕ) (held : Held) (taken place offset n : ℕ) → front ≤ 32 → 32 ≤ offset → 0 < n
     → shown_state told budget front held (taken + n) (offset + n)
     ≡ state_after (shown_state told budget front held taken place) (span_at offset n)
 unfolding state_after
-shown_state_after told budget front held taken place offset n few far some = grind (arith, span-some, kept_front)
+shown_state_after told budget front held taken place offset n few far some = grind (arith, span-some)
 
 -- a read whose bytes are there
 pub shown_reads : (told budget front : ℕ) (held : Held) (taken place offset n : ℕ) (got : List ℕ) (reads : Reads (List ℕ))

@@ -11,7 +11,7 @@ use Rattle.imagesize_source.proofs.Chains.{chain_next, chain_stop, chain_unfolds
 use Rattle.imagesize_source.proofs.Marks.{behind-behind}
 use Rattle.imagesize_source.specs.Strides.{Strides}
 use Rattle.imagesize_source.proofs.Reached.{reads_nothing}
-use Rattle.imagesize_source.proofs.Runs.{ended_by, marks_onward, past-none, past-past, plain_end, reached_end, reached_start, still, still_honest, total-append, without_fault}
+use Rattle.imagesize_source.proofs.Runs.{ended_by, marks_onward, past-none, past-past, plain_end, reached_end, still, still_honest, total-append, without_fault}
 use Rattle.imagesize_source.proofs.Sharing.{leads_on}
 
 module _ {C X : Type 0} (c : Chain C X) where

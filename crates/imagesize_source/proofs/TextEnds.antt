@@ -5,7 +5,6 @@ use Rattle.std.proofs.lemmas.List.{drop_all, take_rest}
 use Rattle.std.specs.Char.{is_ascii_whitespace}
 use Rattle.imagesize_source.specs.declared.text.Text.TheVariants.{Line, Word}
 use Rattle.imagesize_source.specs.Text.{is_ended}
-use Rattle.imagesize_source.proofs.Texts.{found, not_found}
 
 pub any_found : (p : ℕ → Bool) (bs : List ℕ) → list_any p bs ≡ is_some (position p bs)
 any_found p [] = refl

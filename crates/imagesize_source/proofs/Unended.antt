@@ -21,7 +21,7 @@ text_on t xs ys none =
 -- a line goes on as another line
 pub line_on : (delimiter : ℕ) (xs ys : List ℕ) → is_ended (Line delimiter) xs ≡ false
     → is_ended (Line delimiter) (xs ++ ys) ≡ is_ended (Line delimiter) ys
-line_on delimiter xs ys none = grind (arith, text_on, begun_stays, ended_is)
+line_on delimiter xs ys none = grind (arith, goes_behind, ended_is, front_is, begun_stays)
 
 -- a line has the bytes before, and those of the line after them
 pub line_front_on : (delimiter : ℕ) (xs ys : List ℕ) → is_ended (Line delimiter) xs ≡ false

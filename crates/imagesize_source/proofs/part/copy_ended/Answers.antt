@@ -14,7 +14,7 @@ module _ (t : Text) (bs : List ℕ) (most n : ℕ) (counts : n ≡ length (text_
   text_is = sym (take-take n most bs text_fits.1) ∙ ap (λ k. take k (take most bs)) counts ∙ front_take t (take most bs)
 
 pub copy_front-requires : goal.copy_front-requires
-copy_front-requires c = grind (arith, text_fits)
+copy_front-requires c = grind (arith, front_length, length-take)
 
 pub returns-in-Some : goal.returns-in-Some
 returns-in-Some c = grind (arith, text_fits, text_is, front_any, front_front)

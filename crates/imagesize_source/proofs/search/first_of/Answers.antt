@@ -1,9 +1,9 @@
 use Rattle.std.proofs.lemmas.Bool.Decides.{nat_tests}
-use Rattle.std.proofs.Common.{◌≡◌, ℕ, ◌-◌, ◌≤◌, ◌==◌, Bool, not, List, length, drop, take, refl, sym, ap, arith}
+use Rattle.std.proofs.Common.{ℕ, ◌≤◌, ◌==◌, Bool, not, List, length, drop, take, refl, sym, ap, arith}
 use Rattle.std.proofs.lemmas.List.{length-drop, length-take, take_all, drop-drop}
 use Rattle.std.proofs.lemmas.List.Sums.{prefix_len-le-length}
 use Rattle.std.specs.List.{position_or_len}
-use Rattle.imagesize_source.proofs.Places.{goes_on, position_some}
+use Rattle.imagesize_source.proofs.Places.{goes_on}
 use Rattle.imagesize_source.proofs.Texts.{found, not_found}
 use Rattle.imagesize_source.proofs.search.first_of.Goals as goal
 
@@ -22,12 +22,8 @@ loop-index-preserved c =
     let same = ap (position_or_len p) (drop-drop 16 c.loop-index.index bs) in
     (omega (arith, c.loop-index-test.true), omega (arith, c.loop-index.invariant.1, on, same))
 
--- the bytes behind the last sixteen
-rest_is : (bs : List ℕ) (index : ℕ) → take (length bs - index) (drop index bs) ≡ drop index bs
-rest_is bs index = take_all (length bs - index) (drop index bs) (omega (arith, length-drop index bs))
-
 pub returns-in_err-count : goal.returns-in_err-count
-returns-in_err-count c = grind (arith, rest_is, not_found, length-drop)
+returns-in_err-count c = grind (arith, take_all, length-drop, not_found)
 
 pub returns : goal.returns
-returns c = grind (arith, rest_is, found, length-drop)
+returns c = grind (arith, take_all, length-drop, found)

@@ -1,4 +1,4 @@
-use Rattle.std.proofs.Common.{ℕ, ◌+◌, ◌<◌, not, List, take, drop, get_or, eqb-true, sym, ap, ◌∙◌, arith, w8}
+use Rattle.std.proofs.Common.{ℕ, ◌<◌, not, List, take, drop, get_or, eqb-true, sym, ap, ◌∙◌, arith, w8}
 use Rattle.std.proofs.lemmas.List.{get_or-take, get_or-drop, get_or_past, length-take}
 use mir.Val.{Fits}
 use Rattle.std.proofs.lemmas.Nat.{le_bytes_8}

@@ -1,7 +1,7 @@
 use Rattle.std.proofs.Common.{sym, ap, ◌∙◌, arith, is_some}
 use Rattle.std.proofs.lemmas.List.{length-take}
 use Rattle.imagesize_source.proofs.TextEnds.{line_ended}
-use Rattle.imagesize_source.proofs.Texts.{found, line_front}
+use Rattle.imagesize_source.proofs.Texts.{line_front}
 use Rattle.imagesize_source.proofs.text.line_length.Goals as goal
 
 pub returns-in-Some-clause-ended : goal.returns-in-Some-clause-ended

@@ -1,5 +1,4 @@
-use Rattle.std.proofs.Common.{arith}
-use Rattle.std.proofs.Common.{sym, ap, ◌∙◌, is_some}
+use Rattle.std.proofs.Common.{arith, sym, ap, ◌∙◌, is_some}
 use Rattle.imagesize_source.proofs.TextEnds.{blank_not_ended, word_is_ended}
 use Rattle.imagesize_source.proofs.Texts.{word_closed}
 use Rattle.imagesize_source.proofs.text.word_length.Goals as goal
