@@ -1,6 +1,6 @@
 -- How a call's readings follow from those of the calls that it makes.
 use Rattle.std.proofs.Common.{◌≡◌, ℕ, ◌+◌, ◌-◌, ◌<◌, ◌≤◌, min, Bool, true, false, List, [], ◌∷◌, ◌++◌, length, take, leb, Result, Ok, Err, zero-add, add_assoc, append_assoc, refl, sym, ap, ◌∙◌, subst, arith, IfErr}
-use Rattle.std.proofs.lemmas.List.{length-take, take_all, append-nil}
+use Rattle.std.proofs.lemmas.List.{length-append, length-take, take_all, append-nil}
 use Rattle.std.proofs.lemmas.Bool.Decides.{nat_tests}
 use Rattle.std.proofs.lemmas.Option.{IfSome_then}
 use Rattle.imagesize_source.specs.declared.source.parts.Missing.{Missing}
@@ -95,6 +95,8 @@ pub marks_onward : {X Y : Type 0} (spans : List Span) (r : Result Y Halt) (f : Y
     → (more : List Span) × ((go_on spans r f).marks ≡ spans ++ more)
 marks_onward spans (Ok y) f = ((f y).marks, refl)
 marks_onward spans (Err e) f = ([], sym (append-nil spans))
+
+pub ruleset lengths = (length-append, total-append)
 
 pub ruleset steps = (past-past, past-none, total-append, append-nil, past-held, missed_past, missed_first)
 

@@ -1,7 +1,7 @@
 -- A text at the front of some bytes, and what bytes behind it change.
 use Rattle.std.proofs.Common.{◌≡◌, ℕ, suc, ◌+◌, ◌-◌, ◌<◌, ◌≤◌, Bool, true, false, ◌&&◌, ◌||◌, not, cond, List, [], ◌∷◌, ◌++◌, length, take, drop, None, Some, inl, inr, one-add, refl, sym, ap, ◌∙◌, arith, append_assoc}
 use Rattle.std.proofs.lemmas.Bool.{cases_Bool, cond_both, or_parts}
-use Rattle.std.proofs.lemmas.List.{length-append, length-take, take-append-drop, take_all, take_at, take_rest}
+use Rattle.std.proofs.lemmas.List.{length-append, length-drop, length-take, take-append-drop, take_all, take_at, take_rest}
 use Rattle.std.specs.Char.{is_ascii_whitespace}
 use Rattle.std.specs.List.{list_any, position, position_or_len}
 use Rattle.imagesize_source.specs.declared.text.Text.{Text}
@@ -192,3 +192,5 @@ front_take t bs =
     ap (take (length (text_front t bs))) (sym split.1) ∙ take_at (text_front t bs) split.0 (length (text_front t bs)) refl
 
 pub ruleset fronts = (line_front, front_length)
+
+pub ruleset whole_fronts = (front_all, take_all, length-drop, take-append-drop)

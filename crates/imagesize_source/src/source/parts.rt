@@ -413,7 +413,7 @@ pub fn count_there(told: u64, offset: u64, buffer: usize) -> usize
 
 /// How many bytes the text at the front of the bytes has. `None` if it may go on after them: none of them ends it, and the read
 /// requests more. The first `searched` bytes do not end it.
-#[tactic(auto, using(crate::proofs::Texts::fronts))]
+#[tactic(auto, using(crate::proofs::Texts::fronts, crate::proofs::Texts::whole_fronts))]
 pub fn uncut_length(text: Text, bytes: &[u8], searched: usize, wanted: usize) -> Option<usize>
     requires searched { searched ≤ length bytes.now }
     requires unended { is_ended text (take searched bytes.now) ≡ false }
