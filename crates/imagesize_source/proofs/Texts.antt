@@ -1,7 +1,7 @@
 -- A text at the front of some bytes, and what bytes behind it change.
 use Rattle.std.proofs.Common.{◌≡◌, ℕ, suc, ◌+◌, ◌-◌, ◌<◌, ◌≤◌, Bool, true, false, ◌&&◌, ◌||◌, not, cond, List, [], ◌∷◌, ◌++◌, length, take, drop, None, Some, inl, inr, one-add, refl, sym, ap, ◌∙◌, arith, append_assoc}
 use Rattle.std.proofs.lemmas.Bool.{cases_Bool, cond_both, or_parts}
-use Rattle.std.proofs.lemmas.List.{length-append, length-drop, length-take, take-append-drop, take_all, take_at, take_rest}
+use Rattle.std.proofs.lemmas.List.{length-append, length-drop, length-take, take-append-drop, take-take, take_all, take_at, take_rest}
 use Rattle.std.specs.Char.{is_ascii_whitespace}
 use Rattle.std.specs.List.{list_any, position, position_or_len}
 use Rattle.imagesize_source.specs.declared.text.Text.{Text}
@@ -194,3 +194,12 @@ front_take t bs =
 pub ruleset fronts = (line_front, front_length)
 
 pub ruleset whole_fronts = (front_all, take_all, length-drop, take-append-drop)
+
+-- the text of the first bytes is as many of all bytes
+pub front_among : (t : Text) (bs : List ℕ) (most n : ℕ) → n ≡ length (text_front t (take most bs))
+    → take n bs ≡ text_front t (take most bs)
+front_among t bs most n counts =
+    sym (take-take n most bs (omega (arith, counts, front_length t (take most bs), length-take most bs)))
+    ∙ ap (λ k. take k (take most bs)) counts ∙ front_take t (take most bs)
+
+pub ruleset copies = (front_among, front_any, front_front, front_length, length-take)

@@ -72,6 +72,7 @@ pub fn copy_text_at(bytes: &[u8], offset: u64, text: Text, buffer: &mut [u8]) ->
 ///
 /// It searches for the end first. So it copies the text alone, and not byte by byte. The buffer after the text may change.
 #[inline(always)]
+#[tactic(auto, using(crate::proofs::Texts::copies))]
 pub fn copy_ended(bytes: &[u8], text: Text, buffer: &mut [u8]) -> Option<usize>
     ensures bound { IfSome result (λ n. n ≤ length buffer.new) }
     ensures there { IfSome result (λ n. n ≤ length bytes.now) }

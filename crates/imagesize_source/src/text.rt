@@ -92,6 +92,7 @@ fn through_white(bytes: &[u8]) -> Option<usize>
 
 // How many bytes there are up to and with the delimiter, if it is there.
 #[inline(always)]
+#[tactic(auto, using(crate::proofs::TextEnds::lines), unfolding(crate::specs::Text::is_ended))]
 fn line_length(delimiter: u8, bytes: &[u8]) -> Option<usize>
     ensures ended { IfSome result (λ _. is_ended (Text.Line delimiter) bytes.now ≡ true) }
     ensures length { IfSome result (λ n. n ≡ length (text_front (Text.Line delimiter) bytes.now)) }
@@ -105,6 +106,7 @@ fn line_length(delimiter: u8, bytes: &[u8]) -> Option<usize>
 
 // How many bytes there are up to and with the white space that ends the first word, if it is there.
 #[inline]
+#[tactic(auto, using(crate::proofs::TextEnds::words), unfolding(crate::specs::Text::is_ended))]
 fn word_length(bytes: &[u8]) -> Option<usize>
     ensures ended { IfSome result (λ _. is_ended Text.Word bytes.now ≡ true) }
     ensures length { IfSome result (λ n. n ≡ length (text_front Text.Word bytes.now)) }

@@ -1,5 +1,4 @@
-use Rattle.std.proofs.Common.{◌-◌, ◌+◌, refl, ◌++◌, ap, ◌∙◌}
-use Rattle.imagesize_source.specs.Input.{span_at}
+use Rattle.std.proofs.Common.{◌-◌, ◌+◌, refl}
 use Rattle.imagesize_source.proofs.KnownReadings.{parts_read, parts_missing}
 use Rattle.imagesize_source.proofs.source.parts.PartsSource.gather_at.Goals as goal
 

@@ -1,6 +1,6 @@
-use Rattle.std.proofs.Common.{◌-◌, ◌+◌, arith, refl, sym, ◌++◌, ap, ◌∙◌}
+use Rattle.std.proofs.Common.{◌-◌, ◌+◌, arith, refl}
 use Rattle.std.proofs.lemmas.List.{length-drop, length-take}
-use Rattle.imagesize_source.specs.Input.{part, span_at}
+use Rattle.imagesize_source.specs.Input.{part}
 use Rattle.imagesize_source.proofs.Gathering.{front_there}
 use Rattle.imagesize_source.proofs.KnownReadings.{parts_text, parts_text_missing}
 use Rattle.imagesize_source.proofs.Unended.{open_first, open_part}
