@@ -1,5 +1,5 @@
 -- How many bytes a type and its size are read from.
-use Rattle.std.proofs.Common.{ℕ, ◌+◌, ◌≤◌, List, length, Result, Ok, Err, ◌≡◌, refl, subst, arith}
+use Rattle.std.proofs.Common.{ℕ, ◌+◌, ◌≤◌, List, length, Result, Ok, Err, ◌≡◌, refl, arith}
 use Rattle.imagesize.proofs.Detection.{kind_cost, kind_at_most}
 use Rattle.imagesize.proofs.Ways.{laws_of}
 use Rattle.imagesize.specs.Counts.{cost, most_bytes, most_as, stated_bytes, stated_as}
@@ -34,8 +34,7 @@ same_most (Err halt) d = refl
 
 pub cost_most : (d : List ℕ) (offset : ℕ) → cost d offset ≤ most_bytes d offset
 unfolding meaning_reads
-cost_most d offset = subst (λ n. cost d offset ≤ n) (same_most (kind_reads d offset).answer d)
-    (onward_most (kind_reads d offset).marks (kind_reads d offset).answer d (kind_at_most d offset))
+cost_most d offset = grind (arith, same_most, onward_most, kind_at_most)
 
 -- these are at most 41 more than the input has
 most_within : {E : Type 0} (r : Result ImageType E) (d : List ℕ) → most_as r d ≤ length d + 41

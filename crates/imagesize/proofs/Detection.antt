@@ -1,22 +1,21 @@
 -- The type at an offset: what it is read from, and what bytes that follow leave of it.
-use Rattle.std.proofs.Common.{◌≡◌, ℕ, zero, suc, ◌+◌, ◌-◌, ◌<◌, ◌≤◌, Bool, true, false, cond, leb, List, [], ◌∷◌, ◌++◌, length, take, drop, Option, Some, None, Result, Ok, Err, IfOk, IsTrue, ◌⊎◌, inl, inr, refl, sym, ap, ◌∙◌, subst, arith}
-use Rattle.std.specs.Prelude.{IsOkAnd, codes}
-use Rattle.std.specs.Str.{bytes_eq}
+use Rattle.std.proofs.Common.{◌≡◌, ℕ, zero, suc, ◌+◌, ◌-◌, ◌<◌, ◌≤◌, Bool, true, false, cond, leb, List, ◌++◌, length, take, drop, Option, Some, None, Result, Ok, Err, IfOk, IsTrue, ◌⊎◌, inl, inr, refl, sym, ap, ◌∙◌, subst, arith}
+use Rattle.std.specs.Prelude.{IsOkAnd}
 use Rattle.std.proofs.lemmas.Bool.{cases_lt}
 use Rattle.std.proofs.lemmas.Bool.Decides.{nat_tests}
 use Rattle.std.proofs.lemmas.List.{length-drop, drop-append-le, take-append-le}
 use Rattle.imagesize.specs.Counts.{Stays, keeps, without_compression}
 use Rattle.imagesize_boxes.proofs.Heif.{heif_compression_laws}
-use Rattle.imagesize_boxes.specs.Heif.{compatible_compression, heif_compression, is_general}
+use Rattle.imagesize_boxes.specs.Heif.{heif_compression}
 use Rattle.imagesize_fixed.proofs.Atc.{atc_compression_laws}
 use Rattle.imagesize_fixed.proofs.Dds.{dds_compression_laws}
 use Rattle.imagesize_fixed.proofs.Pkm.{pkm_compression_laws}
 use Rattle.imagesize_fixed.proofs.Pvrtc.{pvrtc_compression_laws}
 use Rattle.imagesize_fixed.proofs.Tga.{is_tga_few}
 use Rattle.imagesize_fixed.specs.Atc.{atc_compression, atc_compression_of}
-use Rattle.imagesize_fixed.specs.Dds.{dds_bit_counts, dds_compression, dds_compression_by, dds_number_of, dxgi_formats}
+use Rattle.imagesize_fixed.specs.Dds.{dds_compression}
 use Rattle.imagesize_fixed.specs.Pkm.{pkm_compression, pkm_compression_of}
-use Rattle.imagesize_fixed.specs.Pvrtc.{is_pvr3, pvrtc_compression, pvrtc_compression_by, pvrtc_format_of}
+use Rattle.imagesize_fixed.specs.Pvrtc.{pvrtc_compression}
 use Rattle.imagesize_fixed.specs.Tga.{is_tga}
 use Rattle.imagesize.specs.Kind.{kind, kind_by, with_compression, tga_or_none, first_row}
 use Rattle.imagesize.specs.Meaning.{kind_of, kind_reads}
@@ -33,7 +32,6 @@ use Rattle.imagesize_source.specs.Layout.{Layout, bind, if_there, layout_reads}
 use Rattle.imagesize_source.specs.Layout.Layout.{«done», refuse, field, reading, begin_record}
 use Rattle.imagesize_source.proofs.Parts.{part_length}
 use Rattle.imagesize_source.proofs.Tests.{on_test}
-use Rattle.imagesize_types.specs.Head.{four_at}
 use Rattle.imagesize_types.specs.declared.compression.AtcCompression.TheVariants.{Unknown as atc_unknown}
 use Rattle.imagesize_types.specs.declared.compression.Compression.TheVariants.{Unknown as heif_unknown}
 use Rattle.imagesize_types.specs.declared.compression.DdsCompression.TheVariants.{Unknown as dds_unknown}
@@ -119,9 +117,7 @@ if_there_fades u offset n f none some bs = (
 -- of each compression
 heif_fades : (offset : ℕ) (head : List ℕ) → Fades heif_unknown (heif_compression offset head)
 unfolding heif_compression
-heif_fades offset head = on_test (Fades heif_unknown) (is_general (four_at 8 head)) _ _
-    (λ _. if_there_fades heif_unknown (offset + 12) 12 (λ more. done (compatible_compression more)) refl (λ bs. tt))
-    (λ _. tt)
+heif_fades offset head = grind (arith, on_test, if_there_fades)
 
 atc_fades : Fades atc_unknown atc_compression
 unfolding atc_compression
@@ -133,17 +129,11 @@ pkm_fades = if_there_fades pkm_unknown 6 2 (λ bs. done (pkm_compression_of bs))
 
 pvrtc_fades : Fades pvrtc_unknown pvrtc_compression
 unfolding pvrtc_compression
-pvrtc_fades = if_there_fades pvrtc_unknown 0 4 pvrtc_compression_by refl
-    (λ tag. on_test (Fades pvrtc_unknown) (is_pvr3 tag) _ _
-    (λ _. if_there_fades pvrtc_unknown 8 8 (λ bs. done (pvrtc_format_of bs)) refl (λ bs. tt)) (λ _. tt))
+pvrtc_fades = grind (arith, if_there_fades, on_test)
 
 dds_fades : Fades dds_unknown dds_compression
 unfolding dds_compression
-dds_fades = if_there_fades dds_unknown 84 4 dds_compression_by refl (λ code.
-    on_test (Fades dds_unknown) (bytes_eq code (codes "DX10")) _ _
-    (λ _. if_there_fades dds_unknown 128 4 (λ bs. done (dds_number_of dxgi_formats bs)) refl (λ bs. tt))
-    (λ _. on_test (Fades dds_unknown) (bytes_eq code (0 ∷ 0 ∷ 0 ∷ 0 ∷ [])) _ _
-    (λ _. if_there_fades dds_unknown 88 4 (λ bs. done (dds_number_of dds_bit_counts bs)) refl (λ bs. tt)) (λ _. tt)))
+dds_fades = grind (arith, if_there_fades, on_test)
 
 -- what holds of each compression, and of a type without one
 by_compression : (P : Layout ImageType → Type 0) (offset : ℕ) (head : List ℕ) (found : ImageType)
@@ -248,13 +238,7 @@ compression_stays d x offset head found type after =
 none_keeps : (d : List ℕ) (n offset : ℕ) (head : List ℕ) (type : ImageType)
     → (layout_reads d (bind (is_tga n head) tga_or_none)).answer ≡ Ok type
     → keeps type ≡ true → ⊥
-none_keeps d n offset head type is stays =
-    let both = ap (λ r. r.answer) (sym (over-bind d (is_tga n head) tga_or_none)) ∙ is in
-    let last = onward_ok (layout_reads d (is_tga n head)).marks (layout_reads d (is_tga n head)).answer
-    (λ b. layout_reads d (tga_or_none b)) type both in
-    let tga_found : type ≡ Tga = tga_is last.0 d type last.2 in
-    let not_tga : keeps Tga ≡ true = ap keeps (sym tga_found) ∙ stays in
-    absurd cc
+none_keeps d n offset head type is stays = grind (arith, over-bind, onward_ok, tga_is)
 
 by_more : (d x : List ℕ) (offset : ℕ) (head : List ℕ) (row : Option ImageType) (type : ImageType)
     → (layout_reads d (kind_by (length d) offset head row)).answer ≡ Ok type → keeps type ≡ true → (after : ImageType)

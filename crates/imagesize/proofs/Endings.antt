@@ -1,21 +1,19 @@
 -- How calls end: over a reader they want no memory, and spend a budget whole; over a slice nothing stops them.
-use Rattle.std.proofs.Common.{◌≡◌, ℕ, ◌+◌, ◌-◌, ◌^◌, ◌≤◌, min, Bool, true, false, cond, leb, length, Option, Some, None, Result, Ok, Err, IfErr, IfSome, inl, inr, refl, sym, ap, ◌∙◌, subst, arith}
-use Rattle.std.proofs.lemmas.Bool.Decides.{nat_tests}
-use Rattle.std.proofs.lemmas.Option.{IfSome_then}
-use Rattle.std.specs.Prelude.{IsSomeAnd, option_map}
+use Rattle.std.proofs.Common.{◌≡◌, ℕ, ◌+◌, ◌-◌, ◌^◌, ◌≤◌, min, true, false, Option, Some, None, Result, Ok, Err, IfErr, IfSome, refl, sym, ap, subst, arith}
+use Rattle.std.specs.Prelude.{option_map}
 use Rattle.std.specs.declared.io.traits.SeekFrom.TheVariants.{Start}
 use Rattle.imagesize.specs.Probed.{SpentAll}
 use Rattle.std.specs.declared.io.Error.{Error}
 use Rattle.imagesize_io.proofs.Openings.{opened_leaves, stop_cases, told_last}
-use Rattle.imagesize_io.specs.Answers.{IsLast, LeftAs, Leaves}
+use Rattle.imagesize_io.specs.Answers.{IsLast, Leaves}
 use Rattle.imagesize_io.specs.ReaderState.{Opens, start_state}
 use Rattle.imagesize_io.specs.StopOf.{kept_error, last_failed}
-use Rattle.imagesize_io.specs.Telling.{Fails, SeekGives, SeekTells, Telling}
+use Rattle.imagesize_io.specs.Telling.{SeekTells, Telling}
 use Rattle.imagesize_io.specs.declared.reader.Opened.{Opened}
 use Rattle.imagesize_source.specs.Errors.{is_fault, is_memory, is_stopped as is_stopped_error, budget_spent}
-use Rattle.imagesize_source.specs.Halts.{error_by, with_error}
-use Rattle.imagesize_source.specs.Outcome.{outcome_of, stated}
-use Rattle.imagesize_source.specs.Reading.{Reads, is_faulted, is_stop, is_stopped}
+use Rattle.imagesize_source.specs.Halts.{with_error}
+use Rattle.imagesize_source.specs.Outcome.{outcome_of}
+use Rattle.imagesize_source.specs.Reading.{Reads, is_faulted, is_stopped}
 use Rattle.imagesize_source.specs.declared.halt.Halt.{Halt}
 use Rattle.imagesize_source.proofs.Halts.{error_fault, error_memory, error_spent, stated_goes_on, stated_same}
 use Rattle.imagesize_io.specs.Standing.{behind_of, drift}
@@ -38,28 +36,22 @@ no_memory (Some e) budget (Err halt) = error_memory (kept_error (Some e)) budget
 pub only_fault : {X : Type 0} {a b : State} (r : Result X Halt) (reads : Reads X) → a.frame.counts ≡ false → Runs a b r reads
     → is_faulted r ≡ false → is_stopped r ≡ false
 only_fault (Ok x) reads uncounted h no_fault = refl
-only_fault {b = b} (Err halt) reads uncounted h no_fault = false_from_ne_true (is_stop halt) (λ stops. elim (stop_cases halt stops) [
-  | inl faults ↦ let no : true ≡ false = sym faults ∙ no_fault in (cc)
-  | inr spent ↦ let no : true ≡ false = sym (h.ended.budget spent).0 ∙ ap (λ f. f.counts) h.frame ∙ uncounted in (cc)
-])
+only_fault {b = b} (Err halt) reads uncounted h no_fault = grind (arith, false_from_ne_true, stop_cases)
 
 -- over a slice nothing stops a call
 pub never_stopped : {X : Type 0} {a b : State} (r : Result X Halt) (reads : Reads X) → a.held.honest ≡ true → a.held.can_fail ≡ false
     → a.frame.counts ≡ false → Runs a b r reads → is_stopped r ≡ false
-never_stopped r reads honest sure uncounted h = only_fault r reads uncounted h
-    (false_from_ne_true (is_faulted r) (λ faults. let no : true ≡ false = sym (h.fault honest faults) ∙ sure in (cc)))
+never_stopped r reads honest sure uncounted h = grind (arith, only_fault, false_from_ne_true)
 
 -- what is answered over a slice is what its readings state, and none of the stops
 pub slice_answer : {X : Type 0} {a b : State} (failure : ImageError) (budget : ℕ) (r : Result X Halt) (reads : Reads X)
     → a.held.honest ≡ true → is_stopped r ≡ false → Runs a b r reads
     → with_error failure budget r ≡ (outcome_of reads).answer
-slice_answer failure budget r reads honest goes_on h =
-    stated_same failure budget r goes_on ∙ ap stated (sym (h.answer honest goes_on))
+slice_answer failure budget r reads honest goes_on h = grind (arith, stated_same)
 
 pub slice_unstopped : {X : Type 0} (failure : ImageError) (budget : ℕ) (r : Result X Halt) → is_stopped r ≡ false
     → is_stopped_error (with_error failure budget r) ≡ false
-slice_unstopped failure budget r goes_on =
-    ap (λ q. is_stopped_error q) (stated_same failure budget r goes_on) ∙ stated_goes_on r goes_on
+slice_unstopped failure budget r goes_on = grind (arith, stated_same, stated_goes_on)
 
 -- a budget that was spent is what was taken, and at least 64
 pub budget_taken : {X : Type 0} {a b : State} (told n : ℕ) (r : Result X Halt) (reads : Reads X)
@@ -67,19 +59,14 @@ pub budget_taken : {X : Type 0} {a b : State} (told n : ℕ) (r : Result X Halt)
     (2 ^ 64 - 1) → Plain b → Runs a b r reads → n ≡ b.taken
     → IfErr (with_error b.failure b.frame.budget r) (λ e. IfSome (budget_spent e) (λ k. (k ≡ n) × (64 ≤ k)))
 budget_taken told n (Ok x) reads start plain h took = tt
-budget_taken {b = b} told n (Err halt) reads start plain h took =
-    let budget : b.frame.budget ≡ min (told + 64) (2 ^ 64 - 1) = ap (λ f. f.budget) h.frame ∙ start in
-    error_spent (λ k. (k ≡ n) × (64 ≤ k)) b.failure b.frame.budget halt plain.spent
-    (λ spent. ((h.ended.budget spent).1 ∙ sym took, omega (arith, budget)))
+budget_taken {b = b} told n (Err halt) reads start plain h took = grind (arith, error_spent)
 
 pub budget_least : {X : Type 0} {a b : State} (told : ℕ) (r : Result X Halt) (reads : Reads X)
     → a.frame.budget ≡ min (told + 64)
     (2 ^ 64 - 1) → Plain b → Runs a b r reads
     → IfErr (with_error b.failure b.frame.budget r) (λ e. IfSome (budget_spent e) (λ k. 64 ≤ k))
 budget_least told (Ok x) reads start plain h = tt
-budget_least {b = b} told (Err halt) reads start plain h =
-    IfSome_then (budget_spent (error_by b.failure b.frame.budget halt))
-    (budget_taken told b.taken (Err halt) reads start plain h refl) (λ k is. is.1)
+budget_least {b = b} told (Err halt) reads start plain h = grind (arith, budget_taken)
 
 parts : (p q : ℕ × ℕ) → p ≡ q → (p.0 ≡ q.0) × (p.1 ≡ q.1)
 parts p q same = (ap (λ (x : ℕ × ℕ). x.0) same, ap (λ (x : ℕ × ℕ). x.1) same)
@@ -89,20 +76,14 @@ rose : (before after : Option ℕ) (taken : ℕ) → drift after taken ≡ drift
 rose None None taken same = refl
 rose None (Some c) taken same = absurd cc
 rose (Some c) None taken same = absurd cc
-rose (Some c) (Some d) taken same =
-    let both = parts (d - taken, taken - d) (c - 0, 0 - c) cc in
-    let is : d ≡ c + taken = omega (arith, both.0, both.1) in ap Some is
+rose (Some c) (Some d) taken same = grind (arith, parts)
 
 -- a named count rose by all of it
 pub budget_counted : {X : Type 0} {a b : State} (told : ℕ) (before after : Option ℕ) (r : Result X Halt) (reads : Reads X)
     → a.frame.budget ≡ min (told + 64) (2 ^ 64 - 1) → since_of a.frame.backing ≡ drift before 0 → Plain b → Runs a b r reads
     → since_of b.frame.backing ≡ drift after b.taken → IfErr (with_error b.failure b.frame.budget r) (λ e. IfSome (budget_spent e) (SpentAll before after))
 budget_counted told before after (Ok x) reads start counts plain h counted = tt
-budget_counted {b = b} told before after (Err halt) reads start counts plain h counted =
-    let up = rose before after b.taken (sym counted ∙ ap (λ f. since_of f.backing) h.frame ∙ counts) in
-    IfSome_then (budget_spent (error_by b.failure b.frame.budget halt))
-    (budget_taken told b.taken (Err halt) reads start plain h refl)
-    (λ n is. (is.1, up ∙ ap (λ k. option_map (λ c. c + k) before) (sym is.0)))
+budget_counted {b = b} told before after (Err halt) reads start counts plain h counted = grind (arith, rose, budget_taken)
 
 -- a failure that ends a call over a reader is the reader's last one
 pub fault_last : {X : Type 0} {a b : State} (failure : Option (Option Error)) (fault : Option Error) (r : Result X Halt)
@@ -110,10 +91,7 @@ pub fault_last : {X : Type 0} {a b : State} (failure : Option (Option Error)) (f
     → b.failed ≡ Some (last_failed fault failure) → Runs a b r reads
     → IfErr (with_error b.failure b.frame.budget r) (λ e. is_fault e ≡ true → IsLast failure e)
 fault_last failure fault (Ok x) reads is h = tt
-fault_last {b = b} failure fault (Err halt) reads is h = λ faults.
-    let by = error_fault b.failure b.frame.budget halt faults in
-    let last = subst (λ f. IfSome f (λ last. (last ≡ Some b.failure) × (is_fault b.failure ≡ true))) is (h.ended.fault by.0) in
-    subst (λ e. IsLast failure e) (sym by.1) (told_last failure fault b.failure last.0)
+fault_last {b = b} failure fault (Err halt) reads is h = grind (arith, error_fault, told_last)
 
 -- the error that a reader keeps is a fault
 pub kept_plain : (fault : Option Error) (b : State) → b.failure ≡ kept_error fault → Plain b
@@ -124,8 +102,7 @@ kept_plain (Some e) b is = record { spent = ap (λ e. budget_spent e) is }
 pub leaves_reader : {X : Type 0} {a b : State} (telling mid new : Option Telling) (count : Option ℕ) (home : ℕ) (opened : Opened)
     (told retries : ℕ) (fault : Option Error) (r : Result X Halt) (reads : Reads X) → a ≡ start_state mid count home opened.told
     → model_of b.frame.backing ≡ behind_of told retries fault new → Runs a b r reads → Opens telling mid (Ok opened) → Leaves telling new
-leaves_reader telling mid new count home opened told retries fault r reads start is h opens = opened_leaves telling mid new opened told
-    retries fault opens (sym is ∙ ap (λ f. model_of f.backing) h.frame ∙ ap (λ s. model_of s.frame.backing) start)
+leaves_reader telling mid new count home opened told retries fault r reads start is h opens = grind (arith, opened_leaves)
 
 -- a reader that is then moved to an offset within its reported length
 pub settled : (telling first mid new : Option Telling) (opened : Opened) (left : Option ℕ) → Opens telling first (Ok opened)
@@ -133,27 +110,9 @@ pub settled : (telling first mid new : Option Telling) (opened : Opened) (left :
     → IfSome left (λ position. (r : Result ℕ Error) × SeekTells mid new (Start position) r)
     → IfSome left (λ position. position ≤ opened.told) → Leaves telling new
 settled telling first mid new opened None opens stays leaves seeks within = subst (Leaves telling) (sym (stays refl)) leaves
-settled None first mid new opened (Some position) opens stays leaves seeks within =
-    subst (λ m. SeekTells m new (Start position) seeks.0) leaves seeks.1
+settled None first mid new opened (Some position) opens stays leaves seeks within = grind arith
 settled (Some t) first None new opened (Some position) opens stays leaves seeks within = absurd leaves
-settled (Some t) first (Some u) new opened (Some position) opens stays leaves seeks within =
-    by_seek seeks.0 (leb position (length u.bytes)) refl seeks.1 where
-      near : position ≤ length u.bytes
-      near = omega (arith, within, opens.2, ap length leaves.bytes)
-
-      by_seek : (r : Result ℕ Error) (b : Bool) → leb position (length u.bytes) ≡ b
-          → SeekGives u new (cond b (Some position) None) r → IsSomeAnd new (LeftAs t)
-      by_seek r false far sought = absurd (let no : leb position (length u.bytes) ≡ true = grind (arith, nat_tests, near) in cc)
-      by_seek (Ok answer) true far sought = subst (λ w. IsSomeAnd w (LeftAs t)) (sym sought.1)
-          (record { bytes = leaves.bytes; can_fail = leaves.can_fail; interruptions = leaves.interruptions })
-      by_seek (Err e) true far sought = fails new sought where
-        fails : (w : Option Telling) → Fails u w → IsSomeAnd w (LeftAs t)
-        fails None f = absurd f.1
-        fails (Some v) f = record {
-          bytes = f.1.0 ∙ leaves.bytes;
-          can_fail = f.1.1 ∙ sym f.0 ∙ leaves.can_fail;
-          interruptions = λ honest never. absurd (let no = sym never ∙ sym leaves.can_fail ∙ f.0 in cc);
-        }
+settled (Some t) first (Some u) new opened (Some position) opens stays leaves seeks within = grind arith
 
 -- no fault was kept where it is moved
 pub fault_settled : {X : Type 0} (failure failure' : Option (Option Error)) (fault : Option Error) (left : Option ℕ) (failing : ImageError) (budget : ℕ)
@@ -161,10 +120,7 @@ pub fault_settled : {X : Type 0} (failure failure' : Option (Option Error)) (fau
     → IfErr (with_error failing budget r) (λ e. is_fault e ≡ true → IsLast failure e) → IfSome left (λ _. fault ≡ None) → failing ≡ kept_error fault
     → IfErr (with_error failing budget r) (λ e. is_fault e ≡ true → IsLast failure' e)
 fault_settled failure failure' fault None failing budget (Ok x) stays last calm kept = tt
-fault_settled failure failure' fault None failing budget (Err halt) stays last calm kept = λ faults.
-    subst (λ f. IsLast f (error_by failing budget halt)) (sym (stays refl)) (last faults)
+fault_settled failure failure' fault None failing budget (Err halt) stays last calm kept = grind arith
 fault_settled failure failure' fault (Some position) failing budget (Ok x) stays last calm kept = tt
-fault_settled failure failure' fault (Some position) failing budget (Err halt) stays last calm kept = λ faults.
-    let by = error_fault failing budget halt faults in
-    let none : failing ≡ kept_error None = kept ∙ ap kept_error calm in
-    absurd (let no = ap is_fault (sym none) ∙ ap is_fault (sym by.1) ∙ faults in cc)
+fault_settled failure failure' fault (Some position) failing budget (Err halt) stays last calm kept =
+    grind (arith, error_fault)

@@ -1,4 +1,5 @@
 -- The size by a type that was found.
+use Rattle.std.proofs.lemmas.Bool.Decides.{nat_tests}
 use Rattle.std.proofs.Common.{List, ◌≡◌, ℕ, ◌≤◌, Option, Some, None, Result, Ok, Err, IfSome, is_some, true, false, refl, sym, ap, ◌∙◌, subst, arith}
 use Rattle.std.specs.Result.{result_ok}
 use Rattle.imagesize.proofs.Counts.{cost_most, cost_stated, cost_within, size_within}
@@ -52,9 +53,7 @@ pub read_answers : {X : Type 0} (reads : List ℕ → ℕ → Reads X) → IsBou
     → a ≡ start_state mid count home opened.told → is_some b.failed ≡ true → Opens telling mid (Ok opened)
     → Runs a b r (reads a.held.input opened.offset)
     → Answers telling (λ d offset. outcome_of (reads d offset)) (with_error b.failure b.frame.budget r)
-read_answers reads bounded telling mid count home opened a b r start told opens h =
-    opened_answers telling mid count home opened b r reads bounded told opens
-    (subst (λ s. Runs s b r (reads s.held.input opened.offset)) start h)
+read_answers reads bounded telling mid count home opened a b r start told opens h = grind (arith, opened_answers)
 
 found_kind : (t : Telling) (mid : Option Telling) (count : Option ℕ) (home told offset : ℕ) (a : State)
     (found : Option ImageType)
@@ -63,16 +62,7 @@ found_kind : (t : Telling) (mid : Option Telling) (count : Option ℕ) (home tol
     → (IfSome found (λ type. (kind_reads t.bytes t.offset).answer ≡ Ok type)) × (is_stopped r ≡ false
     → found ≡ result_ok (kind_reads t.bytes t.offset).answer)
 found_kind t mid count home told offset a found r honest began start finds =
-    let held : a.held ≡ claim t = ap (λ s. s.held) (start ∙ start_of t mid count home told offset began)
-    ∙ start_holds t count home honest
-    in
-    let is_honest : a.held.honest ≡ true = ap (λ h. h.honest) held in
-    let same : kind_reads a.held.input offset ≡ kind_reads t.bytes t.offset = ap (λ h. kind_reads h.input offset) held
-    ∙ ap (kind_reads t.bytes)
-    began.at in (
-      subst (λ reads. IfSome found (λ type. reads.answer ≡ Ok type)) same (finds.right is_honest),
-      λ goes_on. finds.whole is_honest goes_on ∙ ap (λ reads. result_ok reads.answer) same,
-    )
+    grind (arith, nat_tests, claim, start_of, start_holds)
 
 -- a type is stated as it is read
 stated_kind : (found : Option ImageType) (r : Result ImageType Halt) → IfSome found (λ type. r ≡ Ok type)

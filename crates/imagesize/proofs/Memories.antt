@@ -1,5 +1,5 @@
 -- What a call over bytes in memory answers to their reader.
-use Rattle.std.proofs.Common.{◌≡◌, ℕ, List, true, false, Option, None, Some, Result, Ok, sym, ap, ◌∙◌, subst}
+use Rattle.std.proofs.Common.{arith, ◌≡◌, ℕ, List, false, Option, None, Some, Result, Ok}
 use Rattle.imagesize_io.specs.Answers.{Answers}
 use Rattle.imagesize_io.specs.Memory.{IsMemory}
 use Rattle.imagesize_io.specs.ReaderState.{Opens}
@@ -14,9 +14,4 @@ pub memory_answers : {X : Type 0} (telling mid : Option Telling) (opened : Opene
     (reads_of : List ℕ → ℕ → Outcome X) (r : Result X ImageError) → Opens telling mid (Ok opened) → IsMemory mid d
     → r ≡ (reads_of d opened.offset).answer → is_stopped r ≡ false → Answers telling reads_of r
 memory_answers None mid opened d reads_of r opens memory is goes_on = tt
-memory_answers (Some t) mid opened d reads_of r opens memory is goes_on = λ honest.
-    let there = subst (λ m. IsMemory m d) opens.0 memory in
-    record {
-      answer = λ _. ap (λ k. (reads_of k t.offset).answer) there.0 ∙ ap (λ p. (reads_of d p).answer) (sym opens.1) ∙ sym is;
-      fault = λ stops. absurd (let no : true ≡ false = sym stops ∙ goes_on in cc);
-    }
+memory_answers (Some t) mid opened d reads_of r opens memory is goes_on = grind arith

@@ -1,17 +1,13 @@
 -- What is too short for a type ends there.
-use Rattle.std.proofs.Common.{◌≡◌, ℕ, ◌+◌, ◌<◌, List, length, Option, None, Some, Result, Err, sym, ap, ◌∙◌, arith}
+use Rattle.std.proofs.Common.{◌≡◌, ℕ, ◌+◌, ◌<◌, List, length, Option, None, Some, Result, Err, ap, arith}
 use Rattle.std.proofs.lemmas.Bool.Decides.{nat_tests}
-use Rattle.imagesize.specs.Kind.{first_row, kind_by}
-use Rattle.imagesize.specs.Types.{rows}
-use Rattle.imagesize.specs.Meaning.{kind_of, kind_reads, meaning, meaning_reads, size_reads}
+use Rattle.imagesize.specs.Meaning.{kind_of, kind_reads, meaning, meaning_reads}
 use Rattle.imagesize.specs.Short.{Ends}
 use Rattle.imagesize_io.specs.Answers.{Answers}
 use Rattle.imagesize_io.specs.Telling.{Telling}
-use Rattle.imagesize_source.specs.Input.{span_of}
-use Rattle.imagesize_source.specs.Layout.{layout_reads}
 use Rattle.imagesize_source.specs.Errors.{end_of_input}
 use Rattle.imagesize_source.specs.Outcome.{Outcome, stated}
-use Rattle.imagesize_source.specs.Reading.{bytes_at, go_on}
+use Rattle.imagesize_source.specs.Reading.{bytes_at}
 use Rattle.imagesize_source.specs.declared.halt.Halt.TheVariants.{Ended}
 use Rattle.imagesize_source.specs.declared.error.ImageError.{ImageError}
 
@@ -20,18 +16,14 @@ unfolding bytes_at
 no_head d offset few = grind (arith, nat_tests)
 
 no_kind_reads : (d : List ℕ) (offset : ℕ) → length d < offset + 12 → (kind_reads d offset).answer ≡ Err Ended
-no_kind_reads d offset few =
-    ap (λ r. (go_on (span_of d offset 12) r
-    (λ head. layout_reads d (kind_by (length d) offset head (first_row rows head)))).answer)
-    (no_head d offset few)
+no_kind_reads d offset few = grind (arith, no_head)
 
 pub no_kind : (d : List ℕ) (offset : ℕ) → length d < offset + 12 → (kind_of d offset).answer ≡ Err end_of_input
 no_kind d offset few = ap stated (no_kind_reads d offset few)
 
 pub no_meaning : (d : List ℕ) (offset : ℕ) → length d < offset + 12 → (meaning d offset).answer ≡ Err end_of_input
 unfolding meaning_reads
-no_meaning d offset few = ap (λ r. stated (go_on (kind_reads d offset).marks r (λ found. size_reads found d)).answer)
-    (no_kind_reads d offset few)
+no_meaning d offset few = grind (arith, no_kind_reads)
 
 -- so does an answer of a reader
 pub answers_end : {X : Type 0} (telling : Option Telling) (reads_of : List ℕ → ℕ → Outcome X) (r : Result X ImageError)
@@ -39,5 +31,4 @@ pub answers_end : {X : Type 0} (telling : Option Telling) (reads_of : List ℕ �
     → Answers telling reads_of r
     → Ends telling r
 answers_end None reads_of r short answers = tt
-answers_end (Some t) reads_of r short answers = λ honest few goes_on. sym ((answers honest).answer goes_on)
-    ∙ short t.bytes t.offset few
+answers_end (Some t) reads_of r short answers = grind arith

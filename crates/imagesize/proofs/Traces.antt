@@ -41,18 +41,12 @@ module _ (d after : List ℕ) (spans : List Span) (home there : ℕ) (r : Result
   -- and all of them were counted
   pub recorded_count : (count : ℕ) → length d < 2 ^ 63 → count ≡ min (length spans) (2 ^ 64 - 1) → length spans ≤ total spans
       → count ≡ length (meaning d 0).marks
-  recorded_count count short counted seen =
-      omega (arith, counted, seen, short, ap length recorded_marks, ap total recorded_marks, cost_within d 0)
+  recorded_count count short counted seen = grind (arith, recorded_marks, cost_within)
 
   -- the buffer holds as many of them as it has elements
   pub recorded_spans : (buffer new : List Span) (count : ℕ) → count ≡ length (meaning d 0).marks
       → take (length spans) buffer ≡ take (length buffer) spans → new ≡ buffer → take count new ≡ take (length new) (meaning d 0).marks
-  recorded_spans buffer new count is written same =
-      ap (λ xs. take count xs) same
-      ∙ ap (λ n. take n buffer) (is ∙ sym (ap length recorded_marks))
-      ∙ written
-      ∙ ap (λ xs. take (length buffer) xs) recorded_marks
-      ∙ ap (λ xs. take (length xs) (meaning d 0).marks) (sym same)
+  recorded_spans buffer new count is written same = grind (arith, same, recorded_marks)
 
   -- type and size are those of the layouts
   pub recorded_kind : (kind : Option ImageType) → FindsKind (recording_state d [] home) 0 kind r → kind ≡ result_ok (kind_of d 0).answer

@@ -1,6 +1,5 @@
 -- What known parts tell of each input that has them.
 use Rattle.std.proofs.Common.{◌≡◌, ℕ, suc, ◌^◌, ◌+◌, ◌-◌, ◌<◌, ◌≤◌, Bool, true, false, ◌||◌, ◌&&◌, ◌⊎◌, cond, leb, List, [], ◌∷◌, ◌++◌, drop, slice_index, Option, None, Some, is_some, Result, Ok, Err, inl, inr, refl, sym, ap, ◌∙◌, subst, arith}
-use Rattle.std.specs.List.{list_any}
 use Rattle.std.specs.Prelude.{option_map, unwrap_or}
 use Rattle.std.proofs.lemmas.Bool.{cases_lt, or_left, or_right}
 use Rattle.std.specs.Option.{ForSome}
@@ -21,7 +20,7 @@ use Rattle.imagesize_source.specs.Agreement.{Agrees, EndsBetween, IsLocal, Parti
 use Rattle.imagesize_source.specs.Input.{span_at}
 use Rattle.imagesize_source.specs.Known.{AllKnown, HasParts, Lacks, byte_in_parts, byte_of, filled_input, length_within, reaches, parts_state}
 use Rattle.imagesize_source.specs.Errors.{is_stopped as is_stopped_error}
-use Rattle.imagesize_source.specs.Halts.{error_of, with_error}
+use Rattle.imagesize_source.specs.Halts.{with_error}
 use Rattle.imagesize_source.specs.Outcome.{outcome_of, stated}
 use Rattle.imagesize_source.specs.Reading.{Reads, go_on, is_faulted}
 use Rattle.imagesize_source.proofs.Halts.{stated_ok, stated_same}
@@ -45,8 +44,7 @@ pub record Called {X : Type 0} (f : List ℕ → Reads X) (n : ℕ) (spans : Lis
   pub lacks : ForSome missed (Lacks n spans bytes)
 
 logged : (a b : State) (s t : List Span) → a ≡ b → a.recorded ≡ Some s → b.recorded ≡ Some t → s ≡ t
-logged a b s t e here there = let same : ◌≡◌ {A = Option (List Span)} (Some s) (Some t) = sym here
-    ∙ ap (λ (x : State). x.recorded) e ∙ there in (cc)
+logged a b s t e here there = grind arith
 
 is_short : (n : ℕ) → n < 2 ^ 63 → (parts_state n [] [] [] None).held.honest ≡ true
 is_short n short = grind (arith, nat_tests)
@@ -67,11 +65,7 @@ filled_known n spans bytes = record {
 -- and so has one that has the parts
 pub parts_known : (d : List ℕ) (n : ℕ) (spans : List Span) (bytes : List ℕ) → HasParts d n spans bytes
     → HasKnown d n spans bytes
-parts_known d n spans bytes has = record {
-  as_long = has.as_long;
-  known = λ offset byte is. has_known d spans bytes offset byte has.bytes
-      (ap (λ m. byte_in_parts m spans bytes offset) has.as_long ∙ is);
-}
+parts_known d n spans bytes has = grind (arith, has_known)
 
 -- an offset that is known is one of a span
 known_covered : (n : ℕ) (spans : List Span) (bytes : List ℕ) (offset : ℕ)
@@ -89,10 +83,7 @@ known_covered n (s ∷ spans) bytes offset is =
 pub known_where_covered : (d : List ℕ) (n : ℕ) (spans : List Span) (bytes : List ℕ) (offset : ℕ)
     → HasParts d n spans bytes → offset < n
     → is_some (byte_in_parts n spans bytes offset) ≡ is_covered spans offset
-known_where_covered d n spans bytes offset has below = by_test (is_some (byte_in_parts n spans bytes offset)) refl where
-  by_test : (test : Bool) → is_some (byte_in_parts n spans bytes offset) ≡ test → test ≡ is_covered spans offset
-  by_test true is = sym (known_covered n spans bytes offset is)
-  by_test false is = sym (unknown_free d n spans bytes offset has below is)
+known_where_covered d n spans bytes offset has below = grind (arith, known_covered, unknown_free)
 
 some_byte : (o : Option ℕ) → is_some o ≡ true → (byte : ℕ) × (o ≡ Some byte)
 some_byte None is = absurd cc
@@ -108,10 +99,7 @@ same_known d n spans bytes offset has is =
 
 agrees_known : (d : List ℕ) (n : ℕ) (spans : List Span) (bytes : List ℕ) (marks : List Span) → HasKnown d n spans bytes
     → AllKnown n spans bytes marks → Agrees (filled_input n spans bytes) d marks
-agrees_known d n spans bytes marks has all = record {
-  as_long = has.as_long ∙ sym (length-filled_input n spans bytes);
-  same_byte = λ offset here. same_known d n spans bytes offset has (all offset here);
-}
+agrees_known d n spans bytes marks has all = grind (arith, length-filled_input, same_known)
 
 -- A property of the answer: it holds if it holds for what was found, and for what a failed read missed.
 by_fault : {X T : Type 0} {f : List ℕ → Reads X} {n : ℕ} {spans : List Span} {bytes : List ℕ} {log : List Span}
@@ -120,13 +108,8 @@ by_fault : {X T : Type 0} {f : List ℕ → Reads X} {n : ℕ} {spans : List Spa
     → ((m : Missing) → Lacks n spans bytes m → Misses (parts_state n spans bytes [] None)
     (parts_state n spans bytes log (Some m)) (f (filled_input n spans bytes)).marks m → P (Wanted (wanted_of texts m)))
     → P (found_or_wanted found (option_map (wanted_of texts) (cond (is_faulted r) missed None)))
-by_fault {f = f} {n = n} {spans = spans} {bytes = bytes} {log = log} {missed = missed} {r = r} P found texts short call
-    answered missing = by_test (is_faulted r) refl missed call where
-      by_test : (test : Bool) → is_faulted r ≡ test → (m : Option Missing) → Called f n spans bytes log m r
-          → P (found_or_wanted found (option_map (wanted_of texts) (cond test m None)))
-      by_test true faults None c = absurd (c.runs.misses (is_short n short) faults).told
-      by_test true faults (Some m) c = missing m (c.lacks m refl) (c.runs.misses (is_short n short) faults).told
-      by_test false no_fault m c = answered no_fault
+by_fault {f = f} {n = n} {spans = spans} {bytes = bytes} {log = log} {missed = missed} {r = r} P found texts short call answered missing =
+    grind (arith, is_short)
 
 module _ {X : Type 0} (texts : Bool) (f : List ℕ → Reads X) (is_local : IsLocal texts f) (d : List ℕ) (n : ℕ)
     (spans : List Span) (bytes : List ℕ)
@@ -239,25 +222,14 @@ pub type_wanted : (d : List ℕ) (n : ℕ) (spans : List Span) (bytes : List ℕ
     → Wants false (kind_of d 0).marks n spans bytes w
     → Wants (texts_of d) (meaning d 0).marks n spans bytes w
 unfolding meaning_reads
-type_wanted d n spans bytes w wants =
-    let first : List Span = (kind_reads d 0).marks in
-    let more = marks_onward first (kind_reads d 0).answer (λ found. size_reads found d) in (
-      ap (λ s. is_covered s w.start) more.1 ∙ covered-left first more.0 w.start wants.0,
-      wants.1,
-      λ _. ap (λ s. has_whole s w) more.1
-          ∙ any_left (λ s. leb s.start w.start && leb (w.start + w.len) (s.start + s.len)) first more.0
-          (wants.2 refl),
-    )
+type_wanted d n spans bytes w wants = grind (arith, marks_onward, covered-left, any_left)
 
 -- an input without a type has no size, by the same error
 no_size : (d : List ℕ) (k : Result ImageType Halt) (e : ImageError) → k ≡ (kind_reads d 0).answer → Err e ≡ stated k
     → Err e ≡ stated (meaning_reads d 0).answer
 unfolding meaning_reads
 no_size d (Ok type) e same is = absurd cc
-no_size d (Err halt) e same is =
-    let one : e ≡ error_of halt = cc in
-    let refused : ◌≡◌ {A = Result ImageSize ImageError} (Err e) (Err (error_of halt)) = ap Err one in
-    refused ∙ ap (λ r. stated (go_on (kind_reads d 0).marks r (λ found. size_reads found d)).answer) same
+no_size d (Err halt) e same is = grind arith
 
 -- a type that is refused is none
 pub type_refused : (d : List ℕ) (e : ImageError) → ◌≡◌ {A = Result ImageType ImageError} (Err e) (kind_of d 0).answer
@@ -274,11 +246,7 @@ pub type_sized : (d : List ℕ) (n : ℕ) (spans : List Span) (bytes : List ℕ)
     → SaysOf (has_texts type) (size_of type d) n spans bytes answer
     → Says (texts_of d) (IsProbed d) (meaning d 0).marks n spans bytes (with_type type answer)
 unfolding meaning_reads
-type_sized d n spans bytes type (Found answer) is says =
-    let found = stated_ok (kind_reads d 0).answer type (sym is) in (
-      ap (λ (r : Result ImageType ImageError). result_ok r) is,
-      says ∙ ap (λ r. stated (go_on (kind_reads d 0).marks r (λ found. size_reads found d)).answer) (sym found),
-    )
+type_sized d n spans bytes type (Found answer) is says = grind (arith, stated_ok, says)
 type_sized d n spans bytes type (Wanted w) is says =
     let found = stated_ok (kind_reads d 0).answer type (sym is) in
     let first : List Span = (kind_reads d 0).marks in
@@ -295,8 +263,7 @@ pub tells : {T : Type 0} (texts : Bool) (IsSo : T → Type 0) (marks : List Span
     (bytes : List ℕ)
     (answer : PartsAnswer T) → Says texts IsSo marks n spans bytes answer → AllKnown n spans bytes marks → Tells answer
 tells texts IsSo marks n spans bytes (Found found) says all = tt
-tells texts IsSo marks n spans bytes (Wanted w) says all = let no : true ≡ false = sym (all w.start says.0) ∙ says.1 in
-    cc
+tells texts IsSo marks n spans bytes (Wanted w) says all = grind (arith, says)
 
 -- a failure is never found
 pub unstopped : {X : Type 0} (f : List ℕ → Reads X) (n : ℕ) (spans : List Span) (bytes : List ℕ) (texts : Bool)
@@ -307,9 +274,7 @@ pub unstopped : {X : Type 0} (f : List ℕ → Reads X) (n : ℕ) (spans : List 
     (option_map (wanted_of texts) (cond (is_faulted r) missed None)))
     (λ answer. is_stopped_error answer ≡ false)
 unstopped f n spans bytes texts log missed failure budget r short call =
-    by_fault (λ a. IfFound a (λ answer. is_stopped_error answer ≡ false)) (with_error failure budget r) texts short call
-    (λ no_fault. slice_unstopped failure budget r (only_fault r (f (filled_input n spans bytes)) refl call.runs no_fault))
-    (λ m lacks is. tt)
+    grind (arith, by_fault, slice_unstopped, only_fault)
 
 -- over the filled input, all that a read requests reaches to the end of its span
 pub reaches_end : {X : Type 0} (f : List ℕ → Reads X) (n : ℕ) (spans : List Span) (bytes : List ℕ) (texts : Bool)
@@ -338,12 +303,7 @@ pub size_ends_of : (d : List ℕ) (type : ImageType) (answer : PartsAnswer (Resu
     → IfWanted answer (λ w. EndsBetween w.start (w.start + w.len) (meaning d 0).marks)
 unfolding meaning_reads
 size_ends_of d type (Found answer) is ends = tt
-size_ends_of d type (Wanted w) is ends =
-    let found = stated_ok (kind_reads d 0).answer type (sym is) in
-    let first : List Span = (kind_reads d 0).marks in
-    let P : Span → Bool = λ s. leb (suc w.start) (s.start + s.len) && leb (s.start + s.len) (w.start + w.len) in
-    ap (λ r. list_any P (go_on first r (λ found. size_reads found d)).marks) found
-    ∙ any_right P first (size_reads type d).marks ends
+size_ends_of d type (Wanted w) is ends = grind (arith, stated_ok, any_right)
 
 pub unstopped_type : (type : ImageType) (answer : PartsAnswer (Result ImageSize ImageError))
     → IfFound answer (λ r. is_stopped_error r ≡ false)
@@ -374,13 +334,11 @@ SaysOfEach texts f answer n spans bytes = (d : List ℕ) → HasKnown d n spans 
 pub moved : (P : ℕ → List Span → List ℕ → Type 0) (n m : ℕ) (spans others : List Span) (bytes content : List ℕ) → m ≡ n
     → others ≡ spans
     → content ≡ bytes → P m others content → P n spans bytes
-moved P n m spans others bytes content told is_spans is_bytes p =
-    subst (λ z. P n spans z) is_bytes (subst (λ y. P n y content) is_spans (subst (λ x. P x others content) told p))
+moved P n m spans others bytes content told is_spans is_bytes p = grind arith
 
 pub both_are : (s t : List Span) (xs ys : List ℕ) → ◌≡◌ {A = Option (List Span × List ℕ)} (Some (s, xs)) (Some (t, ys))
     → (s ≡ t) × (xs ≡ ys)
-both_are s t xs ys e = let is : ◌≡◌ {A = List Span × List ℕ} (s, xs) (t, ys) = cc in
-    (ap (λ (p : List Span × List ℕ). p.0) is, ap (λ (p : List Span × List ℕ). p.1) is)
+both_are s t xs ys e = grind arith
 
 pub called : {X : Type 0} (f : List ℕ → Reads X) (n m k : ℕ) (spans others given : List Span)
     (bytes content their : List ℕ)

@@ -1,10 +1,9 @@
 -- Each span that an answer rests on has a byte, and lies within the input.
-use Rattle.std.proofs.Common.{◌≡◌, ℕ, ◌+◌, ◌-◌, ◌<◌, ◌≤◌, min, eqb, List, [], ◌∷◌, ◌++◌, length, take, suc, Option, Some, None, Result, Ok, Err, ap, ◌∙◌, arith}
+use Rattle.std.proofs.Common.{◌≡◌, ℕ, ◌+◌, ◌-◌, ◌<◌, ◌≤◌, min, List, [], ◌∷◌, ◌++◌, length, take, suc, Option, Some, None, Result, Ok, Err, arith}
 use Rattle.std.specs.Prelude.{codes, flat_map}
 use Rattle.std.specs.Option.{option_map_or}
 use Rattle.std.specs.List.{range_with_len}
 use Rattle.std.proofs.Math.Seq.{take-append_seam}
-use Rattle.std.proofs.lemmas.Bool.Decides.{nat_tests}
 use Rattle.std.proofs.lemmas.List.Elements.{All-append, All-nil}
 use Rattle.std.proofs.lemmas.Grind.{common_steps}
 use Rattle.imagesize_boxes.specs.Heif.{heif, heif_in_iprp, heif_in_meta, properties, search_for}
@@ -45,10 +44,7 @@ one_within n s is = grind (arith, common_steps)
 
 span_within : (n offset count : ℕ) → (0 < count → offset + count ≤ n) → AreWithin n (span_at offset count)
 unfolding span_at
-span_within n offset count fits = on_test (AreWithin n) (eqb count 0) [] (record { start = offset; len = count } ∷ [])
-    (λ _. All-nil (IsWithin n))
-    (λ is. let some : 0 < count = grind (arith, nat_tests) in
-    one_within n (record { start = offset; len = count }) (some, fits some))
+span_within n offset count fits = grind (arith, on_test, one_within)
 
 reading_within : (d : List ℕ) (offset k : ℕ) → AreWithin (length d) (span_of d offset k)
 unfolding span_of
@@ -163,12 +159,10 @@ meaning_within d offset =
 
 -- so no reader is left past the end of its bytes
 pub meaning_ends : EndsWithin meaning_reads
-meaning_ends t = place_within (length t.bytes) 0 (length t.bytes) (meaning_reads t.bytes t.offset).marks (omega arith)
-    (λ k s below. (meaning_within t.bytes t.offset k s below).1)
+meaning_ends t = grind (arith, place_within, meaning_within)
 
 pub size_ends : (type : ImageType) → EndsWithin (λ d offset. size_reads type d)
-size_ends type t = place_within (length t.bytes) 0 (length t.bytes) (size_reads type t.bytes).marks (omega arith)
-    (λ k s below. (size_within type t.bytes k s below).1)
+size_ends type t = grind (arith, place_within, size_within)
 
 -- there are no more of them than they are long
 count_within : (n : ℕ) (spans : List Span) → AreWithin n spans → length spans ≤ total spans
@@ -184,5 +178,4 @@ marks_few d offset = omega
 
 -- those that a buffer begins with
 pub front_is : (marks new rest : List Span) (count : ℕ) → new ≡ marks → count ≡ length marks → take count (new ++ rest) ≡ marks
-front_is marks new rest count is counted = ap (λ xs. take count (xs ++ rest)) is ∙ ap (λ k. take k (marks ++ rest)) counted
-    ∙ take-append_seam marks rest
+front_is marks new rest count is counted = grind (arith, take-append_seam)

@@ -2,7 +2,7 @@
 use Rattle.std.proofs.Common.{◌≡◌, ℕ, ◌<◌, ◌≤◌, List, [], ◌∷◌, length, Ok, refl, sym, ap, ◌∙◌, subst, arith}
 use Rattle.imagesize_source.specs.Chain.{Said, Decided, Next, Chain, Advances}
 use Rattle.imagesize_source.specs.Layout.{Layout, done, refuse, field, reading, begin_record, layout_reads}
-use Rattle.imagesize_source.specs.Reading.{Reading, AllOf, PartOf, TextOf, number_at, read_of}
+use Rattle.imagesize_source.specs.Reading.{Reading, AllOf, PartOf, TextOf, read_of}
 use Rattle.imagesize_source.proofs.Extension.{bytes_ok, number_ok, onward_ok}
 use Rattle.imagesize_source.proofs.Runs.{part_is}
 use Rattle.imagesize_source.proofs.Counts.{text_length}
@@ -57,9 +57,7 @@ begins : {C X : Type 0} (d : List ℕ) (t : Layout (Said C X)) (v : C) (q p : �
 begins d (done (Decided x)) v q p h is = absurd cc
 begins d (done (Next w offset)) v q p h is = absurd h
 begins d (refuse e) v q p h is = absurd cc
-begins d (field order offset k f) v q p h is =
-    onward_ok (q < length d) _ (number_at d order offset k) _ (Next v p) is
-    (λ n got _. omega (arith, h.0, h.1, number_ok d order offset k n got))
+begins d (field order offset k f) v q p h is = grind (arith, number_ok)
 begins d (reading r offset f) v q p h is = onward_ok (q < length d) _ _ _ (Next v p) is (λ bs got told.
     let below = some_byte d r offset bs h.1 (λ none nothing. tells (λ _. ⊥) d (f []) v p nothing
     (sym (ap (λ bs. (layout_reads d (f bs)).answer) none) ∙ told)) got in omega (arith, h.0))

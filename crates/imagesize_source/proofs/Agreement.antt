@@ -1,5 +1,5 @@
 -- A layout sees an input by its readings alone.
-use Rattle.std.proofs.Common.{◌≡◌, ℕ, zero, suc, ◌+◌, ◌-◌, ◌<◌, ◌≤◌, min, Bool, true, false, ◌⊎◌, inl, inr, eqb, get_or, append_assoc, List, [], ◌∷◌, ◌++◌, length, take, Result, Ok, Err, refl, sym, ap, ◌∙◌, subst, arith}
+use Rattle.std.proofs.Common.{◌≡◌, ℕ, zero, suc, ◌+◌, ◌-◌, ◌<◌, ◌≤◌, min, Bool, true, false, ◌⊎◌, inl, inr, eqb, get_or, append_assoc, List, [], ◌∷◌, ◌++◌, length, take, Result, Ok, Err, refl, sym, ap, ◌∙◌, arith}
 use Rattle.std.proofs.lemmas.List.{append-nil, take-take}
 use Rattle.std.proofs.lemmas.Bool.Decides.{nat_tests}
 use Rattle.imagesize_source.specs.declared.halt.Halt.{Halt}
@@ -28,15 +28,11 @@ pub covered-right : (s t : List Span) (offset : ℕ) → is_covered t offset ≡
 covered-right [] t offset h = h
 covered-right (x ∷ s) t offset h = or_right (has_offset x offset) (is_covered (s ++ t) offset) (covered-right s t offset h)
 
--- inputs that agree on spans agree on the first of them
-agrees-left : {d e : List ℕ} (s t : List Span) → Agrees d e (s ++ t) → Agrees d e s
-agrees-left s t a = record { as_long = a.as_long; same_byte = λ offset h. a.same_byte offset (covered-left s t offset h) }
-
 -- an offset of a span
 pub covered-one : (offset n i : ℕ) → i < n → is_covered (span_at offset n) (offset + i) ≡ true
 unfolding span_at
 covered-one offset zero i h = absurd (omega arith)
-covered-one offset (suc n) i h = grind (arith, nat_tests)
+covered-one offset (suc n) i h = grind arith
 
 -- all of so many bytes are there
 pub whole_span : (d : List ℕ) (offset n : ℕ) → n ≤ length d - offset → span_of d offset n ≡ span_at offset n
@@ -46,7 +42,7 @@ whole_span d offset n all = let same : min n (length d - offset) ≡ n = omega a
 -- what goes on from an answer rests on its spans
 pub agrees_first : {d e : List ℕ} {X Y : Type 0} (spans : List Span) (r : Result X Halt) (f : X → Reads Y)
     → Agrees d e (go_on spans r f).marks → Agrees d e spans
-agrees_first spans (Ok x) f a = agrees-left spans (f x).marks a
+agrees_first spans (Ok x) f a = grind (arith, covered-left)
 agrees_first spans (Err e) f a = a
 
 -- ---- where two inputs part
@@ -54,8 +50,7 @@ agrees_first spans (Err e) f a = a
 -- some span has an offset that one of them has
 pub covered_one_of : (before : List Span) (mark : Span) (rest : List Span) (offset : ℕ) → has_offset mark offset ≡ true
     → is_covered (before ++ mark ∷ rest) offset ≡ true
-covered_one_of before mark rest offset is =
-    covered-right before (mark ∷ rest) offset (or_left (has_offset mark offset) (is_covered rest offset) is)
+covered_one_of before mark rest offset is = grind (arith, covered-right)
 
 -- inputs that agree do not part
 pub same_by_local : {texts : Bool} {X : Type 0} (r : List ℕ → Reads X) → IsLocal texts r → (d e : List ℕ)
@@ -232,17 +227,13 @@ parting_among before more others fewer is also x = record {
 
 pub alike_more : {X : Type 0} (texts : Bool) (d e : List ℕ) (p q : Reads X) → Alike false d e p q → Alike texts d e p q
 alike_more texts d e p q (inl same) = inl same
-alike_more texts d e p q (inr x) =
-    inr (parting_among [] [] [] (λ _. refl) (sym (append-nil p.marks)) (sym (append-nil q.marks)) x)
+alike_more texts d e p q (inr x) = grind arith
 
 -- what goes on from answers that are alike, where it is alike behind each
 pub alike_then : {texts : Bool} {X Y : Type 0} (d e : List ℕ) (p q : Reads X) (f g : X → Reads Y) → Alike texts d e p q
     → ((x : X) → p.answer ≡ Ok x → q.answer ≡ Ok x → Alike texts d e (f x) (g x))
     → Alike texts d e (and_then p f) (and_then q g)
-alike_then d e p q f g (inr parts) rest =
-    let here = marks_onward p.marks p.answer f in
-    let there = marks_onward q.marks q.answer g in
-    inr (parting_among [] here.0 there.0 (λ none. none) here.1 there.1 parts)
+alike_then d e p q f g (inr parts) rest = grind (arith, marks_onward, append_assoc)
 alike_then {texts} {X} {Y} d e p q f g (inl same) rest = rw same (by_answer p.answer refl) where
   by_answer : (r : Result X Halt) → p.answer ≡ r
       → Alike texts d e (after_records p.begun (go_on p.marks r f)) (after_records p.begun (go_on p.marks r g))
@@ -266,10 +257,7 @@ alike_layout d e (reading r offset f) read long =
     alike_then d e (read_of d r offset) (read_of e r offset) (λ bs. layout_reads d (f bs))
     (λ bs. layout_reads e (f bs)) (alike_reading d e r offset read.0 long)
     (λ bs is also. alike_layout d e (f bs) (read.1 bs) long)
-alike_layout d e (begin_record t) read long = elim (alike_layout d e t read long) [
-  | inl same ↦ inl (ap (after_records 1) same)
-  | inr parts ↦ inr parts
-]
+alike_layout d e (begin_record t) read long = grind (arith, (alike_layout d e t read long))
 
 pub local_layout : {texts : Bool} {X : Type 0} (t : Layout X) → AllRead texts t → IsLocal texts (λ d. layout_reads d t)
 local_layout t read d e long = alike_layout d e t read long
@@ -277,11 +265,9 @@ local_layout t read d e long = alike_layout d e t read long
 -- readings behind readings
 pub local_then : {texts : Bool} {X Y : Type 0} (r : List ℕ → Reads X) (f : X → List ℕ → Reads Y) → IsLocal texts r
     → ((x : X) → IsLocal texts (f x)) → IsLocal texts (λ d. and_then (r d) (λ x. f x d))
-local_then r f first rest d e long = alike_then d e (r d) (r e) (λ x. f x d) (λ x. f x e) (first d e long)
-    (λ x is also. rest x d e long)
+local_then r f first rest d e long = grind (arith, alike_then)
 
 -- readings that take the length of the input
 pub local_length : {texts : Bool} {X : Type 0} (f : ℕ → List ℕ → Reads X) → ((n : ℕ) → IsLocal texts (f n))
     → IsLocal texts (λ d. f (length d) d)
-local_length {texts} f each d e long =
-    subst (λ n. Alike texts d e (f (length d) d) (f n e)) (sym long) (each (length d) d e long)
+local_length {texts} f each d e long = grind (arith)

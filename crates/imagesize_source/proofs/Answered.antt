@@ -1,8 +1,6 @@
 -- What readings found that were answered.
-use Rattle.std.proofs.Common.{◌≡◌, ℕ, ◌+◌, ◌-◌, ◌*◌, ◌<◌, leb, true, List, length, slice_index, Ok, ap, ◌∙◌, arith}
+use Rattle.std.proofs.Common.{◌≡◌, ℕ, ◌+◌, ◌*◌, ◌<◌, List, length, slice_index, Ok, ap, ◌∙◌, arith}
 use Rattle.std.proofs.Math.Nat.{add-zero}
-use Rattle.std.proofs.lemmas.Bool.{le-leb}
-use Rattle.std.proofs.lemmas.Bool.Decides.{nat_tests}
 use Rattle.imagesize_source.specs.declared.endian.Endian.{Endian}
 use Rattle.imagesize_source.specs.declared.endian.Endian.TheVariants.{Big}
 use Rattle.imagesize_source.specs.Input.{part}
@@ -16,15 +14,13 @@ use Rattle.imagesize_source.proofs.Parts.{part_at, part_length}
 -- the bytes that are read
 pub bytes_is : (d bs : List ℕ) (offset k : ℕ) → bytes_at d offset k ≡ Ok bs → part d offset k ≡ bs
 unfolding bytes_at
-bytes_is d bs offset k is = grind (arith, nat_tests)
+bytes_is d bs offset k is = grind arith
 
 -- and their number
 pub number_is : (d : List ℕ) (order : Endian) (offset k v : ℕ) → number_at d order offset k ≡ Ok v
     → number order (part d offset k) ≡ v
 unfolding number_at bytes_at
-number_is d order offset k v is =
-    let test : leb k (length d - offset) ≡ true = le-leb k (length d - offset) (number_ok d order offset k v is) in
-    let got = rw test at is in cc
+number_is d order offset k v is = grind arith
 
 pub part_first : (d : List ℕ) (offset k : ℕ) → 0 < k → slice_index (part d offset k) 0 ≡ slice_index d offset
 part_first d offset k some = part_at d offset k 0 some ∙ ap (slice_index d) (add-zero offset)
@@ -36,11 +32,4 @@ pair = byte_by_byte 2 (λ bs. number Big bs ≡ 256 * slice_index bs 0 + slice_i
 -- the number of two bytes, the highest first
 pub big_pair : (d : List ℕ) (offset v : ℕ) → number_at d Big offset 2 ≡ Ok v
     → v ≡ 256 * slice_index d offset + slice_index d (offset + 1)
-big_pair d offset v is =
-    let all = number_ok d Big offset 2 v is in
-    let long = part_length d offset 2 in
-    let two = pair (part d offset 2) (omega arith) in
-    let high = part_first d offset 2 (omega arith) in
-    let low = part_at d offset 2 1 (omega arith) in
-    let got = number_is d Big offset 2 v is in
-    omega arith
+big_pair d offset v is = grind (arith, number_ok, part_length, pair, part_at, number_is)

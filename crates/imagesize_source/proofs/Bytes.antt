@@ -19,20 +19,13 @@ first_four (a ∷ b ∷ c ∷ d ∷ rest) h = big_4 (a ∷ b ∷ c ∷ d ∷ [])
 pub last_two : (bs : List ℕ) → length bs ≡ 8
     → from_be_bytes w16 (slice_index_or bs 6 0 ∷ slice_index_or bs 7 0 ∷ []) ≡ number Big
     (drop 6 bs)
-last_two bs is = on_eight bs (are_eight bs is) where
-  on_eight : (bs : List ℕ) → Eight bs
-      → from_be_bytes w16 (slice_index_or bs 6 0 ∷ slice_index_or bs 7 0 ∷ []) ≡ number Big (drop 6 bs)
-  on_eight bs (eight a b c d e f g h) = big_2 (g ∷ h ∷ []) refl
+last_two bs is = grind (arith, eight, big_2)
 
 -- the number of the last four of eight bytes
 pub last_four : (bs : List ℕ) → length bs ≡ 8
     → from_be_bytes w32 (slice_index_or bs 4 0 ∷ slice_index_or bs 5 0 ∷ slice_index_or bs 6 0
     ∷ slice_index_or bs 7 0 ∷ []) ≡ number Big (drop 4 bs)
-last_four bs is = on_eight bs (are_eight bs is) where
-  on_eight : (bs : List ℕ) → Eight bs
-      → from_be_bytes w32 (slice_index_or bs 4 0 ∷ slice_index_or bs 5 0 ∷ slice_index_or bs 6 0
-      ∷ slice_index_or bs 7 0 ∷ []) ≡ number Big (drop 4 bs)
-  on_eight bs (eight a b c d e f g h) = big_4 (e ∷ f ∷ g ∷ h ∷ []) refl
+last_four bs is = grind (arith, eight, big_4)
 
 -- the last four of eight bytes
 pub the_last_four : (bs : List ℕ) → length bs ≡ 8

@@ -73,10 +73,7 @@ module _ {C X : Type 0} (c : Chain C X) (d : List ℕ) where
 
   first_there : (t : Along C) (v : C) (offset k : ℕ) → (next_record c d t).answer ≡ Ok (Next v offset)
       → first t (suc k) ≡ 1 + first (record { held = t.held ++ v ∷ []; offset = offset }) k
-  first_there t v offset k is =
-      let u : Along C = record { held = t.held ++ v ∷ []; offset = offset } in
-      rw is (ap (λ n. 1 + n) (position_shift (λ i. is_some (verdict_of c d t i)) (λ i. is_some (verdict_of c d u i)) 0 k
-      (λ i. rw (add-one, trail_next t u i (ap (leads t.held) is)) refl)))
+  first_there t v offset k is = grind (arith, position_shift, trail_next)
 
   -- a chain that advances has a deciding record before the end and one
   found : Advances c d → (t : Along C) (k : ℕ) → length d ≤ t.offset + k → first t (suc k) < suc k
@@ -120,8 +117,7 @@ module _ {C X : Type 0} (c : Chain C X) (d : List ℕ) where
   pub chain_stop : (t : Along C) (r : Result X Halt) → verdict (next_record c d t).answer ≡ Some r
       → chain_from c d t ≡ with_answer r (next_record c d t)
   unfolding chain_from
-  chain_stop t r is =
-      rw (deciding-is t ∙ first_here t r (length d) is, is, append-nil, sum_by-cons (begun_of c d t), add-zero) refl
+  chain_stop t r is = grind (arith, deciding-is, first_here, append-nil, add-zero)
 
   -- what follows a record
   abbrev pub follows : List C → Said C X → Reads X

@@ -1,5 +1,5 @@
 -- How many bytes are read, and how many offsets are seen.
-use Rattle.std.proofs.Common.{◌≡◌, ℕ, zero, suc, ◌+◌, ◌-◌, ◌*◌, ◌<◌, ◌≤◌, min, max, Bool, true, false, cond, ◌||◌, List, [], ◌∷◌, length, get_or, Result, Ok, Err, refl, ap, ◌∙◌, arith}
+use Rattle.std.proofs.Common.{◌≡◌, ℕ, zero, suc, ◌+◌, ◌-◌, ◌*◌, ◌<◌, ◌≤◌, min, max, Bool, true, false, cond, ◌||◌, List, [], ◌∷◌, length, get_or, Ok, refl, ap, ◌∙◌, arith}
 use Rattle.std.proofs.Math.Nat.{add-zero, mul-add}
 use Rattle.std.proofs.lemmas.Bool.Decides.{nat_tests}
 use Rattle.std.proofs.lemmas.List.Sums.{sum_by-cons, sum_by-le-sum_by}
@@ -8,14 +8,13 @@ use Rattle.std.specs.List.{range_with_len}
 use Rattle.imagesize_source.proofs.Agreement.{span-some}
 use Rattle.imagesize_source.proofs.Runs.{total-append}
 use Rattle.imagesize_source.proofs.Texts.{front_length}
-use Rattle.imagesize_source.specs.declared.halt.Halt.{Halt}
 use Rattle.imagesize_source.specs.declared.span.Span.{Span}
 use Rattle.imagesize_source.specs.declared.text.Text.{Text}
 use Rattle.imagesize_source.specs.Agreement.{has_offset, is_covered}
 use Rattle.imagesize_source.specs.Counts.{offsets, AtMost, Each, IfBytes}
 use Rattle.imagesize_source.specs.Input.{part, span_at, span_of}
 use Rattle.imagesize_source.specs.Layout.{Layout, done, refuse, field, reading, begin_record, layout_reads, bind}
-use Rattle.imagesize_source.specs.Reading.{Reads, Reading, AllOf, PartOf, TextOf, after_records, and_then, go_on, plus, number_read, text_part, read_of, most}
+use Rattle.imagesize_source.specs.Reading.{Reads, Reading, AllOf, PartOf, TextOf, and_then, plus, number_read, text_part, read_of, most}
 use Rattle.imagesize_source.specs.State.{State, state_after, step, total, new_bytes, front_after, place_after, place_by}
 use Rattle.imagesize_source.proofs.Marks.{plus-is}
 use Rattle.imagesize_source.proofs.Parts.{part_length}
@@ -47,9 +46,7 @@ text_length d t offset k = front_length t (part d offset k)
 pub total_reading : (d : List ℕ) (r : Reading) (offset : ℕ) → total (read_of d r offset).marks ≤ most r
 total_reading d (AllOf k) offset = total-span_of d offset k
 total_reading d (PartOf k) offset = total-span_of d offset k
-total_reading d (TextOf t k) offset =
-    let few = text_length d t offset k in
-    omega (arith, total-span_at offset (length (text_part d t offset k)), part_length d offset k)
+total_reading d (TextOf t k) offset = grind (arith, text_length, total-span_at, part_length)
 
 -- what is owed of a reading of bytes
 pub of_bytes : {P : Type 0} (r : Reading) → IfBytes r P → P
@@ -65,17 +62,10 @@ Bounded outside each r = total r.marks ≤ outside + each * r.begun
 pub each_plus : (each k n : ℕ) → each * plus k n ≡ each * k + each * n
 each_plus each k n = ap (λ m. each * m) (plus-is k n) ∙ mul-add each k n
 
-onward_bounded : {X Y : Type 0} (each j k begun : ℕ) (spans : List Span) (r : Result X Halt) (f : X → Reads Y)
-    → total spans ≤ j + each * begun → ((x : X) → r ≡ Ok x → Bounded k each (f x))
-    → Bounded (j + k) each (after_records begun (go_on spans r f))
-onward_bounded each j k begun spans (Ok x) f here rest =
-    omega (arith, here, rest x refl, total-append spans (f x).marks, each_plus each begun (f x).begun)
-onward_bounded each j k begun spans (Err e) f here rest = omega (arith, here, each_plus each begun 0)
-
 -- readings behind readings
 pub bounded_then : {X Y : Type 0} (each j k : ℕ) (r : Reads X) (f : X → Reads Y) → Bounded j each r
     → ((x : X) → r.answer ≡ Ok x → Bounded k each (f x)) → Bounded (j + k) each (and_then r f)
-bounded_then each j k r f here rest = onward_bounded each j k r.begun r.marks r.answer f here rest
+bounded_then each j k r f here rest = grind (arith, total-append, each_plus)
 
 -- readings behind readings are at most as many as both
 pub then_within : {X Y : Type 0} (r : Reads X) (f : X → Reads Y) (j k : ℕ) → total r.marks ≤ j
@@ -104,8 +94,7 @@ bounded_layout each k d t few = omega (arith, at_most d k t few)
 -- a record that asks for at most so many bytes, or the end of a list
 pub bounded_each : {X : Type 0} (each : ℕ) (d : List ℕ) (t : Layout X) → Each each t
     → Bounded 0 each (layout_reads d t)
-bounded_each each d (begin_record t) few =
-    omega (arith, at_most d each t few, each_plus each 1 (layout_reads d t).begun)
+bounded_each each d (begin_record t) few = grind (arith, at_most)
 bounded_each each d (done x) few = omega arith
 bounded_each each d (refuse e) few = omega arith
 bounded_each each d (field order offset n f) few = bounded_layout each 0 d (field order offset n f) few
@@ -158,8 +147,7 @@ tests_fewer b c h = grind arith
 
 -- what fewer offsets have is counted no more often
 pub count_fewer : (p q : ℕ → Bool) (xs : List ℕ) → ((x : ℕ) → p x ≡ true → q x ≡ true) → count_by p xs ≤ count_by q xs
-count_fewer p q xs h =
-    sum_by-le-sum_by (λ x. cond (p x) 1 0) (λ x. cond (q x) 1 0) xs (λ x. tests_fewer (p x) (q x) (h x))
+count_fewer p q xs h = grind (arith, sum_by-le-sum_by)
 
 count_span : (s : Span) (a n : ℕ) → count_by (has_offset s) (range_with_len a n) ≤ (s.start + s.len) - max a s.start
 count_span s a zero = omega arith
@@ -240,7 +228,4 @@ place_within n front place (s ∷ spans) near ends =
 pub offsets_past : (n : ℕ) (a : State) (spans : List Span) → a.frame.counts ≡ true → a.front ≡ 0
     → offsets n spans + a.taken
     ≤ (state_after a spans).taken
-offsets_past n a spans counts none =
-    let fewer = count_fewer (is_covered spans) (is_covered (front_span a ∷ spans)) (range_with_len 0 n)
-    (λ at h. or_right (has_offset (front_span a) at) (is_covered spans at) h) in
-    omega (arith, covers_past n a spans counts)
+offsets_past n a spans counts none = grind (arith, or_right, covers_past)

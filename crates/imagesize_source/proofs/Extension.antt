@@ -1,20 +1,18 @@
 -- What bytes behind an input change of the answer of a layout: nothing, where no reading was cut.
-use Rattle.std.proofs.Common.{◌≡◌, ℕ, zero, suc, ◌-◌, ◌<◌, ◌≤◌, min, true, false, leb, List, ◌++◌, length, take, drop, Result, Ok, Err, inl, inr, refl, sym, ap, ◌∙◌, arith}
+use Rattle.std.proofs.Common.{◌≡◌, ℕ, zero, suc, ◌-◌, ◌<◌, ◌≤◌, min, false, List, ◌++◌, length, take, drop, Result, Ok, Err, inl, inr, refl, sym, ap, ◌∙◌, arith}
 use Rattle.std.proofs.lemmas.Bool.{cases_Bool, cases_lt}
-use Rattle.std.proofs.lemmas.Bool.Decides.{leb_tells, nat_tests}
 use Rattle.std.proofs.lemmas.List.{length-append, length-drop, drop-append-le, take-append-drop, take-append-le}
 use Rattle.imagesize_source.specs.declared.halt.Halt.{Halt}
 use Rattle.imagesize_source.specs.declared.span.Span.{Span}
 use Rattle.imagesize_source.specs.declared.text.Text.{Text}
 use Rattle.imagesize_source.specs.Text.{is_ended, text_front}
-use Rattle.imagesize_source.proofs.Runs.{part_is}
 use Rattle.imagesize_source.proofs.Texts.{front_all, front_any, front_more}
 use Rattle.imagesize_source.specs.declared.endian.Endian.{Endian}
 use Rattle.imagesize_source.specs.Input.{part, span_at, span_of}
 use Rattle.imagesize_source.specs.Layout.{Layout, done, refuse, field, reading, begin_record, layout_reads}
 use Rattle.imagesize_source.specs.Numbers.{number}
 use Rattle.imagesize_source.specs.Extension.{Plain, Never, WhereCut}
-use Rattle.imagesize_source.specs.Reading.{Reads, after_records, and_then, just, number_read, Reading, AllOf, PartOf, TextOf, go_on, bytes_at, number_at, text_part, read_of, map_answer}
+use Rattle.imagesize_source.specs.Reading.{Reads, after_records, and_then, number_read, Reading, AllOf, PartOf, TextOf, go_on, bytes_at, number_at, text_part, read_of, map_answer}
 use Rattle.imagesize_source.proofs.Parts.{part_front, part_length, part_whole}
 
 -- bytes behind the input are not among those that are all there
@@ -34,22 +32,15 @@ span_more d x offset k h = ap (span_at offset) (omega (arith, length-append d x,
 -- all of k bytes are there where their reading is answered
 pub bytes_ok : (d a : List ℕ) (offset k : ℕ) → bytes_at d offset k ≡ Ok a → k ≤ length d - offset
 unfolding bytes_at
-bytes_ok d a offset k is = grind (arith, nat_tests)
+bytes_ok d a offset k is = grind arith
 
 pub number_ok : (d : List ℕ) (order : Endian) (offset k v : ℕ) → number_at d order offset k ≡ Ok v → k ≤ length d - offset
 unfolding number_at bytes_at
-number_ok d order offset k v is = elim (leb_tells k (length d - offset)) [
-  | inl there ↦ there.1
-  | inr short ↦ absurd (let no = rw short.0 at is in cc)
-]
+number_ok d order offset k v is = grind (arith)
 
 pub bytes_more : (d x : List ℕ) (offset k : ℕ) → k ≤ length d - offset → bytes_at (d ++ x) offset k ≡ bytes_at d offset k
 unfolding bytes_at
-bytes_more d x offset k h =
-    let long = length-append d x in
-    let here : leb k (length d - offset) ≡ true = grind (arith, nat_tests) in
-    let after : leb k (length (d ++ x) - offset) ≡ true = grind (arith, nat_tests) in
-    rw (here, after, part_more d x offset k h) refl
+bytes_more d x offset k h = grind (arith, length-append, part_more)
 
 pub number_more : (d x : List ℕ) (order : Endian) (offset k : ℕ) → k ≤ length d - offset
     → number_at (d ++ x) order offset k ≡ number_at d order offset k
@@ -104,26 +95,15 @@ otherwise P Q (TextOf t k) bs h = h.1
 -- bytes behind the input do not change a reading that was answered and not cut
 reading_more : (P Q : Type 0) (d x : List ℕ) (r : Reading) (offset : ℕ) (bs : List ℕ) → (P → ⊥) → WhereCut r bs P Q
     → (read_of d r offset).answer ≡ Ok bs → read_of (d ++ x) r offset ≡ read_of d r offset
-reading_more P Q d x (AllOf k) offset bs not_cut h is =
-    let all = bytes_ok d bs offset k is in
-    rw (span_more d x offset k all, bytes_more d x offset k all) refl
-reading_more P Q d x (PartOf k) offset bs not_cut h is = elim (cases_lt (length d - offset) k) [
-  | inr all ↦ rw (span_more d x offset k all, part_more d x offset k all) refl
-  | inl some_missing ↦ absurd
-      (not_cut (h.0 (omega (arith, some_missing, part_length d offset k, ap length (part_is is)))))
-]
-reading_more P Q d x (TextOf t k) offset bs not_cut h is =
-    let got : text_part d t offset k ≡ bs = part_is is in
-    ap (λ bs. just (Ok bs) (span_at offset (length bs)))
-    (text_more d x t offset k
-    (λ open_end few. not_cut (h.0 (ap (is_ended t) (sym got) ∙ open_end) (omega (arith, few, ap length got)))))
+reading_more P Q d x (AllOf k) offset bs not_cut h is = grind (arith, bytes_ok, span_more, bytes_more)
+reading_more P Q d x (PartOf k) offset bs not_cut h is = grind (arith, span_more, part_more, part_length)
+reading_more P Q d x (TextOf t k) offset bs not_cut h is = grind (arith, text_more)
 
 -- what goes on is the same, where the readings are so whose answer it goes on from
 pub onward_more : {X Y : Type 0} (r r' : Reads X) (f g : X → Reads Y) (y : Y) → (and_then r f).answer ≡ Ok y
     → ((x : X) → r.answer ≡ Ok x → (f x).answer ≡ Ok y → r' ≡ r) → ((x : X) → (f x).answer ≡ Ok y → g x ≡ f x)
     → and_then r' g ≡ and_then r f
-onward_more r r' f g y is same rest = onward_ok (and_then r' g ≡ and_then r f) r.marks r.answer f y is
-    (λ x ok ends. rw (same x ok ends, ok, rest x ends) refl)
+onward_more r r' f g y is same rest = grind arith
 
 -- Extension: where a plain layout has an answer, it has it over the input and any bytes behind it, with the same marks.
 pub more : {X : Type 0} (d x : List ℕ) (t : Layout X) (v : X) → Plain t → (layout_reads d t).answer ≡ Ok v

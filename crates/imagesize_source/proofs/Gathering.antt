@@ -1,5 +1,5 @@
 -- How known bytes are gathered, from one part after another.
-use Rattle.std.proofs.Common.{◌≡◌, ℕ, suc, ◌+◌, ◌-◌, ◌<◌, ◌≤◌, min, true, false, ◌&&◌, leb, List, ◌∷◌, ◌++◌, length, take, drop, get_or, slice_index, Some, is_some, inl, inr, refl, sym, ap, ◌∙◌, subst, arith, add-one, add-zero}
+use Rattle.std.proofs.Common.{◌≡◌, ℕ, suc, ◌+◌, ◌-◌, ◌<◌, ◌≤◌, min, true, false, ◌&&◌, leb, List, ◌++◌, length, take, drop, get_or, slice_index, Some, is_some, inl, inr, sym, ap, ◌∙◌, subst, arith, add-one}
 use Rattle.std.specs.Prelude.{unwrap_or}
 use Rattle.std.proofs.lemmas.Bool.{cases_lt, cond-true}
 use Rattle.std.proofs.lemmas.Bool.Decides.{nat_tests}
@@ -8,14 +8,13 @@ use Rattle.std.proofs.Math.Seq.{drop-cons, take-add, take-append_seam}
 use Rattle.imagesize_source.specs.declared.span.Span.{Span}
 use Rattle.imagesize_source.specs.Input.{part}
 use Rattle.imagesize_source.specs.Known.{byte_of, filled_input, byte_in_parts, reaches, length_within}
-use Rattle.imagesize_source.proofs.Known.{byte_there, filled_at, known_below, length-filled_input}
+use Rattle.imagesize_source.proofs.Known.{filled_at, known_below, length-filled_input}
 use Rattle.imagesize_source.proofs.Parts.{part_length, part_at}
 
 -- a part goes on with the next one
 part_more : (d : List ℕ) (offset i n : ℕ) → part d offset (i + n) ≡ part d offset i ++ part d (offset + i) n
 unfolding part
-part_more d offset i n = take-add i n (drop offset d)
-    ∙ ap (λ xs. take i (drop offset d) ++ take n xs) (drop-drop i offset d)
+part_more d offset i n = grind (arith, take-add, drop-drop)
 
 -- the byte at an offset of the filled input, where it is known
 known_byte : (n : ℕ) (spans : List Span) (bytes : List ℕ) (offset b : ℕ) → byte_in_parts n spans bytes offset ≡ Some b
@@ -92,26 +91,19 @@ module _ (n : ℕ) (spans : List Span) (bytes front : List ℕ)
 -- ---- one part after another
 
 module _ (n : ℕ) (spans : List Span) (k : ℕ) (other : Span) (rest : List ℕ) (offset : ℕ) (here : k < length spans) where
-  -- what is known from one part on
-  known_turn : byte_in_parts n (drop k spans) rest offset ≡ byte_in_parts n (get_or spans k other ∷ drop (k + 1) spans) rest offset
-  known_turn = rw (drop-cons spans k other here, add-one) refl
-
   -- a part that has the offset gives its byte
   known_here : reaches n (get_or spans k other) offset ≡ true
       → byte_in_parts n (drop k spans) rest offset ≡ byte_of rest (offset - (get_or spans k other).start)
-  known_here has = known_turn ∙ cond-true _ _ _ has
+  known_here has = grind (arith, drop-cons, add-one, cond-true)
 
 -- the bytes of a part of some bytes
 front_known : (rest : List ℕ) (offset most i : ℕ) → i < length (part rest offset most)
     → byte_of rest (offset + i) ≡ Some (get_or (part rest offset most) i 0)
-front_known rest offset most i below =
-    let long = part_length rest offset most in
-    byte_there rest (offset + i) (omega (arith, below, long)) ∙ ap Some (sym (part_at rest offset most i (omega (arith, below, long))))
+front_known rest offset most i below = grind (arith, part_length, part_at)
 
 front_none : (rest : List ℕ) (offset most : ℕ) → 0 < most → length (part rest offset most) ≡ 0
     → is_some (byte_of rest offset) ≡ false
-front_none rest offset most some none =
-    let far : length rest ≤ offset = omega (arith, some, none, part_length rest offset most) in grind (arith, nat_tests)
+front_none rest offset most some none = grind (arith, part_length)
 
 -- the parts before one have none of so many offsets from one on
 abbrev pub NoneBefore : ℕ → List Span → ℕ → List ℕ → List ℕ → ℕ → ℕ → Type 0
@@ -136,17 +128,10 @@ module _ (n : ℕ) (spans : List Span) (k : ℕ) (other : Span) (bytes rest run 
 
   -- the run is what is known from the offset on, and it is empty only if nothing is
   pub found_run : (i : ℕ) → i < length run → byte_in_parts n spans bytes (offset + i) ≡ Some (get_or run i 0)
-  found_run i below =
-      let within = rw runs at below in
-      found_at i (omega (arith, within, part_length rest begun (min most (len - begun))))
-      ∙ front_known rest begun (min most (len - begun)) i within ∙ ap (λ r. Some (get_or r i 0)) (sym runs)
+  found_run i below = grind (arith, found_at, part_length, front_known)
 
   pub found_none : length run ≡ 0 → is_some (byte_in_parts n spans bytes offset) ≡ false
-  found_none none =
-      let first = so_far.0 in
-      let some : 0 < min most (len - begun) = grind (arith, nat_tests) in
-      ap is_some (simp add-zero at (found_at 0 some))
-      ∙ front_none rest begun (min most (len - begun)) some (ap length (sym runs) ∙ none)
+  found_none none = grind (arith, found_at, front_none)
 
 -- ---- parts that each begin where the one before ends, the first of them at offset 0
 
@@ -156,4 +141,4 @@ Joined n spans k end = ((bytes : List ℕ) (i : ℕ) → i < end → byte_in_par
 
 -- a byte of the first ones
 pub joined_at : (bytes : List ℕ) (end i : ℕ) → i < length (part bytes 0 end) → byte_of bytes i ≡ Some (slice_index (part bytes 0 end) i)
-joined_at bytes end i below = ap (byte_of bytes) (omega arith) ∙ front_known bytes 0 end i below
+joined_at bytes end i below = grind (arith, part_length, part_at)

@@ -1,11 +1,11 @@
 -- Which bytes parts know.
-use Rattle.std.proofs.lemmas.Bool.{cases_Bool, cond_both}
-use Rattle.std.proofs.Common.{◌≡◌, ℕ, ◌+◌, ◌-◌, ◌<◌, ◌≤◌, true, false, ◌||◌, List, [], ◌∷◌, ◌++◌, length, drop, get_or, slice_index, Option, Some, is_some, refl, sym, ap, ◌∙◌, subst, arith, min, take, inl, inr}
+use Rattle.std.proofs.lemmas.Bool.{cond_both}
+use Rattle.std.proofs.Common.{◌≡◌, ℕ, ◌+◌, ◌-◌, ◌<◌, ◌≤◌, true, false, ◌||◌, List, [], ◌∷◌, ◌++◌, length, drop, get_or, slice_index, Option, Some, is_some, refl, sym, ap, ◌∙◌, subst, arith, min, take}
 use Rattle.std.specs.Prelude.{unwrap_or}
 use Rattle.std.proofs.lemmas.Bool.Decides.{nat_tests}
 use Rattle.std.proofs.lemmas.List.{length-append, take_all, length-drop, drop_min, get_or_append_left}
 use Rattle.std.proofs.lemmas.List.FromFn.{length-map-range_with_len, get_or-map-range_with_len}
-use Rattle.std.proofs.Math.Bool.{or-false, or_assoc}
+use Rattle.std.proofs.Math.Bool.{or-false}
 use Rattle.std.proofs.Math.Seq.{drop-append_seam}
 use Rattle.imagesize_source.specs.declared.span.Span.{Span}
 use Rattle.imagesize_source.specs.Agreement.{is_covered, has_offset}
@@ -15,18 +15,12 @@ use Rattle.imagesize_source.proofs.Parts.{part_length, part_at}
 
 pub length-filled_input : (n : ℕ) (spans : List Span) (bytes : List ℕ) → length (filled_input n spans bytes) ≡ n
 unfolding filled_input
-length-filled_input n spans bytes =
-    length-map-range_with_len (λ offset. unwrap_or (byte_in_parts n spans bytes offset) 1) 0 n
+length-filled_input n spans bytes = grind (arith, length-map-range_with_len)
 
 pub filled_at : (n : ℕ) (spans : List Span) (bytes : List ℕ) (offset : ℕ) → offset < n
     → slice_index (filled_input n spans bytes) offset ≡ unwrap_or (byte_in_parts n spans bytes offset) 1
 unfolding filled_input
-filled_at n spans bytes offset below =
-    get_or-map-range_with_len (λ p. unwrap_or (byte_in_parts n spans bytes p) 1) 0 n offset offset 0 below (omega arith)
-
--- an offset that is known lies before the end
-reaches_below : (n : ℕ) (s : Span) (offset : ℕ) → reaches n s offset ≡ true → offset < n
-reaches_below n s offset is = grind (arith, nat_tests)
+filled_at n spans bytes offset below = grind (arith, get_or-map-range_with_len)
 
 -- the byte comes from the first part, or from the later ones
 in_parts : (P : Option ℕ → Type 0) (n : ℕ) (s : Span) (spans : List Span) (bytes : List ℕ) (offset : ℕ)
@@ -39,8 +33,7 @@ pub known_below : (n : ℕ) (spans : List Span) (bytes : List ℕ) (offset : ℕ
     → is_some (byte_in_parts n spans bytes offset) ≡ true → offset < n
 known_below n [] bytes offset = λ is. absurd cc
 known_below n (s ∷ spans) bytes offset =
-    in_parts (λ o. is_some o ≡ true → offset < n) n s spans bytes offset (λ has is. reaches_below n s offset has)
-    (λ misses. known_below n spans (drop (length_within n s) bytes) offset)
+    grind (arith, in_parts, (known_below n spans (drop (length_within n s) bytes) offset))
 
 offset_in : (n : ℕ) (s : Span) (offset : ℕ) → reaches n s offset ≡ true
     → (s.start + (offset - s.start) ≡ offset) × (offset - s.start < length_within n s)
@@ -48,10 +41,10 @@ offset_in n s offset is = (grind (arith, nat_tests), grind (arith, nat_tests))
 
 -- a list of bytes gives those that are there
 byte_some : (bytes : List ℕ) (i b : ℕ) → byte_of bytes i ≡ Some b → get_or bytes i 0 ≡ b
-byte_some bytes i b is = grind (arith, nat_tests)
+byte_some bytes i b is = grind arith
 
 pub byte_there : (bytes : List ℕ) (i : ℕ) → i < length bytes → byte_of bytes i ≡ Some (get_or bytes i 0)
-byte_there bytes i below = grind (arith, nat_tests)
+byte_there bytes i below = grind arith
 
 -- the bytes of the later parts
 later_bytes : (d : List ℕ) (s : Span) (spans : List Span) (bytes : List ℕ) → bytes_of d (s ∷ spans) ≡ bytes
@@ -66,16 +59,11 @@ pub has_known : (d : List ℕ) (spans : List Span) (bytes : List ℕ) (offset b 
     → byte_in_parts (length d) spans bytes offset ≡ Some b → slice_index d offset ≡ b
 has_known d [] bytes offset b parts = λ is. absurd cc
 has_known d (s ∷ spans) bytes offset b parts =
-    in_parts (λ o. o ≡ Some b → slice_index d offset ≡ b) (length d) s spans bytes offset (λ has is.
-    let at = offset_in (length d) s offset has in
-    let i : ℕ = offset - s.start in
-    ap (slice_index d) (sym at.0) ∙ sym (part_at d s.start s.len i (omega (arith, at.1)))
-    ∙ sym (get_or_append_left (part d s.start s.len) (bytes_of d spans) 0 i (omega (arith, at.1, part_length d s.start s.len)))
-    ∙ ap (λ bs. get_or bs i 0) parts ∙ byte_some bytes i b is)
-    (λ misses. has_known d spans (drop (length_within (length d) s) bytes) offset b (later_bytes d s spans bytes parts))
+    let rest = has_known d spans (drop (length_within (length d) s) bytes) offset b (later_bytes d s spans bytes parts) in
+    grind (arith, in_parts, offset_in, part_at, get_or_append_left, part_length, byte_some, rest)
 
 misses_it : (n : ℕ) (s : Span) (offset : ℕ) → offset < n → reaches n s offset ≡ false → has_offset s offset ≡ false
-misses_it n s offset below misses = grind (arith, nat_tests)
+misses_it n s offset below misses = grind arith
 
 no_byte_free : (d : List ℕ) (spans : List Span) (bytes : List ℕ) (offset : ℕ) → bytes_of d spans ≡ bytes → offset < length d
     → is_some (byte_in_parts (length d) spans bytes offset) ≡ false → is_covered spans offset ≡ false
@@ -93,8 +81,7 @@ no_byte_free d (s ∷ spans) bytes offset parts below =
 pub unknown_free : (d : List ℕ) (n : ℕ) (spans : List Span) (bytes : List ℕ) (offset : ℕ) → HasParts d n spans bytes
     → offset < n
     → is_some (byte_in_parts n spans bytes offset) ≡ false → is_covered spans offset ≡ false
-unknown_free d n spans bytes offset has below none =
-    no_byte_free d spans bytes offset has.bytes (omega (arith, below, has.as_long)) (rw has.as_long none)
+unknown_free d n spans bytes offset has below none = grind (arith, no_byte_free)
 
 pub span_known : (n : ℕ) (spans : List Span) (bytes : List ℕ) (start count : ℕ) (s : Span)
     → ((i : ℕ) → i < count → is_some (byte_in_parts n spans bytes (start + i)) ≡ true) → s.start ≡ start → s.len ≡ count
@@ -109,22 +96,15 @@ span_known n spans bytes start count s so at long offset has =
 covered_after : (log : List Span) (s : Span) (offset : ℕ)
     → is_covered (log ++ s ∷ []) offset ≡ (is_covered log offset || has_offset s offset)
 covered_after [] s offset = or-false (has_offset s offset)
-covered_after (x ∷ log) s offset =
-    ap (λ b. has_offset x offset || b) (covered_after log s offset) ∙ sym (or_assoc (has_offset x offset) _ _)
+covered_after (x ∷ log) s offset = grind (arith, (covered_after log s offset))
 
 pub pushed_known : (n : ℕ) (spans : List Span) (bytes : List ℕ) (log more : List Span) (s : Span)
     → AllKnown n spans bytes log
     → ((offset : ℕ) → has_offset s offset ≡ true → is_some (byte_in_parts n spans bytes offset) ≡ true)
     → more ≡ log ++ s ∷ [] → AllKnown n spans bytes more
-pushed_known n spans bytes log more s all also is offset here =
-    let apart = ap (λ l. is_covered l offset) is ∙ covered_after log s offset in
-    elim (cases_Bool (is_covered log offset)) [
-      | inl before ↦ all offset before
-      | inr after ↦ also offset (sym (ap (λ b. b || has_offset s offset) after) ∙ sym apart ∙ here)
-    ]
+pushed_known n spans bytes log more s all also is offset here = grind (arith, covered_after)
 
 -- what stands behind so many bytes, by the slice that the code takes
 pub slice_behind : (bs : List ℕ) (k : ℕ)
     → take (length bs - min k (length bs)) (drop (min k (length bs)) bs) ≡ drop k bs
-slice_behind bs k = take_all (length bs - min k (length bs)) (drop (min k (length bs)) bs)
-    (omega (arith, length-drop (min k (length bs)) bs)) ∙ drop_min k bs
+slice_behind bs k = grind (arith, take_all, length-drop, drop_min)

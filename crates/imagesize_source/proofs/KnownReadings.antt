@@ -30,8 +30,7 @@ past-parts n spans bytes log missed (s ∷ more) = past-parts n spans bytes (log
 
 pub parts_sound : (n : ℕ) (spans : List Span) (bytes : List ℕ) (log : List Span) (missed : Option Missing)
     → IsSound (parts_state n spans bytes log missed)
-parts_sound n spans bytes log missed = λ honest.
-    let long = length-filled_input n spans bytes in (sym long, grind (arith, nat_tests))
+parts_sound n spans bytes log missed = grind (arith, length-filled_input)
 
 -- one that is not ended goes on behind its bytes
 pub goes_behind : (t : Text) (xs ys : List ℕ) → is_ended t xs ≡ false → 0 < length ys
@@ -112,7 +111,7 @@ module _ (n : ℕ) (spans : List Span) (bytes : List ℕ) (log : List Span) (mis
 
   span_is : (offset k wanted : ℕ) → wanted ≡ min k (n - offset) → span_of filled offset k ≡ span_at offset wanted
   unfolding span_of
-  span_is offset k wanted is = ap (span_at offset) (sym (wanted_is offset k wanted is))
+  span_is offset k wanted is = grind (arith, length-filled_input)
 
   pub parts_read : (b : State) (buffer : List ℕ) (offset wanted found : ℕ) → wanted ≡ min (length buffer) (n - offset)
       → found ≤ wanted → wanted ≤ found → take found buffer ≡ part filled offset found
@@ -193,20 +192,3 @@ module _ (n : ℕ) (spans : List Span) (bytes : List ℕ) (log : List Span) (mis
       let few = front_length t (part filled offset k) in
       fails (text_read filled t offset k) b w offset (length (text_front t (part filled offset k))) found after refl
       (omega (arith, behind, same)) at (omega (arith, sure, behind, same, long_bs)) (omega (arith, most, few, long_k, long, full, fits))
-
--- ---- as the code has them
-
-pub state_is : (n m : ℕ) (spans others : List Span) (bytes content : List ℕ) (log more : List Span)
-    (missed also : Option Missing) → m ≡ n
-    → others ≡ spans → content ≡ bytes → more ≡ log → also ≡ missed
-    → parts_state m others content more also ≡ parts_state n spans bytes log missed
-state_is n m spans others bytes content log more missed also told is_spans is_bytes is_log is_missed =
-    rw (told, is_spans, is_bytes, is_log, is_missed) refl
-
--- whether the bytes that were found are cut, by how many they are
-pub cut_is : (buffer : List ℕ) (found wanted offset told : ℕ) (cut ended : Bool)
-    → wanted ≡ min (length buffer) (told - offset)
-    → found ≤ wanted → cut ≡ (leb (suc (length (take found buffer))) wanted && not ended)
-    → leb (suc found) wanted && not ended ≡ cut
-cut_is buffer found wanted offset told cut ended long few is =
-    let same : length (take found buffer) ≡ found = length-take found buffer ∙ omega (arith, long, few) in sym (rw same at is)

@@ -1,7 +1,5 @@
 -- What a layout says of an input.
-use Rattle.std.proofs.Common.{◌≡◌, ℕ, ◌+◌, ◌-◌, ◌≤◌, min, true, eqb, List, [], ◌++◌, length, take, Option, Result, Ok, Err, inl, inr, refl, sym, ap, ◌∙◌, subst, arith, append_assoc}
-use Rattle.std.proofs.lemmas.Bool.{cond-false, cond-true, le-leb, lt-leb}
-use Rattle.std.proofs.lemmas.Bool.Decides.{eqb_tells}
+use Rattle.std.proofs.Common.{◌≡◌, ℕ, ◌-◌, ◌≤◌, min, true, eqb, List, [], length, take, Option, Result, Ok, Err, refl, sym, ap, ◌∙◌, subst, arith, append_assoc}
 use Rattle.std.proofs.lemmas.List.{length-take, take_all, drop_all, append-nil}
 use Rattle.std.proofs.Math.Seq.{take-nil}
 use Rattle.imagesize_source.specs.declared.span.Span.{Span}
@@ -10,32 +8,21 @@ use Rattle.imagesize_source.specs.Input.{part, span_of, span_at}
 use Rattle.imagesize_source.specs.Layout.{Layout, layout_reads, bind, whole, if_there, some_where}
 use Rattle.imagesize_source.specs.Layout.Layout.{«done», refuse, field, reading, begin_record}
 use Rattle.imagesize_source.specs.Reading.{Reads, after_records, and_then, gives, just, uncounted, go_on, map_answer, put_behind, part_read}
-use Rattle.imagesize_source.specs.State.{State, Runs, Missed, total, state_after}
+use Rattle.imagesize_source.specs.State.{State, Runs}
 use Rattle.imagesize_source.proofs.Marks.{plus-assoc, plus-zero}
 use Rattle.imagesize_source.proofs.Runs.{answered, part_is, runs_refused}
-
-behind-onward : {Y Z : Type 0} (marks more : List Span) (r : Result Y Halt) (g : Y → Reads Z)
-    → put_behind marks (go_on more r g) ≡ go_on (marks ++ more) r g
-behind-onward marks more (Ok y) g = ap (λ m. record (g y) { marks = m }) (sym (append_assoc marks more (g y).marks))
-behind-onward marks more (Err e) g = refl
 
 -- what goes on from an answer that itself goes on
 pub onward-and_then : {X Y Z : Type 0} (marks : List Span) (r : Result X Halt) (f : X → Reads Y) (g : Y → Reads Z)
     (both : X → Reads Z)
     → ((x : X) → both x ≡ and_then (f x) g) → go_on marks r both ≡ and_then (go_on marks r f) g
-onward-and_then marks (Ok x) f g both is =
-    ap (put_behind marks) (is x)
-    ∙ ap (after_records (f x).begun) (behind-onward marks (f x).marks (f x).answer g)
+onward-and_then marks (Ok x) f g both is = grind (arith, append_assoc)
 onward-and_then marks (Err e) f g both is = refl
 
 -- the same of readings that begin records
 pub then_then : {X Y Z : Type 0} (r : Reads X) (f : X → Reads Y) (g : Y → Reads Z) (both : X → Reads Z)
     → ((x : X) → both x ≡ and_then (f x) g) → and_then r both ≡ and_then (and_then r f) g
-then_then r f g both is =
-    let w = go_on r.marks r.answer f in
-    ap (after_records r.begun) (onward-and_then r.marks r.answer f g both is)
-    ∙ ap (λ n. record (go_on w.marks w.answer g) { begun = n })
-    (sym (plus-assoc r.begun w.begun (go_on w.marks w.answer g).begun))
+then_then r f g both is = grind (arith, onward-and_then, plus-assoc)
 
 -- what holds behind an answer and behind a refusal holds of what goes on
 pub on_answer : {X Y : Type 0} (P : Reads Y → Type 0) (spans : List Span) (r : Result X Halt) (f : X → Reads Y)
@@ -48,17 +35,10 @@ on_answer P spans (Err e) f answered refused = refused e refl
 -- what goes on from the same answer
 pub then_alike : {X Y : Type 0} (r : Reads X) (f g : X → Reads Y) → ((x : X) → r.answer ≡ Ok x → f x ≡ g x)
     → and_then r f ≡ and_then r g
-then_alike r f g same = on_answer (λ w. after_records r.begun w ≡ and_then r g) r.marks r.answer f
-    (λ x is. rw (is, same x is) refl) (λ e is. rw is refl)
-
--- an answer that is given as it is
-onward_gives : {X : Type 0} (marks : List Span) (r : Result X Halt) → go_on marks r gives ≡ just r marks
-onward_gives marks (Ok x) = ap (just (Ok x)) (append-nil marks)
-onward_gives marks (Err e) = refl
+then_alike r f g same = grind arith
 
 pub then_gives : {X : Type 0} (r : Reads X) → and_then r gives ≡ r
-then_gives r = ap (after_records r.begun) (onward_gives r.marks r.answer)
-    ∙ ap (λ n. record r { begun = n }) (plus-zero r.begun)
+then_gives r = grind (arith, append-nil, plus-zero)
 
 -- one layout behind the other: first the readings of the one, then those of the other
 pub over-bind : {X Y : Type 0} (d : List ℕ) (t : Layout X) (f : X → Layout Y)
@@ -69,20 +49,10 @@ over-bind d (field order offset k g) f = onward-and_then _ _ _ _ _ (λ v. over-b
 over-bind d (reading r offset g) f = onward-and_then _ _ _ _ _ (λ bs. over-bind d (g bs) f)
 over-bind d (begin_record t) f = ap (after_records 1) (over-bind d t f)
 
--- of a reading: all of the bytes are there, or some are missing
-whole_front : (buffer : List ℕ) (n : ℕ) → n ≤ length buffer
-    → whole (length buffer) (take n buffer) ≡ some_where buffer (eqb n (length buffer))
-whole_front buffer n fits = elim (eqb_tells n (length buffer)) [
-  | inl all ↦ rw (all.0, take_all n buffer (omega (arith, all.1))) (cond-true _ _ _ (le-leb (length buffer) (length buffer) (omega arith)))
-  | inr some ↦ rw some.0 (cond-false _ _ _ (lt-leb (length buffer) _ (omega (arith, length-take n buffer, fits, some.1))))
-]
-
 pub whole_read : {a b : State} (d buffer : List ℕ) (offset n : ℕ) → n ≤ length buffer
     → Runs a b (Ok (take n buffer)) (part_read d offset (length buffer))
     → Runs a b (Ok (some_where buffer (eqb n (length buffer)))) (layout_reads d (if_there offset (length buffer) done))
-whole_read d buffer offset n fits h =
-    answered (Ok (some_where buffer (eqb n (length buffer)))) (layout_reads d (if_there offset (length buffer) done)) h
-    (append-nil _) (λ read. ap Ok (ap (whole (length buffer)) (part_is read) ∙ whole_front buffer n fits)) refl refl tt
+whole_read d buffer offset n fits h = grind (arith, append-nil, part_is, take_all, length-take)
 
 -- a reading that was stopped found none
 pub whole_stopped : {X : Type 0} {a b : State} (d : List ℕ) (offset k : ℕ) (found : X → Option (List ℕ))
@@ -96,18 +66,7 @@ whole_stopped {a = a} {b = b} d offset k found r why is h =
 -- readings that are others' where the source is honest
 pub runs_as : {X : Type 0} {a b : State} {r : Result X Halt} {reads : Reads X} (other : Reads X) → Runs a b r reads
     → (a.held.honest ≡ true → uncounted reads ≡ uncounted other) → Runs a b r other
-runs_as {X} {a} {b} {r} other h same = record {
-  sound = h.sound;
-  sound_after = h.sound_after;
-  frame = h.frame;
-  taken = h.taken;
-  within = λ honest. subst (λ reads. b.taken ≤ a.taken + total reads.marks) (same honest) (h.within honest);
-  answer = λ honest goes_on. ap (λ reads. reads.answer) (sym (same honest)) ∙ h.answer honest goes_on;
-  state = λ honest goes_on. h.state honest goes_on ∙ ap (λ reads. state_after a reads.marks) (same honest);
-  fault = h.fault;
-  misses = λ honest faults. subst (λ reads. Missed a b reads.marks) (same honest) (h.misses honest faults);
-  ended = h.ended;
-}
+runs_as {X} {a} {b} {r} other h same = grind (arith)
 
 -- an honest source tells the length
 pub by_told : {X : Type 0} {a b : State} {r : Result X Halt} (f : ℕ → Reads X) → Runs a b r (f a.frame.told)

@@ -11,8 +11,7 @@ pub plus-zero : (n : ℕ) → plus n 0 ≡ n
 plus-zero n = omega (arith, plus-is n 0)
 
 pub plus-assoc : (j k n : ℕ) → plus (plus j k) n ≡ plus j (plus k n)
-plus-assoc j k n =
-    omega (arith, plus-is (plus j k) n, plus-is j k, plus-is j (plus k n), plus-is k n)
+plus-assoc j k n = grind (arith, plus-is)
 
 -- readings behind spans behind spans
 pub behind-behind : {X : Type 0} (s t : List Span) (r : Reads X) → put_behind s (put_behind t r) ≡ put_behind (s ++ t) r

@@ -1,5 +1,5 @@
 -- Parts of an input.
-use Rattle.std.proofs.Common.{◌≡◌, ℕ, ◌+◌, ◌-◌, ◌<◌, ◌≤◌, min, List, [], length, take, drop, get_or, slice_index, refl, sym, ap, ◌∙◌}
+use Rattle.std.proofs.Common.{arith, ◌≡◌, ℕ, ◌+◌, ◌-◌, ◌<◌, ◌≤◌, min, List, [], length, take, drop, get_or, slice_index, refl, sym, ap, ◌∙◌}
 use Rattle.std.proofs.lemmas.List.{length-take, length-drop, drop-drop, drop-take, get_or-take, get_or-drop, take_min, take-take}
 use Rattle.imagesize_source.specs.Input.{part}
 
@@ -34,5 +34,4 @@ part_behind d offset j k = drop-take j k (drop offset d) ∙ ap (take k) (drop-d
 -- no more of a part is there than its input has
 pub part_whole : (d : List ℕ) (offset k m : ℕ) → m ≡ min k (length d - offset) → part d offset k ≡ part d offset m
 unfolding part
-part_whole d offset k m is =
-    sym (take_min k (drop offset d)) ∙ ap (λ j. take j (drop offset d)) (ap (min k) (length-drop offset d) ∙ sym is)
+part_whole d offset k m is = grind (arith, take_min, length-drop)

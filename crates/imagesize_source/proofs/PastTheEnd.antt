@@ -1,6 +1,6 @@
 -- Readings beyond the end of the input.
-use Rattle.std.proofs.Common.{◌≡◌, ℕ, ◌-◌, ◌^◌, ◌<◌, ◌≤◌, min, List, [], length, Option, Result, Err, inl, inr, refl, sym, ap, ◌∙◌, arith}
-use Rattle.std.proofs.lemmas.Bool.{cases_lt, cond-false, lt-leb}
+use Rattle.std.proofs.Common.{◌≡◌, ℕ, ◌-◌, ◌^◌, ◌<◌, ◌≤◌, min, List, [], length, Option, Result, Err, refl, arith}
+use Rattle.std.proofs.lemmas.Bool.{cond-false, lt-leb}
 use Rattle.imagesize_source.specs.declared.endian.Endian.{Endian}
 use Rattle.imagesize_source.specs.declared.halt.Halt.{Halt}
 use Rattle.imagesize_source.specs.declared.halt.Halt.TheVariants.{Ended}
@@ -8,7 +8,7 @@ use Rattle.imagesize_source.specs.Layout.{Layout, bytes, layout_reads, if_there,
 use Rattle.imagesize_source.specs.Layout.Layout.{«done»}
 use Rattle.imagesize_source.specs.Reading.{Reads, bytes_at, bytes_read, number_at, number_read, part_read, gives, refuses, uncounted}
 use Rattle.imagesize_source.specs.State.{State, Runs}
-use Rattle.imagesize_source.proofs.Layouts.{no_part, no_span, runs_as}
+use Rattle.imagesize_source.proofs.Layouts.{no_part, no_span}
 
 -- Readings that are the same at every offset beyond the end: no input is so long that an offset beyond 64 bits is within it.
 -- So an offset that is held at the greatest of 64 bits serves as well.
@@ -16,16 +16,7 @@ pub saturated_by : {X : Type 0} {a b : State} {r : Result X Halt} (f : ℕ → L
     (offset at : ℕ)
     → ((d : List ℕ) (p : ℕ) → length d ≤ p → uncounted (f p d) ≡ other) → Runs a b r (f at a.held.input)
     → at ≡ min offset (2 ^ 64 - 1) → Runs a b r (f offset a.held.input)
-saturated_by {a} f other offset at beyond h is = runs_as (f offset a.held.input) h (λ honest.
-    let short = (h.sound honest).1 in
-    elim (cases_lt (2 ^ 64 - 1) offset) [
-      | inl far ↦ beyond a.held.input at (omega (arith, is, far, short)) ∙ sym (beyond a.held.input offset (omega (arith, far, short)))
-      | inr within ↦ ap (λ p. uncounted (f p a.held.input)) (omega (arith, is, within))
-    ])
-
--- no byte is there
-part_beyond : (d : List ℕ) (offset k : ℕ) → length d ≤ offset → part_read d offset k ≡ gives []
-part_beyond d offset k h = rw (no_part d offset k h, no_span d offset k h) refl
+saturated_by {a} f other offset at beyond h is = grind arith
 
 pub there_beyond : {X : Type 0} (d : List ℕ) (offset k : ℕ) (f : Option (List ℕ) → Layout X) → length d ≤ offset
     → layout_reads d (if_there offset k f) ≡ layout_reads d (f (whole k []))
@@ -52,7 +43,7 @@ number_beyond d order offset k h some = rw (no_span d offset k h, bytes_at_beyon
 pub part_saturated : {a b : State} {r : Result (List ℕ) Halt} (offset at k : ℕ)
     → Runs a b r (part_read a.held.input at k) → at ≡ min offset (2 ^ 64 - 1)
     → Runs a b r (part_read a.held.input offset k)
-part_saturated offset at k = saturated_by (λ p d. part_read d p k) (gives []) offset at (λ d p far. part_beyond d p k far)
+part_saturated offset at k = grind (arith, saturated_by, no_part, no_span)
 
 pub whole_saturated : {a b : State} {r : Result (Option (List ℕ)) Halt} (offset at k : ℕ)
     → Runs a b r (layout_reads a.held.input (if_there at k done)) → at ≡ min offset (2 ^ 64 - 1)

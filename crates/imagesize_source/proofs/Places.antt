@@ -1,5 +1,5 @@
 -- The first place that passes, found part by part.
-use Rattle.std.proofs.Common.{◌≡◌, ℕ, ◌+◌, ◌<◌, ◌≤◌, Bool, true, false, cond, eqb, leb, suc, not, List, length, take, drop, Some, None, sym, ap, ◌∙◌, arith}
+use Rattle.std.proofs.Common.{◌≡◌, ℕ, ◌+◌, ◌<◌, ◌≤◌, Bool, true, cond, eqb, not, List, length, take, drop, Some, sym, ap, ◌∙◌, arith}
 use Rattle.std.proofs.lemmas.Bool.Decides.{nat_tests}
 use Rattle.std.proofs.lemmas.List.{length-take, take-append-drop}
 use Rattle.std.proofs.lemmas.List.Folds.{prefix_len-append}
@@ -20,22 +20,6 @@ goes_on p bs n count there counted all =
     split p bs n ∙ ap (λ is. cond is (length (take n bs) + position_or_len p (drop n bs)) (position_or_len p (take n bs))) test
     ∙ ap (λ k. k + position_or_len p (drop n bs)) long
 
--- where one of them does
-pub stops : (p : ℕ → Bool) (bs : List ℕ) (n count : ℕ) → n ≤ length bs → count ≡ position_or_len p (take n bs) → count < n
-    → position_or_len p bs ≡ count
-stops p bs n count there counted some =
-    let long : length (take n bs) ≡ n = omega (arith, length-take n bs, there) in
-    let test : eqb (position_or_len p (take n bs)) (length (take n bs)) ≡ false = grind (arith, nat_tests, long, counted, some) in
-    split p bs n ∙ ap (λ is. cond is (length (take n bs) + position_or_len p (drop n bs)) (position_or_len p (take n bs))) test
-    ∙ sym counted
-
 -- a place before the end
 pub position_some : (p : ℕ → Bool) (bs : List ℕ) (i : ℕ) → position_or_len p bs ≡ i → i < length bs → position p bs ≡ Some i
-position_some p bs i at there =
-    let test : leb (suc (position_or_len p bs)) (length bs) ≡ true = grind (arith, nat_tests, at, there) in
-    ap (λ is. cond is (Some (position_or_len p bs)) None) test ∙ ap Some at
-
-pub position_none : (p : ℕ → Bool) (bs : List ℕ) (i : ℕ) → position_or_len p bs ≡ i → length bs ≤ i → position p bs ≡ None
-position_none p bs i at beyond =
-    let test : leb (suc (position_or_len p bs)) (length bs) ≡ false = grind (arith, nat_tests, at, beyond) in
-    ap (λ is. cond is (Some (position_or_len p bs)) None) test
+position_some p bs i at there = grind (arith)

@@ -1,17 +1,16 @@
 -- How a call's readings follow from those of the calls that it makes.
 use Rattle.std.proofs.Common.{◌≡◌, ℕ, ◌+◌, ◌-◌, ◌<◌, ◌≤◌, min, Bool, true, false, List, [], ◌∷◌, ◌++◌, length, take, leb, Result, Ok, Err, zero-add, add_assoc, append_assoc, refl, sym, ap, ◌∙◌, subst, arith, IfErr}
-use Rattle.std.proofs.lemmas.Bool.{or_parts}
-use Rattle.std.proofs.lemmas.List.{length-take, take_all, append-nil}
+use Rattle.std.proofs.lemmas.List.{length-append, length-take, take_all, append-nil}
 use Rattle.std.proofs.lemmas.Bool.Decides.{nat_tests}
 use Rattle.std.proofs.lemmas.Option.{IfSome_then}
 use Rattle.imagesize_source.specs.declared.source.parts.Missing.{Missing}
 use Rattle.imagesize_source.specs.declared.span.Span.{Span}
 use Rattle.imagesize_source.specs.declared.endian.Endian.{Endian}
-use Rattle.imagesize_source.specs.Input.{part, span_at, span_of}
+use Rattle.imagesize_source.specs.Input.{span_at, span_of}
 use Rattle.imagesize_source.specs.Numbers.{number}
 use Rattle.imagesize_source.specs.declared.halt.Halt.{Halt}
 use Rattle.imagesize_source.specs.declared.halt.Halt.TheVariants.{Ended}
-use Rattle.imagesize_source.specs.Reading.{Reads, go_on, uncounted, and_then, bytes_at, number_at, part_read, bytes_read, number_read, map_answer, is_stopped, is_faulted, is_failure, is_spent}
+use Rattle.imagesize_source.specs.Reading.{Reads, go_on, uncounted, and_then, bytes_at, number_at, part_read, bytes_read, number_read, map_answer, is_stopped, is_faulted}
 use Rattle.std.specs.Prelude.{Option, None, Some, IsSomeAnd, option_map}
 use Rattle.imagesize_source.specs.State.{State, Held, Runs, EndedBy, Misses, Missed, IsSound, total, state_after, step}
 use Rattle.imagesize_source.specs.Strides.{Reached}
@@ -20,11 +19,7 @@ use Rattle.imagesize_source.proofs.Parts.{part_length}
 -- a result that nothing stopped is none of the ends of a call
 pub plain_end : {X : Type 0} (b : State) (r : Result X Halt) → is_stopped r ≡ false → IfErr r (EndedBy b)
 plain_end b (Ok x) goes_on = tt
-plain_end b (Err halt) goes_on =
-    let none = or_parts (is_failure halt) (is_spent halt) goes_on in record {
-      budget = λ spent. absurd cc;
-      fault = λ failed. absurd cc;
-    }
+plain_end b (Err halt) goes_on = grind arith
 
 pub without_fault : {X : Type 0} (r : Result X Halt) → is_stopped r ≡ false → is_faulted r ≡ false
 without_fault r goes_on = grind arith
@@ -51,11 +46,8 @@ total-append (x ∷ s) t = ap (λ n. x.len + n) (total-append s t) ∙ sym (add_
 pub past-recorded : (a : State) (s : List Span)
     → (state_after a s).recorded ≡ option_map (λ spans. spans ++ s) a.recorded
 unfolding state_after
-past-recorded a [] = none_more a.recorded where
-  none_more : (o : Option (List Span)) → o ≡ option_map (λ spans. spans ++ []) o
-  none_more None = refl
-  none_more (Some spans) = ap Some (sym (append-nil spans))
-past-recorded a (x ∷ s) = past-recorded (step a x) s ∙ both a.recorded (x ∷ []) s
+past-recorded a [] = grind (arith, append-nil)
+past-recorded a (x ∷ s) = grind (arith, append_assoc, (past-recorded (step a x) s))
 
 pub past-held : (a : State) (s : List Span) → (state_after a s).held ≡ a.held
 unfolding state_after
@@ -90,7 +82,7 @@ pub missed_past : (a m b : State) (before marks : List Span) → m ≡ state_aft
 missed_past a m b before marks past h = rw append-nil at (missed_among a m b before marks [] past h)
 
 pub missed_before : (a b : State) (marks more : List Span) → Missed a b marks → Missed a b (marks ++ more)
-missed_before a b marks more h = missed_among a a b [] marks more (sym (past-none a)) h
+missed_before a b marks more h = grind (arith, past-recorded, both, append_assoc, past-none)
 
 pub missed_first : {X Y : Type 0} (a b : State) (spans : List Span) (r : Result X Halt) (f : X → Reads Y)
     → Missed a b spans
@@ -104,6 +96,8 @@ pub marks_onward : {X Y : Type 0} (spans : List Span) (r : Result Y Halt) (f : Y
 marks_onward spans (Ok y) f = ((f y).marks, refl)
 marks_onward spans (Err e) f = ([], sym (append-nil spans))
 
+pub ruleset lengths = (length-append, total-append)
+
 pub ruleset steps = (past-past, past-none, total-append, append-nil, past-held, missed_past, missed_first)
 
 -- ---- a run that has made some of its reads
@@ -111,28 +105,12 @@ pub ruleset steps = (past-past, past-none, total-append, append-nil, past-held, 
 -- no read was made yet
 pub reached_start : {X : Type 0} (a : State) (whole : Reads X) → Reached a a whole whole
 unfolding state_after
-reached_start a whole = record {
-  sound = λ s. s;
-  frame = refl;
-  taken = omega arith;
-  made = [];
-  within = λ honest. omega arith;
-  state = λ honest. refl;
-  left = λ honest. refl;
-}
+reached_start a whole = grind (arith)
 
 -- after a result, what follows from it is left
 pub reached_by : {X Y : Type 0} {a m : State} {x : X} {r : Reads X} (f : X → Reads Y) → Runs a m (Ok x) r
     → Reached a m (and_then r f) (f x)
-reached_by {r} f h = record {
-  sound = λ _. h.sound;
-  frame = h.frame;
-  taken = h.taken;
-  made = r.marks;
-  within = h.within;
-  state = λ honest. h.state honest refl;
-  left = λ honest. rw (h.answer honest refl) refl;
-}
+reached_by {r} f h = grind (arith)
 
 module _ {X : Type 0} {a b : State} {whole rest : Reads X} (h : Reached a b whole rest) where
   -- an honest source keeps its input
@@ -179,12 +157,7 @@ module _ {X : Type 0} {a b : State} {whole rest : Reads X} (h : Reached a b whol
   -- the reads that were left end the run
   pub reached_end : {end : State} (r : Result X Halt) (given : Reads X) → Runs b end r given
       → (a.held.honest ≡ true → uncounted given ≡ uncounted rest) → Runs a end r whole
-  reached_end r given run same = ended_by r run refl refl run.ended (λ honest.
-      let marks : rest.marks ≡ given.marks = ap (λ w. w.marks) (sym (same honest)) in (
-        [],
-        marks ∙ sym (append-nil given.marks),
-        λ is. (ap (λ w. w.answer) (sym (same honest)) ∙ is, marks),
-      ))
+  reached_end r given run same = grind (arith, ended_by, append-nil)
 
 -- a call that read, and went on from what it found
 pub runs_then : {X Y : Type 0} {a m b : State} {x : X} {y : Result Y Halt} (r : Reads X) (f : X → Held → Reads Y)
@@ -207,9 +180,7 @@ pub answered : {X Y : Type 0} {a b : State} {x : X} {reads : Reads X} (r : Resul
     → other.marks ≡ reads.marks → (reads.answer ≡ Ok x → other.answer ≡ r) → is_stopped r ≡ false → is_faulted r ≡ false
     → IfErr r (EndedBy b)
     → Runs a b r other
-answered {X} {Y} {a} {b} {x} {reads} r other h marks answer goes_on no_fault ended =
-    ended_by (reached_start a other) r h (sym goes_on) (sym no_fault) ended
-    (λ _. ([], marks ∙ sym (append-nil reads.marks), λ is. (answer is, marks)))
+answered {X} {Y} {a} {b} {x} {reads} r other h marks answer goes_on no_fault ended = grind arith
 
 pub part_is : {xs ys : List ℕ} → ◌≡◌ {A = Result (List ℕ) Halt} (Ok xs) (Ok ys) → xs ≡ ys
 part_is e = cc
@@ -219,14 +190,7 @@ pub bytes_there : {a b : State} (d buffer : List ℕ) (offset k n : ℕ)
     → Runs a b (Ok (take n buffer)) (part_read d offset (length buffer))
     → length buffer ≡ k → k ≤ n → Runs a b (Ok buffer) (bytes_read d offset k)
 unfolding bytes_at
-bytes_there {a} {b} d buffer offset k n h long all =
-    answered (Ok buffer) (bytes_read d offset k) h (ap (span_of d offset) (sym long))
-    (λ is.
-    let got : part d offset k ≡ buffer = rw (← long) (part_is is ∙ take_all n buffer (omega arith)) in
-    let size = part_length d offset k in
-    let enough : leb k (length d - offset) ≡ true = grind (arith, nat_tests, ap length got) in
-    rw enough (ap Ok got))
-    refl refl tt
+bytes_there {a} {b} d buffer offset k n h long all = grind (arith, part_is, take_all, part_length)
 
 -- a reading that gave too few
 pub bytes_missing : {a b : State} (d buffer : List ℕ) (offset k n : ℕ)
@@ -247,41 +211,24 @@ pub bytes_stopped : {X : Type 0} {a b : State} (d : List ℕ) (offset k : ℕ) (
     (why : Halt)
     → r ≡ Err why → Runs {X = List ℕ} a b (Err why) (part_read d offset k)
     → Runs a b (map_answer bytes r) (bytes_read d offset k)
-bytes_stopped {a = a} {b = b} d offset k bytes r why is h =
-    rw is (ended_by (reached_start a (bytes_read d offset k)) (Err why) h refl refl h.ended
-    (λ _. ([], sym (append-nil (span_of d offset k)), λ no. absurd cc)))
+bytes_stopped {a = a} {b = b} d offset k bytes r why is h = grind arith
 
 -- the number of bytes that were read
 pub number_there : {a b : State} (d bs : List ℕ) (order : Endian) (offset k v : ℕ)
     → Runs a b (Ok bs) (bytes_read d offset k)
     → v ≡ number order bs → Runs a b (Ok v) (number_read d order offset k)
 unfolding number_at
-number_there {a} {b} d bs order offset k v h is =
-    answered (Ok v) (number_read d order offset k) h refl
-    (λ read. ap (map_answer (number order)) read ∙ ap Ok (sym is)) refl refl tt
+number_there {a} {b} d bs order offset k v h is = grind arith
 
 -- a refused reading has no number
 pub number_missing : {a b : State} (d : List ℕ) (order : Endian) (offset k : ℕ) (e : Halt)
     → Runs a b (Err e) (bytes_read d offset k)
     → Runs a b (Err e) (number_read d order offset k)
 unfolding number_at
-number_missing {a} {b} d order offset k e h =
-    ended_by (reached_start a (number_read d order offset k)) (Err e) h refl refl h.ended
-    (λ _. ([], sym (append-nil (span_of d offset k)), λ is. (ap (map_answer (number order)) is, refl)))
+number_missing {a} {b} d order offset k e h = grind arith
 
 -- a call that read no bytes
 pub runs_free : {X : Type 0} {a b : State} {reads : Reads X} (r : Result X Halt) → IsSound a → IsSound b → b.frame ≡ a.frame
     → b.taken ≡ a.taken → reads.answer ≡ r → b ≡ state_after a reads.marks → is_faulted r ≡ false → IfErr r (EndedBy b)
     → Runs a b r reads
-runs_free r sound sound_after same none is passed no_fault ended = record {
-  sound = sound;
-  sound_after = sound_after;
-  frame = same;
-  taken = omega arith;
-  within = λ honest. omega arith;
-  answer = λ honest goes_on. is;
-  state = λ honest goes_on. passed;
-  fault = λ honest faults. absurd cc;
-  misses = λ honest faults. absurd cc;
-  ended = ended;
-}
+runs_free r sound sound_after same none is passed no_fault ended = grind (arith)

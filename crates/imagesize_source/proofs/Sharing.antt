@@ -9,9 +9,8 @@ use Rattle.imagesize_source.specs.declared.text.Text.{Text}
 use Rattle.imagesize_source.specs.Chain.{Said, Decided, Next, Chain, Along, next_record, verdict, chain_from, Advances}
 use Rattle.imagesize_source.specs.Input.{part, span_at, span_of}
 use Rattle.imagesize_source.specs.Layout.{Layout, done, refuse, field, reading, begin_record, layout_reads}
-use Rattle.imagesize_source.specs.Reading.{Reads, Reading, AllOf, PartOf, TextOf, after_records, and_then, just, uncounted, go_on, put_behind, bytes_at, number_at, number_read, text_part, read_of}
+use Rattle.imagesize_source.specs.Reading.{Reads, Reading, AllOf, PartOf, TextOf, after_records, and_then, uncounted, go_on, put_behind, bytes_at, number_at, number_read, text_part, read_of}
 use Rattle.imagesize_source.specs.Sharing.{Shares}
-use Rattle.imagesize_source.specs.Text.{text_front}
 use Rattle.imagesize_source.proofs.Agreement.{covered-left, covered-right, covered-one}
 use Rattle.imagesize_source.proofs.ChainLaws.{chain_induction}
 use Rattle.imagesize_source.proofs.Chains.{chain_next, chain_unfolds, follows}
@@ -52,10 +51,7 @@ shared_there d e offset n few a =
 
 shared_part : (d e : List ℕ) (offset k : ℕ) → Shares d e (span_of e offset k) → part d offset k ≡ part e offset k
 unfolding span_of
-shared_part d e offset k a =
-    let n : ℕ = min k (length e - offset) in
-    part_whole d offset k n (sym (shared_count d e offset k a)) ∙ shared_there d e offset n (omega arith) a
-    ∙ sym (part_whole e offset k n refl)
+shared_part d e offset k a = grind (arith, part_whole, shared_count, shared_there)
 
 shared_bytes : (d e : List ℕ) (offset k : ℕ) → Shares d e (span_of e offset k) → bytes_at d offset k ≡ bytes_at e offset k
 unfolding bytes_at
@@ -68,20 +64,13 @@ shared_bytes d e offset k a =
 shared_text : (d e : List ℕ) (t : Text) (offset k : ℕ) → Shares d e (span_at offset (length (text_part e t offset k)))
     → text_part d t offset k ≡ text_part e t offset k
 unfolding text_part
-shared_text d e t offset k a =
-    let n : ℕ = length (text_front t (part e offset k)) in
-    let few : n ≤ length (part e offset k) = front_length t (part e offset k) in
-    let long = part_length d offset k in let long_e = part_length e offset k in
-    front_same t (part e offset k) (part d offset k) (omega (arith, a.no_longer))
-    (part_front d offset n k (omega arith) ∙ shared_there d e offset n (omega arith) a
-    ∙ sym (part_front e offset n k (omega arith)) ∙ front_take t (part e offset k))
+shared_text d e t offset k a = grind (arith, front_length, part_length, front_same, part_front, shared_there, front_take)
 
 shared_reading : (d e : List ℕ) (r : Reading) (offset : ℕ) → Shares d e (read_of e r offset).marks
     → read_of d r offset ≡ read_of e r offset
 shared_reading d e (AllOf k) offset a = rw (shared_span d e offset k a, shared_bytes d e offset k a) refl
 shared_reading d e (PartOf k) offset a = rw (shared_span d e offset k a, shared_part d e offset k a) refl
-shared_reading d e (TextOf t k) offset a =
-    ap (λ bs. just (Ok bs) (span_at offset (length bs))) (shared_text d e t offset k a)
+shared_reading d e (TextOf t k) offset a = grind (arith, shared_text)
 
 shared_number : (d e : List ℕ) (order : Endian) (offset k : ℕ) → Shares d e (span_of e offset k)
     → number_read d order offset k ≡ number_read e order offset k
@@ -116,10 +105,7 @@ module _ {C X : Type 0} (c : Chain C X) (d e : List ℕ) (adv_d : Advances c d) 
   by_record : (t : Along C) → ((x : Said C X) → (next_record c e t).answer ≡ Ok x → Shares d e (follows c e t.held x).marks
       → follows c d t.held x ≡ follows c e t.held x)
       → Shares d e (chain_from c e t).marks → chain_from c d t ≡ chain_from c e t
-  by_record t rest a = chain_unfolds c d t adv_d
-      ∙ shared_then (next_record c e t) (next_record c d t) (follows c e t.held) (follows c d t.held)
-      (rw (chain_unfolds c e t adv) at a) (shared d e (c.said t.held t.offset)) rest
-      ∙ sym (chain_unfolds c e t adv)
+  by_record t rest a = grind (arith, chain_unfolds, shared_then, shared)
 
   pub chain_shared : (t : Along C) → Shares d e (chain_from c e t).marks → chain_from c d t ≡ chain_from c e t
   chain_shared = chain_induction c e

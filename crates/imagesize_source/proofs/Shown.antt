@@ -1,6 +1,5 @@
 -- What is read of the bytes that a source holds, and what it is for that source.
-use Rattle.std.proofs.Common.{◌≡◌, ℕ, ◌+◌, ◌-◌, ◌^◌, ◌<◌, ◌≤◌, true, false, List, [], ◌∷◌, ◌++◌, length, take, drop, None, Result, Ok, Err, refl, sym, ap, ◌∙◌, subst, arith}
-use Rattle.std.proofs.lemmas.Bool.Decides.{nat_tests}
+use Rattle.std.proofs.Common.{◌≡◌, ℕ, ◌+◌, ◌-◌, ◌^◌, ◌<◌, ◌≤◌, true, false, List, [], ◌∷◌, ◌++◌, length, take, drop, None, Result, Ok, refl, sym, ap, ◌∙◌, arith}
 use Rattle.std.proofs.lemmas.List.{length-drop, length-take, take_all}
 use Rattle.imagesize_source.specs.declared.halt.Halt.{Halt}
 use Rattle.imagesize_source.specs.declared.span.Span.{Span}
@@ -8,50 +7,30 @@ use Rattle.imagesize_source.specs.declared.text.Text.{Text}
 use Rattle.imagesize_source.specs.Input.{part, span_at}
 use Rattle.imagesize_source.specs.Reading.{Reads, is_faulted, part_read, text_part, text_read}
 use Rattle.imagesize_source.specs.Shown.{AreShown}
-use Rattle.imagesize_source.specs.Layout.{Layout, layout_reads}
-use Rattle.imagesize_source.specs.State.{State, Held, Runs, Follows, EndedBy, front_after, new_bytes, place_after, shown_state, shown_by, rejoined, state_after, step, total}
+use Rattle.imagesize_source.specs.Layout.{Layout}
+use Rattle.imagesize_source.specs.State.{State, Held, Runs, Follows, shown_state, shown_by, rejoined, state_after, step}
 use Rattle.imagesize_source.specs.Text.{is_ended, text_front}
 use Rattle.imagesize_source.proofs.Agreement.{span-some, whole_span}
 use Rattle.imagesize_source.proofs.Counts.{total-span_at}
 use Rattle.imagesize_source.proofs.KnownReadings.{part_split}
 use Rattle.imagesize_source.proofs.Parts.{part_behind, part_front}
 use Rattle.imagesize_source.proofs.Texts.{front_more}
-use Rattle.std.specs.Prelude.{IfErr, option_map}
-
--- a read past the first bytes that are kept leaves them as they are
-kept_front : (front offset n : ℕ) → front ≤ 32 → 32 ≤ offset → front_after front offset n ≡ front
-kept_front front offset n few far = grind (arith, nat_tests)
-
-moved_place : (front place offset n : ℕ) → front ≤ 32 → 32 ≤ offset → 0 < n → place_after front place offset n ≡ offset + n
-moved_place front place offset n few far some = grind (arith, nat_tests)
+use Rattle.std.specs.Prelude.{option_map}
 
 -- the state after a read past the first bytes
 shown_state_after : (told budget front : ℕ) (held : Held) (taken place offset n : ℕ) → front ≤ 32 → 32 ≤ offset → 0 < n
     → shown_state told budget front held (taken + n) (offset + n)
     ≡ state_after (shown_state told budget front held taken place) (span_at offset n)
 unfolding state_after
-shown_state_after told budget front held taken place offset n few far some =
-    let fresh : new_bytes front offset n ≡ n = omega (arith, few, far) in
-    rw (span-some offset n some, kept_front front offset n few far, moved_place front place offset n few far some, fresh) refl
+shown_state_after told budget front held taken place offset n few far some = grind (arith, span-some)
 
 -- a read whose bytes are there
 pub shown_reads : (told budget front : ℕ) (held : Held) (taken place offset n : ℕ) (got : List ℕ) (reads : Reads (List ℕ))
     → (held.honest ≡ true → (told ≡ length held.input) × (length held.input < 2 ^ 63)) → front ≤ 32 → 32 ≤ offset → 0 < n
     → (held.honest ≡ true → (reads.answer ≡ Ok got) × (reads.marks ≡ span_at offset n))
     → Runs (shown_state told budget front held taken place) (shown_state told budget front held (taken + n) (offset + n)) (Ok got) reads
-shown_reads told budget front held taken place offset n got reads sound few far some is = record {
-  sound = sound;
-  sound_after = sound;
-  frame = refl;
-  taken = omega arith;
-  within = λ honest. omega (arith, ap total (is honest).1, total-span_at offset n);
-  answer = λ honest goes_on. (is honest).0;
-  state = λ honest goes_on. shown_state_after told budget front held taken place offset n few far some
-      ∙ ap (state_after (shown_state told budget front held taken place)) (sym (is honest).1);
-  fault = λ honest faults. absurd cc;
-  misses = λ honest faults. absurd cc;
-  ended = tt;
-}
+shown_reads told budget front held taken place offset n got reads sound few far some is =
+    grind (arith, total-span_at, shown_state_after)
 
 -- bytes from a later offset on are shown, too
 pub shown_behind : (held : Held) (start : ℕ) (bytes : List ℕ) (told offset ahead : ℕ) → AreShown held start bytes told
@@ -75,13 +54,7 @@ pub shown_part : (held : Held) (offset : ℕ) (bytes buffer : List ℕ) (told : 
     → held.honest ≡ true
     → ((part_read held.input offset (length buffer)).answer ≡ Ok (take (length buffer) buffer))
     × ((part_read held.input offset (length buffer)).marks ≡ span_at offset (length buffer))
-shown_part held offset bytes buffer told shown within few is honest =
-    let known = shown honest in
-    let first : part held.input offset (length buffer) ≡ buffer =
-    sym (part_front held.input offset (length buffer) (length bytes) few) ∙ ap (take (length buffer)) (sym known.0) ∙ sym is in (
-      ap Ok (first ∙ sym (take_all (length buffer) buffer (omega arith))),
-      whole_span held.input offset (length buffer) (omega (arith, within, few, known.1)),
-    )
+shown_part held offset bytes buffer told shown within few is honest = grind (arith, part_front, whole_span)
 
 -- and of a text that ends among them
 pub shown_text : (held : Held) (offset n : ℕ) (t : Text) (bytes buffer : List ℕ) (told : ℕ) → AreShown held offset bytes told
@@ -102,13 +75,7 @@ shown_text held offset n t bytes buffer told shown there fits copied ended whole
 pub shown_again : (told budget front : ℕ) (held : Held) (taken place : ℕ) (a : State)
     → (shown_state told budget front held taken place).frame ≡ (shown_by a).frame
     → shown_state told budget front held taken place ≡ shown_by (rejoined a taken place)
-shown_again told budget front held taken place a same =
-    let told_is : told ≡ a.frame.told = ap (λ f. f.told) same in
-    let budget_is : budget ≡ a.frame.budget = ap (λ f. f.budget) same in
-    let backing = ap (λ f. f.backing) same in
-    let front_is : front ≡ a.front = cc in
-    let held_is : held ≡ a.held = cc in
-    rw (told_is, budget_is, front_is, held_is) refl
+shown_again told budget front held taken place a same = grind (arith)
 
 -- two sources that count are changed alike by reads
 same_after : (a h : State) (marks : List Span) → a.frame.counts ≡ true → h.frame.counts ≡ true → a.recorded ≡ None
@@ -127,28 +94,4 @@ pub record_back : {X : Type 0} {told budget front : ℕ} {held : Held} {taken pl
     (t : Layout X) → b.frame.counts ≡ true → b.recorded ≡ None → h ≡ shown_by b → is_faulted r ≡ false
     → Follows h (shown_state told budget front held taken place) r t → Follows b (rejoined b taken place) r t
 record_back {X} {told} {budget} {front} {held} {taken} {place} {b} {h} r t counts plain shown no_fault given =
-    back (subst (λ s. Follows s (shown_state told budget front held taken place) r t) shown given) where
-      ended_as : (r : Result X Halt) → is_faulted r ≡ false → budget ≡ b.frame.budget
-          → IfErr r (EndedBy (shown_state told budget front held taken place)) → IfErr r (EndedBy (rejoined b taken place))
-      ended_as (Ok x) calm same ended = tt
-      ended_as (Err halt) calm same ended = record {
-        budget = λ spent. (counts, sym same ∙ (ended.budget spent).1);
-        fault = λ failed. absurd (let no : true ≡ false = sym failed ∙ calm in cc);
-      }
-
-      back : Follows (shown_by b) (shown_state told budget front held taken place) r t → Follows b (rejoined b taken place) r t
-      back run = let again = shown_again told budget front held taken place b run.frame in record {
-        sound = run.sound;
-        sound_after = run.sound;
-        frame = refl;
-        taken = run.taken;
-        within = run.within;
-        answer = run.answer;
-        state = λ honest goes_on.
-            ap (λ n. record b { front = n; taken = taken; place = place }) (sym (ap (λ s. s.front) again))
-            ∙ ap (λ s. record b { front = s.front; taken = s.taken; place = s.place }) (run.state honest goes_on)
-            ∙ sym (same_after b (shown_by b) (layout_reads b.held.input t).marks counts refl plain refl refl refl);
-        fault = λ honest faults. absurd (let no : true ≡ false = sym faults ∙ no_fault in cc);
-        misses = λ honest faults. absurd (let no : true ≡ false = sym faults ∙ no_fault in cc);
-        ended = ended_as r no_fault (ap (λ s. s.frame.budget) again) run.ended;
-      }
+    grind (arith, same_after)

@@ -19,9 +19,7 @@ past-slice d (s ∷ spans) = past-slice d spans
 pub front_is : (d buffer old : List ℕ) (offset n : ℕ) → n ≡ min (length old) (length d - offset)
     → buffer ≡ part d offset (length old)
     ++ drop n old → length buffer ≡ length old → take n buffer ≡ part d offset (length buffer)
-front_is d buffer old offset n count copied kept =
-    ap (take n) copied ∙ take_at (part d offset (length old)) (drop n old) n (part_length d offset (length old) ∙ sym count)
-    ∙ ap (part d offset) (sym kept)
+front_is d buffer old offset n count copied kept = grind (arith, take_at, part_length)
 
 -- a reading that was answered, and for which nothing was taken
 pub given_runs : {X : Type 0} {a b : State} {reads : Reads X} (x : X) → IsSound a → IsSound b → b.frame ≡ a.frame
@@ -32,9 +30,7 @@ given_runs x sound sound_after same none is passed = runs_free (Ok x) sound soun
 -- reads of a slice change nothing, and give what is there
 pub slice_gives : {X : Type 0} {reads : Reads X} (a : State) (x : X) → IsSlice a → length a.held.input < 2 ^ 63
     → reads.answer ≡ Ok x → Runs a a (Ok x) reads
-slice_gives {X} {reads} a x is short got =
-    given_runs x (λ honest. (ap (λ s. s.frame.told) is, short)) (λ honest. (ap (λ s. s.frame.told) is, short)) refl refl got
-    (is ∙ sym (past-slice a.held.input reads.marks) ∙ ap (λ s. state_after s reads.marks) (sym is))
+slice_gives {X} {reads} a x is short got = grind (arith, past-slice)
 
 -- a reading of a slice, from an offset that is the one asked for
 pub slice_reads : (d buffer old : List ℕ) (offset from n : ℕ) → length d < 2 ^ 63 → n ≡ min (length old) (length d - from)
@@ -59,8 +55,7 @@ pub slice_text : (d found : List ℕ) (t : Text) (offset from k m : ℕ) → fou
     → m ≡ length (text_front t found)
     → from ≡ offset → take m found ≡ text_part d t offset k
 unfolding text_part
-slice_text d found t offset from k m found_is m_is there = ap (λ j. take j found) m_is ∙ front_take t found
-    ∙ ap (text_front t) (found_is ∙ ap (λ p. part d p k) there)
+slice_text d found t offset from k m found_is m_is there = grind (arith, front_take)
 
 -- the reading of a text of a slice
 pub slice_reads_text : (d buffer : List ℕ) (t : Text) (offset count : ℕ) → length d < 2 ^ 63

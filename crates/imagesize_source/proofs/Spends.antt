@@ -1,11 +1,11 @@
 -- Readings that go forward spend the bytes of an input, each byte once.
-use Rattle.std.proofs.Common.{◌≡◌, ℕ, ◌+◌, ◌-◌, ◌≤◌, List, length, Option, None, Some, Result, Ok, Err, refl, ap, arith}
+use Rattle.std.proofs.Common.{◌≡◌, ℕ, ◌+◌, ◌-◌, ◌≤◌, List, length, Option, None, Some, Result, Ok, Err, ap, arith}
 use Rattle.imagesize_source.specs.declared.halt.Halt.{Halt}
 use Rattle.imagesize_source.specs.declared.span.Span.{Span}
 use Rattle.imagesize_source.specs.Chain.{Said, Decided, Next, Chain, Along, start, next_record, verdict, chain_from, chain_at, Advances}
 use Rattle.imagesize_source.specs.Input.{span_of}
 use Rattle.imagesize_source.specs.Layout.{Layout, done, refuse, field, reading, begin_record, layout_reads}
-use Rattle.imagesize_source.specs.Reading.{Reads, Reading, AllOf, PartOf, TextOf, go_on, and_then, read_of, text_part}
+use Rattle.imagesize_source.specs.Reading.{Reads, Reading, AllOf, PartOf, TextOf, go_on, and_then, read_of}
 use Rattle.imagesize_source.specs.State.{total}
 use Rattle.imagesize_source.proofs.ChainLaws.{chain_induction}
 use Rattle.imagesize_source.proofs.Chains.{chain_next, chain_stop}
@@ -46,10 +46,6 @@ Onto to q (field order offset k f) = (q ≤ offset) × ((v : ℕ) → Onto to (o
 Onto to q (reading r offset f) = (q ≤ offset) × ((bs : List ℕ) → Onto to (offset + passed r bs) (f bs))
 Onto to q (begin_record t) = Onto to q t
 
-not_before_left : (n q : ℕ) (next : Option ℕ) → NotBefore q next → left_of n next ≤ n - q
-not_before_left n q None h = omega arith
-not_before_left n q (Some offset) h = omega arith
-
 -- a reading leaves the bytes behind those that it leads over
 reading_spends : (d : List ℕ) (r : Reading) (offset : ℕ) (bs : List ℕ) → (read_of d r offset).answer ≡ Ok bs
     → total (read_of d r offset).marks + (length d - (offset + passed r bs)) ≤ length d - offset
@@ -61,19 +57,18 @@ reading_spends d (TextOf t k) offset bs is = omega (arith, ap length (part_is is
 reading_left : (d : List ℕ) (r : Reading) (offset : ℕ) → total (read_of d r offset).marks ≤ length d - offset
 reading_left d (AllOf k) offset = omega (arith, total_there d offset k)
 reading_left d (PartOf k) offset = omega (arith, total_there d offset k)
-reading_left d (TextOf t k) offset = omega (arith, reading_spends d (TextOf t k) offset (text_part d t offset k) refl)
+reading_left d (TextOf t k) offset = grind (arith, total_there, part_is, total-span_at, text_length, part_length)
 
 onward_spends : {X Y : Type 0} (n q : ℕ) (to : Y → Option ℕ) (spans : List Span) (r : Result X Halt) (f : X → Reads Y)
     (next : X → ℕ) → total spans ≤ n - q → ((x : X) → r ≡ Ok x → total spans + (n - next x) ≤ n - q)
     → ((x : X) → r ≡ Ok x → Spends n (next x) to (f x)) → Spends n q to (go_on spans r f)
-onward_spends n q to spans (Ok x) f next few here rest =
-    omega (arith, here x refl, rest x refl, total-append spans (f x).marks)
+onward_spends n q to spans (Ok x) f next few here rest = grind (arith, total-append)
 onward_spends n q to spans (Err e) f next few here rest = omega arith
 
 -- a layout that goes forward spends the bytes of the input
 pub spends : {X : Type 0} (d : List ℕ) (to : X → Option ℕ) (q : ℕ) (t : Layout X) → Onto to q t
     → Spends (length d) q to (layout_reads d t)
-spends d to q (done x) h = omega (arith, not_before_left (length d) q (to x) h)
+spends d to q (done x) h = grind arith
 spends d to q (refuse e) h = omega arith
 spends d to q (field order offset k f) h =
     onward_spends (length d) q to (span_of d offset k) _ _ (λ _. offset + k)
@@ -89,8 +84,7 @@ spends d to q (begin_record t) h = spends d to q t h
 pub spends_then : {X Y : Type 0} (n q : ℕ) (next : X → ℕ) (to : Y → Option ℕ) (r : Reads X) (f : X → Reads Y)
     → Spends n q (λ x. Some (next x)) r → ((x : X) → r.answer ≡ Ok x → Spends n (next x) to (f x))
     → Spends n q to (and_then r f)
-spends_then {X} {Y} n q next to r f first rest = onward_spends n q to r.marks r.answer f next (omega arith)
-    (λ x is. let here = ap (left n (λ x. Some (next x))) is in omega arith) rest
+spends_then {X} {Y} n q next to r f first rest = grind (arith, total-append)
 
 -- where a chain goes on behind a record: at the offset of the next, or where its answer does
 abbrev pub said_to : {C X : Type 0} → (X → Option ℕ) → Said C X → Option ℕ

@@ -11,20 +11,12 @@ use Rattle.imagesize_source.proofs.Chains.{chain_next, chain_stop, chain_unfolds
 use Rattle.imagesize_source.proofs.Marks.{behind-behind}
 use Rattle.imagesize_source.specs.Strides.{Strides}
 use Rattle.imagesize_source.proofs.Reached.{reads_nothing}
-use Rattle.imagesize_source.proofs.Runs.{ended_by, marks_onward, past-none, past-past, plain_end, reached_end, reached_start, still, still_honest, total-append, without_fault}
+use Rattle.imagesize_source.proofs.Runs.{ended_by, marks_onward, past-none, past-past, plain_end, reached_end, still, still_honest, total-append, without_fault}
 use Rattle.imagesize_source.proofs.Sharing.{leads_on}
 
 module _ {C X : Type 0} (c : Chain C X) where
   pub strides_start : (P : List C → Type 0) (a : State) (t : Along C) → P t.held → Strides c P a a t t.offset
-  strides_start P a t known = record {
-    held = t.held;
-    known = known;
-    reached = reached_start a (chain_from c a.held.input t);
-    made = [];
-    ahead = λ honest. omega arith;
-    state = λ honest. sym (past-none a);
-    leads = λ honest d shares. refl;
-  }
+  strides_start P a t known = grind (arith, past-none)
 
 module _ {C X : Type 0} (c : Chain C X) (adv : (d : List ℕ) → Advances c d)
     (P : List C → Type 0) {a b : State} {t : Along C} {offset : ℕ}
@@ -130,12 +122,4 @@ module _ {C X : Type 0} (c : Chain C X) (adv : (d : List ℕ) → Advances c d)
 -- what is known of the records before, otherwise said
 pub strides_knows : {C X : Type 0} (c : Chain C X) (P Q : List C → Type 0) {a b : State} {t : Along C} {offset : ℕ}
     → ((held : List C) → P held → Q held) → Strides c P a b t offset → Strides c Q a b t offset
-strides_knows c P Q knows w = record {
-  held = w.held;
-  known = knows w.held w.known;
-  reached = w.reached;
-  made = w.made;
-  ahead = w.ahead;
-  state = w.state;
-  leads = w.leads;
-}
+strides_knows c P Q knows w = grind (arith)

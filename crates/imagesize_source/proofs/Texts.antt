@@ -1,8 +1,7 @@
 -- A text at the front of some bytes, and what bytes behind it change.
 use Rattle.std.proofs.Common.{◌≡◌, ℕ, suc, ◌+◌, ◌-◌, ◌<◌, ◌≤◌, Bool, true, false, ◌&&◌, ◌||◌, not, cond, List, [], ◌∷◌, ◌++◌, length, take, drop, None, Some, inl, inr, one-add, refl, sym, ap, ◌∙◌, arith, append_assoc}
 use Rattle.std.proofs.lemmas.Bool.{cases_Bool, cond_both, or_parts}
-use Rattle.std.proofs.lemmas.List.{length-append, length-drop, length-take, take-append-drop, take_all, take_at, take_rest}
-use Rattle.std.proofs.lemmas.Bool.Decides.{nat_tests}
+use Rattle.std.proofs.lemmas.List.{length-append, length-drop, length-take, take-append-drop, take-take, take_all, take_at, take_rest}
 use Rattle.std.specs.Char.{is_ascii_whitespace}
 use Rattle.std.specs.List.{list_any, position, position_or_len}
 use Rattle.imagesize_source.specs.declared.text.Text.{Text}
@@ -16,9 +15,7 @@ one_more n = omega arith
 -- a byte that passes is the last, and one that does not goes before the rest
 pub through-cons : (p : ℕ → Bool) (b : ℕ) (bs : List ℕ)
     → front_through p (b ∷ bs) ≡ cond (p b) (b ∷ []) (b ∷ front_through p bs)
-through-cons p b bs = cond_both (p b) (b ∷ []) (b ∷ front_through p bs) (λ bytes. front_through p (b ∷ bs) ≡ bytes)
-    (λ is. rw is refl)
-    (λ is. rw (is, one_more) refl)
+through-cons p b bs = grind arith
 
 -- a line is no white space and its bytes
 pub line_front : (delimiter : ℕ) (bs : List ℕ)
@@ -39,10 +36,7 @@ word_front b bs = cond_both (is_ascii_whitespace b) (b ∷ text_front Word bs) (
 pub word_ended : (b : ℕ) (bs : List ℕ) → is_ended Word (b ∷ bs) ≡ cond (is_ascii_whitespace b) (is_ended Word bs)
     (list_any is_ascii_whitespace bs)
 unfolding is_ended
-word_ended b bs = cond_both (is_ascii_whitespace b) (is_ended Word bs) (list_any is_ascii_whitespace bs)
-    (λ ended. is_ended Word (b ∷ bs) ≡ ended)
-    (λ is. rw (is, one-add) refl)
-    (λ is. rw (is, is) refl)
+word_ended b bs = grind arith
 
 pub no_front : text_front Word [] ≡ []
 unfolding text_front
@@ -73,11 +67,7 @@ at_once Word = false
 
 pub through_is : (p : ℕ → Bool) (bs : List ℕ) → front_through p bs ≡ cut p true bs
 through_is p [] = refl
-through_is p (b ∷ bs) = through-cons p b bs
-    ∙ elim (p b) as (λ is. cond is (b ∷ []) (b ∷ front_through p bs) ≡ b ∷ cond is [] (cut p true bs)) [
-      | true ↦ refl
-      | false ↦ ap (λ xs. b ∷ xs) (through_is p bs)
-    ]
+through_is p (b ∷ bs) = grind (arith, (through_is p bs))
 
 pub any_is : (p : ℕ → Bool) (bs : List ℕ) → list_any p bs ≡ met p true bs
 any_is p [] = refl
@@ -86,20 +76,13 @@ any_is p (b ∷ bs) = ap (λ is. p b || is) (any_is p bs)
 pub front_is : (t : Text) (bs : List ℕ) → text_front t bs ≡ cut (delimits t) (at_once t) bs
 front_is (Line delimiter) bs = line_front delimiter bs ∙ through_is (delimits (Line delimiter)) bs
 front_is Word [] = no_front
-front_is Word (b ∷ bs) = word_front b bs
-    ∙ elim (is_ascii_whitespace b) as (λ is. cond is (b ∷ text_front Word bs) (b ∷ front_through is_ascii_whitespace bs)
-    ≡ b ∷ cut is_ascii_whitespace (not is) bs) [
-      | true ↦ ap (λ xs. b ∷ xs) (front_is Word bs)
-      | false ↦ ap (λ xs. b ∷ xs) (through_is is_ascii_whitespace bs)
-    ]
+front_is Word (b ∷ bs) = grind (arith, word_front, (front_is Word bs))
 
 pub ended_is : (t : Text) (bs : List ℕ) → is_ended t bs ≡ met (delimits t) (at_once t) bs
 unfolding is_ended
 ended_is (Line delimiter) bs = any_is (delimits (Line delimiter)) bs
 ended_is Word [] = refl
-ended_is Word (b ∷ bs) = word_ended b bs ∙ elim (is_ascii_whitespace b)
-    as (λ is. cond is (is_ended Word bs) (list_any is_ascii_whitespace bs) ≡ met is_ascii_whitespace (not is) bs)
-    [ true ↦ ended_is Word bs | false ↦ any_is is_ascii_whitespace bs ]
+ended_is Word (b ∷ bs) = grind (arith, word_ended, any_is, (ended_is Word bs))
 
 pub begun_stays : (p : ℕ → Bool) (bs : List ℕ) → begins p true bs ≡ true
 begun_stays p [] = refl
@@ -107,8 +90,7 @@ begun_stays p (b ∷ bs) = begun_stays p bs
 
 pub begun_is : (bs : List ℕ) → begins is_ascii_whitespace false bs ≡ has_begun bs
 begun_is [] = refl
-begun_is (b ∷ bs) = elim (is_ascii_whitespace b) as (λ is. begins is_ascii_whitespace (not is) bs ≡ not is || has_begun bs)
-    [ true ↦ begun_is bs | false ↦ begun_stays is_ascii_whitespace bs ]
+begun_is (b ∷ bs) = grind (arith, begun_stays, (begun_is bs))
 
 -- what follows the byte that ends a text is not looked at
 cut_more : (p : ℕ → Bool) (begun : Bool) (bs more : List ℕ) → met p begun bs ≡ true → cut p begun (bs ++ more) ≡ cut p begun bs
@@ -129,9 +111,7 @@ cut_all p begun (b ∷ bs) none =
 -- the byte that ends a text is of the text
 met_cut : (p : ℕ → Bool) (begun : Bool) (bs : List ℕ) → met p begun (cut p begun bs) ≡ met p begun bs
 met_cut p begun [] = refl
-met_cut p begun (b ∷ bs) = elim (begun && p b) as (λ is. is || met p (begun || not (p b))
-    (cond is [] (cut p (begun || not (p b)) bs)) ≡ is || met p (begun || not (p b)) bs)
-    [ true ↦ refl | false ↦ met_cut p (begun || not (p b)) bs ]
+met_cut p begun (b ∷ bs) = grind (arith, (met_cut p (begun || not (p b)) bs))
 
 -- if the first bytes do not end a text, it goes on after them
 pub goes_behind : (p : ℕ → Bool) (begun : Bool) (xs ys : List ℕ) → met p begun xs ≡ false
@@ -145,15 +125,13 @@ goes_behind p begun (x ∷ xs) ys none =
 -- ---- the texts that contracts name
 
 pub front_more : (t : Text) (bs more : List ℕ) → is_ended t bs ≡ true → text_front t (bs ++ more) ≡ text_front t bs
-front_more t bs more some = front_is t (bs ++ more)
-    ∙ cut_more (delimits t) (at_once t) bs more (sym (ended_is t bs) ∙ some) ∙ sym (front_is t bs)
+front_more t bs more some = grind (arith, front_is, cut_more, ended_is)
 
 pub front_all : (t : Text) (bs : List ℕ) → is_ended t bs ≡ false → text_front t bs ≡ bs
 front_all t bs none = front_is t bs ∙ cut_all (delimits t) (at_once t) bs (sym (ended_is t bs) ∙ none)
 
 pub front_any : (t : Text) (bs : List ℕ) → is_ended t (text_front t bs) ≡ is_ended t bs
-front_any t bs =
-    rw (ended_is t (text_front t bs), ended_is t bs, front_is t bs) (met_cut (delimits t) (at_once t) bs)
+front_any t bs = grind (arith, ended_is, front_is, met_cut)
 
 -- a text that is ended stays so
 pub ended_more : (t : Text) (xs ys : List ℕ) → is_ended t xs ≡ true → is_ended t (xs ++ ys) ≡ true
@@ -195,23 +173,17 @@ front_length t bs = let split = front_first t bs in
 
 -- where a position is found, or none is
 pub found : (p : ℕ → Bool) (bs : List ℕ) (i : ℕ) → position p bs ≡ Some i → (position_or_len p bs ≡ i) × (i < length bs)
-found p bs i is = grind (arith, nat_tests)
+found p bs i is = grind arith
 
 pub not_found : (p : ℕ → Bool) (bs : List ℕ) → position p bs ≡ None → length bs ≤ position_or_len p bs
-not_found p bs is = grind (arith, nat_tests)
+not_found p bs is = grind arith
 
 -- the length of a word that ends, by the offsets of its first byte and of the white space after it
 pub word_closed : (bs : List ℕ) (start i : ℕ) → position (λ b. not (is_ascii_whitespace b)) bs ≡ Some start
     → position is_ascii_whitespace (take (length bs - start) (drop start bs)) ≡ Some i
     → start + i + 1 ≡ length (text_front Word bs)
 unfolding text_front
-word_closed bs start i begins closes =
-    let n : ℕ = position_or_len is_ascii_whitespace (drop start bs) + 1 in
-    let begin = found (λ b. not (is_ascii_whitespace b)) bs start begins in
-    let close = found is_ascii_whitespace (drop start bs) i (rw (take_rest bs start) at closes) in
-    sym (ap (λ k. length (take k bs ++ front_through is_ascii_whitespace (drop k bs))) begin.0
-    ∙ length-append (take start bs) (take n (drop start bs))
-    ∙ omega (arith, length-take start bs, length-take n (drop start bs), length-drop start bs, begin.1, close.0, close.1))
+word_closed bs start i begins closes = grind (arith, found, take_rest, length-append, length-take)
 
 -- the text is as many of the first bytes
 pub front_take : (t : Text) (bs : List ℕ) → take (length (text_front t bs)) bs ≡ text_front t bs
@@ -220,3 +192,14 @@ front_take t bs =
     ap (take (length (text_front t bs))) (sym split.1) ∙ take_at (text_front t bs) split.0 (length (text_front t bs)) refl
 
 pub ruleset fronts = (line_front, front_length)
+
+pub ruleset whole_fronts = (front_all, take_all, length-drop, take-append-drop)
+
+-- the text of the first bytes is as many of all bytes
+pub front_among : (t : Text) (bs : List ℕ) (most n : ℕ) → n ≡ length (text_front t (take most bs))
+    → take n bs ≡ text_front t (take most bs)
+front_among t bs most n counts =
+    sym (take-take n most bs (omega (arith, counts, front_length t (take most bs), length-take most bs)))
+    ∙ ap (λ k. take k (take most bs)) counts ∙ front_take t (take most bs)
+
+pub ruleset copies = (front_among, front_any, front_front, front_length, length-take)

@@ -21,8 +21,7 @@ text_on t xs ys none =
 -- a line goes on as another line
 pub line_on : (delimiter : ℕ) (xs ys : List ℕ) → is_ended (Line delimiter) xs ≡ false
     → is_ended (Line delimiter) (xs ++ ys) ≡ is_ended (Line delimiter) ys
-line_on delimiter xs ys none = (text_on (Line delimiter) xs ys none).0
-    ∙ rw (begun_stays (delimits (Line delimiter)) xs, ended_is (Line delimiter) ys) refl
+line_on delimiter xs ys none = grind (arith, goes_behind, ended_is, front_is, begun_stays)
 
 -- a line has the bytes before, and those of the line after them
 pub line_front_on : (delimiter : ℕ) (xs ys : List ℕ) → is_ended (Line delimiter) xs ≡ false
@@ -54,8 +53,7 @@ open_first t bs k most few none = elim (cases_Bool (is_ended t (take k bs))) [
 pub open_part : (t : Text) (d bs : List ℕ) (offset searched found k : ℕ) → bs ≡ part d offset found → k ≤ searched → k ≤ found
     → is_ended t (part d offset searched) ≡ false → is_ended t (take k bs) ≡ false
 unfolding part
-open_part t d bs offset searched found k is few fits none =
-    ap (is_ended t) (ap (take k) is ∙ take-take k found (drop offset d) fits) ∙ open_first t (drop offset d) k searched few none
+open_part t d bs offset searched found k is few fits none = grind (arith, take-take, open_first)
 
 -- if the last byte does not end a text, it shows whether the text has begun
 begun_last : (p : ℕ → Bool) (begun : Bool) (xs : List ℕ) (b : ℕ) → met p begun (xs ++ b ∷ []) ≡ false

@@ -47,16 +47,14 @@ Laws first keeps texts (Texts reads) = TextsLaws first keeps texts reads
 -- an input that agrees on the marks has the same answer and the same marks
 pub local_way : {X : Type 0} (first : ℕ) (keeps texts : Bool) (way : Way X) → Laws first keeps texts way
     → IsLocal texts (by_way way)
-local_way first keeps texts (Fixed most layout) laws =
-    local_layout layout (without_texts texts (most - first) layout laws.few)
+local_way first keeps texts (Fixed most layout) laws = grind (arith, local_layout, without_texts)
 local_way first keeps texts (Recorded outside each stated reads) laws = laws.local
 local_way first keeps texts (Texts reads) laws = laws.local
 
 -- with its type, an answer is read from at most these bytes
 pub cost_way : {X : Type 0} (first : ℕ) (keeps texts : Bool) (way : Way X) → Laws first keeps texts way → (d : List ℕ)
     → first + total (by_way way d).marks ≤ most_by way d
-cost_way first keeps texts (Fixed most layout) laws d =
-    omega (arith, laws.fits, at_most d (most - first) layout laws.few)
+cost_way first keeps texts (Fixed most layout) laws d = grind (arith, at_most)
 cost_way first keeps texts (Recorded outside each stated reads) laws d = omega (arith, laws.cost d, laws.within d)
 cost_way first keeps texts (Texts reads) laws d = laws.within d
 

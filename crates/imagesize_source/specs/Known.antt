@@ -1,6 +1,5 @@
 -- The known parts of an input.
-use Rattle.std.specs.Prelude.{◌≡◌, ℕ, ◌+◌, ◌-◌, ◌^◌, ◌<◌, ◌≤◌, min, Bool, true, false, ◌&&◌, List, [], ◌∷◌, length, drop, map, slice_index, nat_le, nat_lt, if◌then◌else◌, Option, None, Some, is_some}
-use Rattle.std.specs.Prelude.{unwrap_or, flat_map}
+use Rattle.std.specs.Prelude.{◌≡◌, ℕ, ◌+◌, ◌-◌, ◌^◌, ◌<◌, ◌≤◌, min, Bool, true, false, ◌&&◌, List, [], ◌∷◌, length, drop, map, slice_index, nat_le, nat_lt, if◌then◌else◌, Option, None, Some, is_some, unwrap_or, flat_map}
 use Rattle.std.specs.List.{range_with_len}
 use Rattle.imagesize_source.specs.declared.source.parts.Missing.{Missing}
 use Rattle.imagesize_source.specs.declared.span.Span.{Span}

@@ -55,6 +55,7 @@ pub fn eight_at(bytes: &[u8], index: usize) -> u64
 /// Copies the text from an offset on into the buffer, as far as it fits, and returns how many bytes it has. The buffer after the
 /// text may change.
 #[inline(always)]
+#[tactic(auto, using(crate::proofs::Parts::part_length, crate::proofs::Slices::slice_text))]
 pub fn copy_text_at(bytes: &[u8], offset: u64, text: Text, buffer: &mut [u8]) -> usize
     ensures text { take result buffer.new ≡ text_part bytes.now text offset (length buffer.new) }
     ensures fits { result ≤ length buffer.new }
@@ -71,6 +72,7 @@ pub fn copy_text_at(bytes: &[u8], offset: u64, text: Text, buffer: &mut [u8]) ->
 ///
 /// It searches for the end first. So it copies the text alone, and not byte by byte. The buffer after the text may change.
 #[inline(always)]
+#[tactic(auto, using(crate::proofs::Texts::copies))]
 pub fn copy_ended(bytes: &[u8], text: Text, buffer: &mut [u8]) -> Option<usize>
     ensures bound { IfSome result (λ n. n ≤ length buffer.new) }
     ensures there { IfSome result (λ n. n ≤ length bytes.now) }

@@ -12,6 +12,7 @@ use crate::{Endian, Halt};
 
 /// Fills the buffer with the bytes from an offset on. Returns `Ended` if the input ends earlier.
 #[inline(always)]
+#[tactic(auto, using(crate::proofs::Runs::bytes_there, crate::proofs::Runs::bytes_missing, crate::proofs::Runs::bytes_stopped))]
 pub fn read_exact_at<S: Source>(source: &mut S, offset: u64, buffer: &mut [u8]) -> Result<(), Halt>
     ensures pays { IfOk result (λ _. 0 < length buffer.new → Paid (S.state source.old) (S.state source.new) offset) }
     ensures runs { Runs (S.state source.old) (S.state source.new)
@@ -53,6 +54,7 @@ pub fn read_bytes_behind<S: Source, const N: usize>(
 
 /// Fills the buffer with the bytes from an offset on, and returns whether the input has all of them.
 #[inline(always)]
+#[tactic(auto, using(crate::proofs::Layouts::whole_read, crate::proofs::Layouts::whole_stopped))]
 pub fn read_whole_at<S: Source>(
     source: &mut S,
     offset: u64,

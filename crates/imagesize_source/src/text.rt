@@ -21,7 +21,7 @@ pub enum Text {
 
 /// How many bytes the text at the front of the bytes has.
 #[inline]
-#[tactic(auto, using(crate::proofs::Texts::fronts))]
+#[tactic(auto, using(crate::proofs::Texts::fronts, crate::proofs::Texts::front_all))]
 pub fn text_length(text: Text, bytes: &[u8]) -> usize
     ensures length { result ≡ length (text_front text bytes.now) }
     ensures within { result ≤ length bytes.now }
@@ -67,6 +67,7 @@ pub fn ended_behind(text: Text, first: &[u8], rest: &[u8]) -> Option<usize>
 
 // Whether a word that these bytes do not end has begun. If it has, the last of them is a byte of the word.
 #[inline(always)]
+#[tactic(auto, using(crate::proofs::Unended::begun_at))]
 fn has_begun(bytes: &[u8]) -> bool
     requires { is_ended Text.Word bytes.now ≡ false }
     ensures { result ≡ has_begun bytes.now }
@@ -77,6 +78,7 @@ fn has_begun(bytes: &[u8]) -> bool
 
 // How many bytes there are up to and with the first white space, if it is there.
 #[inline(always)]
+#[tactic(auto, using(crate::proofs::TextEnds::any_found))]
 fn through_white(bytes: &[u8]) -> Option<usize>
     ensures ended { IfSome result (λ _. list_any is_ascii_whitespace bytes.now ≡ true) }
     ensures length { IfSome result (λ n. n ≡ length (front_through is_ascii_whitespace bytes.now)) }
@@ -90,6 +92,7 @@ fn through_white(bytes: &[u8]) -> Option<usize>
 
 // How many bytes there are up to and with the delimiter, if it is there.
 #[inline(always)]
+#[tactic(auto, using(crate::proofs::TextEnds::lines), unfolding(crate::specs::Text::is_ended))]
 fn line_length(delimiter: u8, bytes: &[u8]) -> Option<usize>
     ensures ended { IfSome result (λ _. is_ended (Text.Line delimiter) bytes.now ≡ true) }
     ensures length { IfSome result (λ n. n ≡ length (text_front (Text.Line delimiter) bytes.now)) }
@@ -103,6 +106,7 @@ fn line_length(delimiter: u8, bytes: &[u8]) -> Option<usize>
 
 // How many bytes there are up to and with the white space that ends the first word, if it is there.
 #[inline]
+#[tactic(auto, using(crate::proofs::TextEnds::words), unfolding(crate::specs::Text::is_ended))]
 fn word_length(bytes: &[u8]) -> Option<usize>
     ensures ended { IfSome result (λ _. is_ended Text.Word bytes.now ≡ true) }
     ensures length { IfSome result (λ n. n ≡ length (text_front Text.Word bytes.now)) }

@@ -115,6 +115,7 @@ impl<'a> PartsSource<'a> {
 
     // Records a span.
     #[inline(always)]
+    #[tactic(auto, using(crate::proofs::Known::pushed_known))]
     fn push(&mut self, span: Span)
         requires { (offset : ℕ) → has_offset span offset ≡ true
             → is_some (byte_in_parts self.old.told self.old.spans.now self.old.bytes.now offset) ≡ true }
@@ -412,7 +413,7 @@ pub fn count_there(told: u64, offset: u64, buffer: usize) -> usize
 
 /// How many bytes the text at the front of the bytes has. `None` if it may go on after them: none of them ends it, and the read
 /// requests more. The first `searched` bytes do not end it.
-#[tactic(auto, using(crate::proofs::Texts::fronts))]
+#[tactic(auto, using(crate::proofs::Texts::fronts, crate::proofs::Texts::whole_fronts))]
 pub fn uncut_length(text: Text, bytes: &[u8], searched: usize, wanted: usize) -> Option<usize>
     requires searched { searched ≤ length bytes.now }
     requires unended { is_ended text (take searched bytes.now) ≡ false }
@@ -445,6 +446,7 @@ pub fn put(run: &[u8], buffer: &mut [u8], index: usize) -> usize
 
 // The known bytes from an offset on, from the first part that contains it. They end where the part ends, or where an earlier part
 // of the list begins.
+#[tactic(auto, using(crate::proofs::Gathering::found_none, crate::proofs::Gathering::found_run))]
 fn known_from<'a>(spans: &[Span], bytes: &'a [u8], told: u64, offset: u64) -> &'a [u8]
     ensures known { (i : ℕ) → i < length result.now
         → byte_in_parts told spans.now bytes.now (offset + i) ≡ Some (slice_index result.now i) }
@@ -467,6 +469,7 @@ fn known_from<'a>(spans: &[Span], bytes: &'a [u8], told: u64, offset: u64) -> &'
 // The known bytes from offset 0 on.
 //
 // Texts are requested piece by piece, and each piece begins where the one before ends. So a read of a text mostly needs no search.
+#[tactic(auto, using(crate::proofs::Gathering::joined_at, crate::proofs::Parts::part_length))]
 fn known_front<'a>(spans: &[Span], bytes: &'a [u8], told: u64) -> &'a [u8]
     ensures { (i : ℕ) → i < length result.now → byte_in_parts told spans.now bytes.now i ≡ Some (slice_index result.now i) }
 {

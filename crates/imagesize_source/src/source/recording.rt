@@ -46,7 +46,7 @@ impl<'a, 'b> RecordingSource<'a, 'b> {
 
     // Records `count` bytes from an offset on. Without bytes it records no span.
     #[inline(always)]
-    #[tactic(auto, unfolding(crate::specs::Input::span_at))]
+    #[tactic(auto, using(crate::proofs::Runs::lengths), unfolding(crate::specs::Input::span_at))]
     fn record(&mut self, start: u64, count: usize)
         ensures same_reference { self.new.buffer.ghost_name ≡ self.old.buffer.ghost_name }
         ensures bytes { self.new.bytes.now ≡ self.old.bytes.now }

@@ -1,12 +1,9 @@
-use Rattle.std.proofs.Common.{Result, ap, ◌∙◌, arith, rules}
+use Rattle.std.proofs.Common.{ap, ◌∙◌, arith, rules}
 use Rattle.imagesize.proofs.Counts.{cost_most, cost_stated, cost_within}
 use Rattle.imagesize.proofs.Extension.{size_lasts}
 use Rattle.imagesize.proofs.Locality.{local_meaning}
 use Rattle.imagesize.proofs.Short.{no_meaning}
-use Rattle.imagesize_source.specs.Outcome.{outcome_of, stated}
-use Rattle.imagesize_source.specs.Errors.{is_stopped}
-use Rattle.imagesize_source.specs.declared.error.ImageError.{ImageError}
-use Rattle.imagesize_types.specs.declared.size.ImageSize.{ImageSize}
+use Rattle.imagesize_source.specs.Outcome.{outcome_of}
 use Rattle.imagesize_source.proofs.Halts.{stated_same}
 use Rattle.imagesize.proofs.Endings.{slice_unstopped}
 use Rattle.imagesize_source.proofs.Agreement.{same_by_local}
@@ -34,9 +31,7 @@ pub returns-clause-lasts : goal.returns-clause-lasts
 returns-clause-lasts c = size_lasts c.args.«data».now 0 _ (search rules)
 
 pub returns-clause-value : goal.returns-clause-value
-returns-clause-value c = c.with_error.ensures ∙ stated_same _ _ _ c.probe_slice.ensures.unstopped
-    ∙ ap stated c.probe_slice.ensures.value
+returns-clause-value c = grind (arith, stated_same)
 
 pub returns-clause-unstopped : goal.returns-clause-unstopped
-returns-clause-unstopped c = ap (λ (r : Result ImageSize ImageError). is_stopped r) c.with_error.ensures
-    ∙ slice_unstopped _ _ _ c.probe_slice.ensures.unstopped
+returns-clause-unstopped c = grind (arith, slice_unstopped)

@@ -1,19 +1,15 @@
-use Rattle.std.proofs.Common.{Result, refl, ap, ◌∙◌}
+use Rattle.std.proofs.Common.{arith, ap, ◌∙◌}
 use Rattle.imagesize.proofs.Detection.{kind_lasts}
 use Rattle.imagesize.proofs.Endings.{never_stopped, slice_answer, slice_unstopped}
 use Rattle.imagesize.proofs.Locality.{local_kind}
 use Rattle.imagesize.proofs.Short.{no_kind}
 use Rattle.imagesize_source.proofs.Agreement.{same_by_local}
 use Rattle.imagesize.specs.Meaning.{kind_reads}
-use Rattle.imagesize.specs.declared.types.ImageType.{ImageType}
-use Rattle.imagesize_source.specs.Errors.{is_stopped}
 use Rattle.imagesize_source.specs.Outcome.{outcome_of}
-use Rattle.imagesize_source.specs.declared.error.ImageError.{ImageError}
 use Rattle.imagesize.proofs.calls.image_type.Goals as goal
 
 pub returns-clause-value : goal.returns-clause-value
-returns-clause-value c = c.with_error.ensures
-    ∙ slice_answer _ _ _ _ refl (never_stopped _ _ refl refl refl c.detect.ensures) c.detect.ensures
+returns-clause-value c = grind (arith, slice_answer, never_stopped)
 
 pub returns-clause-local : goal.returns-clause-local
 returns-clause-local c = λ offset e agrees.
@@ -23,8 +19,7 @@ pub returns-clause-short : goal.returns-clause-short
 returns-clause-short c = λ few. returns-clause-value c ∙ no_kind c.args.header.now 0 few
 
 pub returns-clause-unstopped : goal.returns-clause-unstopped
-returns-clause-unstopped c = ap (λ (r : Result ImageType ImageError). is_stopped r) c.with_error.ensures
-    ∙ slice_unstopped _ _ _ (never_stopped _ _ refl refl refl c.detect.ensures)
+returns-clause-unstopped c = grind (arith, slice_unstopped, never_stopped)
 
 pub returns-clause-lasts : goal.returns-clause-lasts
 returns-clause-lasts c = kind_lasts c.args.header.now 0 _ (returns-clause-value c)

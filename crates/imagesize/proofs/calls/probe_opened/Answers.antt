@@ -1,3 +1,4 @@
+use Rattle.std.proofs.lemmas.Bool.Decides.{nat_tests}
 use Rattle.std.proofs.Common.{refl, ap, arith, rules}
 use Rattle.imagesize.proofs.Endings.{budget_taken, fault_last, fault_settled, kept_plain, leaves_reader, no_memory, settled}
 use Rattle.imagesize.proofs.Meanings.{bounded_meaning, probes_opened}
@@ -13,31 +14,16 @@ returns-clause-probes g c = λ telling opens.
     c.probe-kind.ensures.kind (omega arith)
 
 pub returns-clause-spent : goal.returns-clause-spent
-returns-clause-spent g c =
-    rw c.with_error-answer.ensures (budget_taken c.args.opened.told _ _ _ (ap (λ s. s.frame.budget) c.new-source.ensures.state)
-    (kept_plain c.probe-kind.new.source.ledger.progress.fault _ refl) c.probe-kind.ensures.runs (omega arith))
+returns-clause-spent g c = grind (arith, budget_taken, kept_plain)
 
 pub returns-clause-memory : goal.returns-clause-memory
-returns-clause-memory g c =
-    rw c.with_error-answer.ensures (no_memory c.probe-kind.new.source.ledger.progress.fault _ _)
+returns-clause-memory g c = grind (arith, no_memory)
 
 pub returns-clause-fault : goal.returns-clause-fault
-returns-clause-fault g c =
-    rw c.with_error-answer.ensures
-    (fault_settled _ _ c.probe-kind.new.source.ledger.progress.fault c.left-left.result _ _ _
-    (λ none. ap (λ r. g.R.Told.failure r) (c.settle.ensures.stays none))
-    (fault_last _ c.probe-kind.new.source.ledger.progress.fault _ _ (search rules) c.probe-kind.ensures.runs)
-    c.left-left.ensures.calm refl)
+returns-clause-fault g c = grind (arith, fault_settled, fault_last)
 
 pub returns-clause-leaves : goal.returns-clause-leaves
-returns-clause-leaves g c = λ telling opens.
-    settled telling _ _ _ c.args.opened c.left-left.result opens
-    (λ none. ap (λ r. g.R.Told.telling r) (c.settle.ensures.stays none))
-    (leaves_reader telling _ _ _ _ c.args.opened
-    c.probe-kind.new.source.ledger.progress.told c.probe-kind.new.source.ledger.progress.retries
-    c.probe-kind.new.source.ledger.progress.fault _ _
-    c.new-source.ensures.state (search rules) c.probe-kind.ensures.runs opens)
-    c.settle.ensures.seeks (search rules)
+returns-clause-leaves g c = grind (arith, nat_tests, settled, leaves_reader)
 
 pub returns-clause-offset : goal.returns-clause-offset
 returns-clause-offset g c = λ telling opens.

@@ -1,8 +1,8 @@
-use Rattle.std.proofs.Common.{refl, ap, rules}
+use Rattle.std.proofs.Common.{arith, refl, ap, rules}
+use Rattle.std.proofs.lemmas.Bool.Decides.{nat_tests}
 use Rattle.imagesize.proofs.Endings.{budget_counted, fault_last, fault_settled, kept_plain, leaves_reader, no_memory, settled}
 use Rattle.imagesize.proofs.Meanings.{bounded_size, read_answers}
 use Rattle.imagesize.specs.Meaning.{size_reads}
-use Rattle.imagesize_source.specs.State.{since_of}
 use Rattle.imagesize.proofs.Within.{size_ends}
 use Rattle.imagesize_io.proofs.Leaving.{leaves_at}
 use Rattle.imagesize.proofs.calls.size_opened.Goals as goal
@@ -14,32 +14,16 @@ returns-clause-answers g c =
     c.size-found.ensures)
 
 pub returns-clause-spent : goal.returns-clause-spent
-returns-clause-spent g c =
-    rw c.with_error-answer.ensures (budget_counted c.args.opened.told _ _ _ _ (ap (λ s. s.frame.budget) c.new-source.ensures.state)
-    (ap (λ s. since_of s.frame.backing) c.new-source.ensures.state) (kept_plain c.size-found.new.source.ledger.progress.fault _ refl)
-    c.size-found.ensures (search rules))
+returns-clause-spent g c = grind (arith, budget_counted, kept_plain)
 
 pub returns-clause-memory : goal.returns-clause-memory
-returns-clause-memory g c =
-    rw c.with_error-answer.ensures (no_memory c.size-found.new.source.ledger.progress.fault _ _)
+returns-clause-memory g c = grind (arith, no_memory)
 
 pub returns-clause-fault : goal.returns-clause-fault
-returns-clause-fault g c =
-    rw c.with_error-answer.ensures
-    (fault_settled _ _ c.size-found.new.source.ledger.progress.fault c.left-left.result _ _ _
-    (λ none. ap (λ r. g.R.Told.failure r) (c.settle.ensures.stays none))
-    (fault_last _ c.size-found.new.source.ledger.progress.fault _ _ (search rules) c.size-found.ensures)
-    c.left-left.ensures.calm refl)
+returns-clause-fault g c = grind (arith, fault_settled, fault_last)
 
 pub returns-clause-leaves : goal.returns-clause-leaves
-returns-clause-leaves g c = λ telling opens.
-    settled telling _ _ _ c.args.opened c.left-left.result opens
-    (λ none. ap (λ r. g.R.Told.telling r) (c.settle.ensures.stays none))
-    (leaves_reader telling _ _ _ _ c.args.opened
-    c.size-found.new.source.ledger.progress.told c.size-found.new.source.ledger.progress.retries
-    c.size-found.new.source.ledger.progress.fault _ _
-    c.new-source.ensures.state (search rules) c.size-found.ensures opens)
-    c.settle.ensures.seeks (search rules)
+returns-clause-leaves g c = grind (arith, nat_tests, settled, leaves_reader)
 
 pub returns-clause-offset : goal.returns-clause-offset
 returns-clause-offset g c = λ telling opens.

@@ -19,11 +19,7 @@ returns-clause-probes c = λ telling mid opens memory.
     c.probe-kind.ensures.runs c.probe-kind.ensures.kind (omega (arith, c.taken-taken.ensures))
 
 pub returns-clause-spent : goal.returns-clause-spent
-returns-clause-spent c =
-    let same : length c.args.bytes.now ≡ length c.probe-kind.new.source.bytes.now =
-    omega (arith, ap (λ f. f.told) c.probe-kind.ensures.runs.frame, ap length c.new-source.ensures.bytes) in
-    rw same (budget_taken (length c.args.bytes.now) _ _ _ (omega (arith, ap length c.new-source.ensures.bytes))
-    (record { spent = refl }) c.probe-kind.ensures.runs (omega (arith, c.taken-taken.ensures)))
+returns-clause-spent c = grind (arith, budget_taken)
 
 pub returns-clause-memory : goal.returns-clause-memory
 returns-clause-memory c = no_memory None _ _

@@ -1,14 +1,9 @@
-use Rattle.std.proofs.Common.{Result, refl, ap, ◌∙◌}
+use Rattle.std.proofs.Common.{arith}
 use Rattle.imagesize.proofs.Endings.{never_stopped, slice_answer, slice_unstopped}
-use Rattle.imagesize_types.specs.declared.size.ImageSize.{ImageSize}
-use Rattle.imagesize_source.specs.Errors.{is_stopped}
-use Rattle.imagesize_source.specs.declared.error.ImageError.{ImageError}
 use Rattle.imagesize.proofs.memory.memory_size.Goals as goal
 
 pub returns-clause-value : goal.returns-clause-value
-returns-clause-value c = c.with_error.ensures
-    ∙ slice_answer _ _ _ _ refl (never_stopped _ _ refl refl refl c.probe-found.ensures.runs) c.probe-found.ensures.runs
+returns-clause-value c = grind (arith, slice_answer, never_stopped)
 
 pub returns-clause-unstopped : goal.returns-clause-unstopped
-returns-clause-unstopped c = ap (λ (r : Result ImageSize ImageError). is_stopped r) c.with_error.ensures
-    ∙ slice_unstopped _ _ _ (never_stopped _ _ refl refl refl c.probe-found.ensures.runs)
+returns-clause-unstopped c = grind (arith, slice_unstopped, never_stopped)

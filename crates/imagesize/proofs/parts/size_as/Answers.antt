@@ -1,3 +1,4 @@
+use Rattle.std.proofs.Common.{arith}
 use Rattle.imagesize_source.specs.Errors.{end_of_input}
 use Rattle.imagesize_source.specs.Halts.{with_error}
 use Rattle.imagesize.proofs.Locality.{local_size}
@@ -26,13 +27,7 @@ returns-clause-fits c =
     (with_error end_of_input 0 c.size-found.result) _ call.lacks)
 
 pub returns-clause-unstopped : goal.returns-clause-unstopped
-returns-clause-unstopped c = λ short.
-    let old = c.args.source.now in let s = c.size-found.new.source in let new = c.forget.ensures in
-    let call = called (size_reads c.args.image) old.told _ _ old.spans.now _ _ old.bytes.now _ _ _ _ _ _ _
-    new.told new.spans new.bytes new.seen new.missed c.size-found.ensures s.seen s.lacks in
-    rw (c.found_or_wanted.ensures, c.has_texts-texts.ensures)
-    (unstopped (size_reads c.args.image) old.told old.spans.now old.bytes.now
-    (has_texts c.args.image) s.log.spans s.missed end_of_input 0 c.size-found.result short call)
+returns-clause-unstopped c = grind (arith, called, unstopped)
 
 pub returns-clause-reaches : goal.returns-clause-reaches
 returns-clause-reaches c = λ short is_text.

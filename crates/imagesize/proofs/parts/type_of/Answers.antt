@@ -1,4 +1,4 @@
-use Rattle.std.proofs.Common.{false, ap, ◌∙◌}
+use Rattle.std.proofs.Common.{arith, false, ap, ◌∙◌}
 use Rattle.imagesize.proofs.Locality.{local_kind}
 use Rattle.imagesize.proofs.Wanted.{both_are, called, fits, says_of, unstopped}
 use Rattle.imagesize.specs.Meaning.{kind_reads}
@@ -25,12 +25,7 @@ returns-clause-fits c =
     (with_error end_of_input 0 c.detect-found.result) _ call.lacks)
 
 pub returns-clause-unstopped : goal.returns-clause-unstopped
-returns-clause-unstopped c = λ short.
-    let old = c.args.source.now in let s = c.detect-found.new.source in let new = c.forget.ensures in
-    let call = called (λ x. kind_reads x 0) old.told _ _ old.spans.now _ _ old.bytes.now _ _ _ _ _ _ _
-    new.told new.spans new.bytes new.seen new.missed c.detect-found.ensures s.seen s.lacks in
-    rw c.found_or_wanted.ensures (unstopped (λ x. kind_reads x 0) old.told old.spans.now old.bytes.now false s.log.spans s.missed end_of_input 0
-    c.detect-found.result short call)
+returns-clause-unstopped c = grind (arith, called, unstopped)
 
 pub returns-clause-spans : goal.returns-clause-spans
 returns-clause-spans c = (both_are _ _ _ _ (ap (λ (a : Frame). parts_of a.backing) c.detect-found.ensures.frame)).0 ∙ c.forget.ensures.spans

@@ -1,11 +1,11 @@
 use Rattle.std.proofs.Common.{◌≡◌, ℕ, ◌+◌, ◌^◌, ◌<◌, ◌≤◌, Bool, List, length, map, take, drop, eqb, sym, subst, ◌∙◌, arith, w8, w16}
 use Rattle.std.proofs.lemmas.List.{length-take, length-drop, length-map}
 use Rattle.std.proofs.lemmas.Nat.Bits.{bit_at-trailing_zeros}
-use Rattle.std.proofs.lemmas.Simd.{bitmask_splat, leading_from_mask_l, mask_l-lt, trailing_mask_l}
+use Rattle.std.proofs.lemmas.Simd.{bitmask_splat, mask_l-lt, trailing_mask_l}
 use Rattle.std.specs.Int.Count.{count_trailing_zeros}
 use Rattle.std.specs.List.{position_or_len}
 use Rattle.std.specs.Simd.Lanes.{mask_l}
-use Rattle.imagesize_source.proofs.Places.{position_some, position_none}
+use Rattle.imagesize_source.proofs.Places.{position_some}
 use Rattle.imagesize_source.proofs.search.first_among.Goals as goal
 
 -- sixteen bytes are there
@@ -13,12 +13,7 @@ sixteen : (bs : List ℕ) (index : ℕ) → index + 16 ≤ length bs → length 
 sixteen bs index there = omega (arith, length-take 16 (drop index bs), length-drop index bs, there)
 
 pub returns-then-marks-eq0 : goal.returns-then-marks-eq0
-returns-then-marks-eq0 c =
-    let bs : List ℕ = take 16 (drop c.args.index c.args.bytes.now) in
-    let long : length bs ≡ 16 = sixteen c.args.bytes.now c.args.index c.requires in
-    let marks = bitmask_splat w8 eqb bs 16 c.args.wanted long (omega arith) in
-    sym (position_none (λ b. eqb b c.args.wanted) bs (length bs)
-    (leading_from_mask_l (λ b. eqb b c.args.wanted) bs (sym marks ∙ c.if-marks-eq0.true)) (omega arith))
+returns-then-marks-eq0 c = grind arith
 
 pub returns : goal.returns
 returns c =

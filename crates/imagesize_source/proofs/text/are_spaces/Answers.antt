@@ -1,4 +1,4 @@
-use Rattle.std.proofs.Common.{ℕ, ◌+◌, ◌<◌, not, List, take, drop, get_or, eqb-true, sym, ap, ◌∙◌, arith, w8}
+use Rattle.std.proofs.Common.{ℕ, ◌<◌, not, List, take, drop, get_or, eqb-true, sym, ap, ◌∙◌, arith, w8}
 use Rattle.std.proofs.lemmas.List.{get_or-take, get_or-drop, get_or_past, length-take}
 use mir.Val.{Fits}
 use Rattle.std.proofs.lemmas.Nat.{le_bytes_8}
@@ -9,7 +9,7 @@ use Rattle.imagesize_source.proofs.text.are_spaces.Goals as goal
 
 -- a byte of a part, or none
 small : (bs : List ℕ) (index k i : ℕ) → ((j : ℕ) → Fits w8 (get_or bs j 0)) → get_or (take k (drop index bs)) i 0 < 256
-small bs index k i fits = grind (arith, get_or-take, get_or-drop, get_or_past, length-take, (fits (index + i)).fits)
+small bs index k i fits = grind (arith, get_or-take, get_or-drop, get_or_past, length-take)
 
 pub returns : goal.returns
 returns c = λ same.

@@ -1,6 +1,5 @@
 use Rattle.std.proofs.Common.{◌≡◌, ℕ, ◌+◌, ◌≤◌, Bool, true, false, List, ◌++◌, length, Option, None, IfSome, sym, ◌∙◌, arith}
 use Rattle.std.proofs.lemmas.List.{length-take}
-use Rattle.std.proofs.lemmas.Option.{IfSome_then}
 use Rattle.std.specs.Char.{is_ascii_whitespace}
 use Rattle.std.specs.List.{position_or_len}
 use Rattle.imagesize_source.specs.Text.{is_ended, text_front}
@@ -19,12 +18,7 @@ found_behind : {t : Text} {xs ys : List ℕ} {ended : Bool} {n : ℕ} (r : Optio
       length : IfSome r (λ k. length xs + k ≡ length (text_front t (xs ++ ys)));
       «open» : r ≡ None → is_ended t (xs ++ ys) ≡ false;
     }
-found_behind r on few ended long still = record {
-  ended = IfSome_then r ended (λ k is. on.end ∙ is);
-  within = IfSome_then r long (λ k is. omega arith);
-  length = IfSome_then r long (λ k is. omega (arith, on.long));
-  «open» = λ none. on.end ∙ still none;
-}
+found_behind r on few ended long still = grind (arith)
 
 pub returns-in-Line : goal.returns-in-Line
 returns-in-Line c =

@@ -1,6 +1,5 @@
-use Rattle.std.proofs.Common.{◌-◌, ◌+◌, refl, ◌++◌, ap, ◌∙◌}
-use Rattle.imagesize_source.specs.Input.{span_at}
-use Rattle.imagesize_source.proofs.KnownReadings.{parts_read, parts_missing, state_is}
+use Rattle.std.proofs.Common.{◌-◌, ◌+◌, refl}
+use Rattle.imagesize_source.proofs.KnownReadings.{parts_read, parts_missing}
 use Rattle.imagesize_source.proofs.source.parts.PartsSource.gather_at.Goals as goal
 
 pub returns-then-found-wanted-clause-runs : goal.returns-then-found-wanted-clause-runs
@@ -11,9 +10,7 @@ returns-then-found-wanted-clause-runs c =
     f.result.1 f.result.0
     (record { start = c.args.offset + f.result.0; sure = f.result.1 - f.result.0; most = f.result.1 - f.result.0 })
     f.ensures.wanted c.if-found-wanted.true refl refl refl
-    (state_is _ _ _ _ _ _ _ _ _ _ (c.miss.ensures.told ∙ f.ensures.told) (c.miss.ensures.spans ∙ f.ensures.spans)
-    (c.miss.ensures.bytes ∙ f.ensures.bytes) (c.miss.ensures.seen ∙ ap (λ xs. xs ++ span_at c.args.offset f.result.0) f.ensures.seen)
-    c.miss.ensures.missed))
+    (cc))
 
 pub returns-clause-runs : goal.returns-clause-runs
 returns-clause-runs c =
@@ -21,6 +18,4 @@ returns-clause-runs c =
     let f = c.fill_known-found in
     parts_read s.told s.spans.now s.bytes.now s.log.spans s.missed _ f.new.buffer c.args.offset
     f.result.1 f.result.0 f.ensures.wanted f.ensures.within c.if-found-wanted.false f.ensures.copied
-    (state_is _ _ _ _ _ _ _ _ _ _ (c.see.ensures.told ∙ f.ensures.told) (c.see.ensures.spans ∙ f.ensures.spans)
-    (c.see.ensures.bytes ∙ f.ensures.bytes) (c.see.ensures.seen ∙ ap (λ xs. xs ++ span_at c.args.offset f.result.0) f.ensures.seen)
-    (c.see.ensures.missed ∙ f.ensures.missed))
+    (cc)

@@ -2,7 +2,7 @@ use Rattle.std.proofs.Common.{◌≡◌, ◌-◌, min, arith, ap, ◌∙◌, len
 use Rattle.std.proofs.Math.Seq.{take-length}
 use Rattle.imagesize_source.specs.Input.{part}
 use Rattle.imagesize_source.proofs.Gathering.{front_there}
-use Rattle.imagesize_source.proofs.KnownReadings.{parts_read, state_is}
+use Rattle.imagesize_source.proofs.KnownReadings.{parts_read}
 use Rattle.imagesize_source.proofs.source.parts.PartsSourceSource.read_at.Goals as goal
 
 pub returns-clause-pays : goal.returns-clause-pays
@@ -27,5 +27,4 @@ returns-clause-runs c =
     (length found) (length found) wanted
     (omega arith) (omega arith)
     (ap (take (length found)) same ∙ take-length found ∙ has.0 ∙ there.1 ∙ ap (part _ c.args.offset) (omega (arith, has.1)))
-    (state_is _ _ _ _ _ _ _ _ _ _ c.see.ensures.told c.see.ensures.spans c.see.ensures.bytes c.see.ensures.seen
-    c.see.ensures.missed)
+    (cc)

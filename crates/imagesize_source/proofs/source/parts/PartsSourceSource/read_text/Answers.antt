@@ -3,7 +3,7 @@ use Rattle.std.proofs.lemmas.List.{length-drop}
 use Rattle.imagesize_source.specs.Input.{part}
 use Rattle.imagesize_source.specs.Text.{is_ended, text_front}
 use Rattle.imagesize_source.proofs.Gathering.{front_there}
-use Rattle.imagesize_source.proofs.KnownReadings.{parts_ended, state_is}
+use Rattle.imagesize_source.proofs.KnownReadings.{parts_ended}
 use Rattle.imagesize_source.proofs.source.parts.PartsSourceSource.read_text.Goals as goal
 
 pub returns-clause-pays : goal.returns-clause-pays
@@ -25,5 +25,4 @@ returns-clause-runs c =
     has.bound there.0 (has.copied ∙ ap (take n) c.bytes_behind.ensures ∙ there.1)
     (ap (is_ended c.args.text) has.copied ∙ has.ended)
     (ap (text_front c.args.text) has.copied ∙ has.whole ∙ sym has.copied)
-    (state_is _ _ _ _ _ _ _ _ _ _ c.see.ensures.told c.see.ensures.spans c.see.ensures.bytes c.see.ensures.seen
-    c.see.ensures.missed)
+    (cc)
