@@ -1,5 +1,5 @@
 -- What `report_spans` writes, by what was found.
-use Rattle.std.proofs.Common.{◌≡◌, ℕ, ◌+◌, ◌<◌, Bool, false, List, [], ◌∷◌, ◌++◌, length, take, get_or, Option, None, Some, Result, Ok, Err, IsOk, IsSome, IsSomeAnd, IfSome, OnOk, IfOk, inl, is_ok, option_map, refl, sym, ap, ◌∙◌, subst, rules, append_assoc}
+use Rattle.std.proofs.Common.{◌≡◌, ℕ, ◌+◌, ◌<◌, Bool, List, [], ◌∷◌, ◌++◌, length, take, get_or, Option, None, Some, Result, Ok, Err, IsOk, IsSome, IsSomeAnd, IfSome, OnOk, IfOk, inl, is_ok, option_map, refl, sym, ap, ◌∙◌, subst, rules, append_assoc}
 use Rattle.std.proofs.KnownBytes.{Appends-trans}
 use Rattle.std.proofs.lemmas.Grind.{take_at_read}
 use Rattle.std.specs.Result.{result_ok}
@@ -8,12 +8,9 @@ use Rattle.std.specs.Io.KnownBytes.{Appends}
 use Rattle.imagesize.specs.Meaning.{kind_of, meaning}
 use Rattle.imagesize.specs.Traced.{Traces}
 use Rattle.imagesize.specs.declared.trace.Trace.{Trace}
-use Rattle.imagesize.specs.declared.types.ImageType.{ImageType}
 use Rattle.imagesize_types.specs.declared.size.ImageSize.{ImageSize}
 use Rattle.imagesize_probe.proofs.Lines.{line_there, sized_kind}
-use Rattle.imagesize_probe.specs.Line.{answer_line, refused_line, span_line, span_lines, ReportsSpans, TracesTo}
-use Rattle.imagesize_source.specs.Errors.{is_stopped}
-use Rattle.imagesize_source.specs.Reason.{error_text}
+use Rattle.imagesize_probe.specs.Line.{answer_line, span_line, span_lines, ReportsSpans, TracesTo}
 use Rattle.imagesize_source.specs.declared.error.ImageError.{ImageError}
 use Rattle.imagesize_source.specs.declared.span.Span.{Span}
 

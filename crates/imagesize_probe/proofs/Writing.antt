@@ -1,5 +1,5 @@
 -- The lines of one name more.
-use Rattle.std.proofs.Common.{◌≡◌, ◌∙◌, ◌≤◌, ap, subst, sym, arith, ℕ, Bool, true, false, ◌||◌, not, List, [], ◌∷◌, ◌++◌, Option, None, Some, Result, Ok, Err, IsOkAnd, IsSomeAnd, OnOk, IfOk, IfSome, ◌⊎◌, codes, is_ok, option_map, inl, inr, refl, rules, ◌+◌, ◌<◌, length, map, take, get_or, append_assoc}
+use Rattle.std.proofs.Common.{◌≡◌, ◌∙◌, ap, subst, sym, arith, ℕ, Bool, false, ◌||◌, not, List, [], ◌∷◌, ◌++◌, Option, None, Some, Result, Ok, Err, IsOkAnd, IsSomeAnd, OnOk, IfOk, IfSome, ◌⊎◌, codes, is_ok, option_map, inl, inr, refl, rules, ◌+◌, ◌<◌, length, map, take, get_or, append_assoc}
 use mathlib.Core.Bool.{or_assoc, or_comm}
 use mathlib.Core.Logic.{⊎_elim}
 use Rattle.std.proofs.KnownBytes.{Appends-kept, Appends-nil, Appends-trans}
@@ -20,7 +20,7 @@ use Rattle.imagesize_source.specs.declared.error.Reason.TheVariants.{Memory}
 use Rattle.imagesize_source.specs.declared.span.Span.{Span}
 use Rattle.imagesize_probe.proofs.Feeds.{plain_error}
 use Rattle.imagesize_probe.specs.Line.{answer_line, sized_line, refused_line, span_lines, AppendsLine, AppendsLines, IsOneLine, LacksMemory, ReportsSpans}
-use Rattle.imagesize_probe.specs.Run.{Files, OpensAs, OpensTo, WritesEach, RunsWith, WritesLine, WritesLines, WritesOne, WritesSpans, Loads, LoadsNone, IsTooLong, ReportsWhole, SpansBehind, whole_length, line_behind, join_lines, lines_of, is_any_refused, names_in, wants_spans}
+use Rattle.imagesize_probe.specs.Run.{Files, OpensAs, OpensTo, WritesEach, RunsWith, WritesLine, WritesLines, WritesOne, WritesSpans, Loads, LoadsNone, ReportsWhole, SpansBehind, whole_length, line_behind, join_lines, lines_of, is_any_refused, names_in, wants_spans}
 use Rattle.imagesize_probe.specs.Status.{exit_status}
 
 -- a line was written and sent on, and then others

@@ -9,12 +9,14 @@ ghost use Rattle.imagesize_source.specs.Errors.{is_fault, is_memory};
 ghost use Rattle.imagesize_source.specs.declared.error.ImageError.TheVariants.{IoError};
 ghost use Rattle.imagesize_source.specs.declared.error.Reason.TheVariants.{Memory};
 
+#[cfg(test)]
+mod fakes;
 mod report;
 mod run;
 
 use imagesize::{ImageError, ImageResult, Reason};
-use imagesize_io::{Block, FileReader};
 use imagesize_io::file::length_of;
+use imagesize_io::{Block, FileReader};
 use run::{Open, WHOLE, exit_code, run};
 use std::io::{self, BufWriter, ErrorKind, Printer, Read};
 use std::process::ExitCode;

@@ -16,11 +16,7 @@ use std::io::{self, Write};
 /// Writes the line for a reader's bytes, `NAME: KIND WxH` or `NAME: error: TEXT`, and returns whether they have a size.
 ///
 /// Errors: only those of the writer, which may already have a part of the line.
-pub fn report<R: Told, W: Write>(
-    name: &str,
-    reader: &mut R,
-    writer: &mut W,
-) -> io::Result<bool>
+pub fn report<R: Told, W: Write>(name: &str, reader: &mut R, writer: &mut W) -> io::Result<bool>
     ensures line { IfOk result (AppendsLine name.now (W.contents writer.old) (W.contents writer.new)) }
     ensures told { IfOk result (Reports (R.telling reader.old) name.now (W.contents writer.old) (W.contents writer.new)) }
 {

@@ -28,8 +28,7 @@ pub trait Open {
     /// Takes back a reader whose line is written. What it holds may serve the next one.
     fn close(&mut self, _reader: Self::Reader)
         ensures keeps { known self.new ≡ known self.old }
-    {
-    }
+    {}
 
     /// The bytes for a name, at most one more than the greatest number whose spans are shown.
     fn load(&mut self, name: &str) -> ImageResult<Vec<u8>>

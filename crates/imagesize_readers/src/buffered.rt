@@ -38,6 +38,14 @@ impl Seek for Counted<'_> {
     }
 }
 
+// A reader of these bytes that counts its calls.
+fn counting<'a>(bytes: &'a [u8], made: &'a mut Made) -> Counted<'a> {
+    Counted {
+        inner: Cursor::new(bytes),
+        made,
+    }
+}
+
 // Reads at a hundred offsets `step` bytes apart, in an input of `length` bytes.
 fn walk<R: Told>(rt: &impl Abort, reader: &mut R, length: u64, step: u64) -> Result<(), Fail> {
     assert_eq!(rt; reader.seek_told(SeekFrom::Current(0))?, 0);
@@ -55,11 +63,7 @@ fn walk<R: Told>(rt: &impl Abort, reader: &mut R, length: u64, step: u64) -> Res
 fn a_walk_in_a_block_fetches_it_once(rt: HostRuntime) -> Result<(), Fail> {
     let bytes = [7u8; 4096];
     let mut made = NONE;
-    let counted = Counted {
-        inner: Cursor::new(bytes.as_slice()),
-        made: &mut made,
-    };
-    let mut reader = BufReader::new(rt.alloc(), counted)?;
+    let mut reader = BufReader::new(rt.alloc(), counting(&bytes, &mut made))?;
     walk(&rt, &mut reader, 4096, 40)?;
     assert_eq!(rt; reader.seek_told(SeekFrom::Start(8))?, 8);
     assert_eq!(rt; reader.seek_told(SeekFrom::Current(0))?, 8);
@@ -77,11 +81,7 @@ fn made_on_walk<H: AllocGlobal + Abort>(
 ) -> Result<Made, Fail> {
     let bytes = Vec::from_elem(rt.alloc(), 7u8, length as usize)?;
     let mut made = NONE;
-    let counted = Counted {
-        inner: Cursor::new(bytes.as_slice()),
-        made: &mut made,
-    };
-    let mut reader = FileReader::new(rt.alloc(), counted, told)?;
+    let mut reader = FileReader::new(rt.alloc(), counting(&bytes, &mut made), told)?;
     walk(rt, &mut reader, length, step)?;
     drop(reader);
     Ok(made)
@@ -103,11 +103,7 @@ fn the_first_bytes_are_given_again_from_far_behind(rt: HostRuntime) -> Result<()
     bytes[31] = 2;
     bytes[32] = 3;
     let mut made = NONE;
-    let counted = Counted {
-        inner: Cursor::new(bytes.as_slice()),
-        made: &mut made,
-    };
-    let mut reader = FileReader::new(rt.alloc(), counted, Some(20_000))?;
+    let mut reader = FileReader::new(rt.alloc(), counting(&bytes, &mut made), Some(20_000))?;
     assert!(rt; matches!(reader.read_told(&mut [0u8; 12]), Ok(12)));
     assert_eq!(rt; reader.seek_told(SeekFrom::Start(19_982))?, 19_982);
     assert!(rt; matches!(reader.read_told(&mut [0u8; 18]), Ok(18)));
@@ -157,11 +153,7 @@ fn a_walk_over_blocks_makes_two_calls_an_offset(rt: HostRuntime) -> Result<(), F
 fn an_offset_behind_in_the_block_is_reached_with_no_call(rt: HostRuntime) -> Result<(), Fail> {
     let bytes = [1u8, 2, 3, 4, 5, 6, 7, 8];
     let mut made = NONE;
-    let counted = Counted {
-        inner: Cursor::new(bytes.as_slice()),
-        made: &mut made,
-    };
-    let mut reader = FileReader::new(rt.alloc(), counted, None)?;
+    let mut reader = FileReader::new(rt.alloc(), counting(&bytes, &mut made), None)?;
     assert_eq!(rt; reader.seek_told(SeekFrom::Start(2))?, 2);
     let mut buffer = [0u8; 4];
     assert!(rt; matches!(reader.read_told(&mut buffer), Ok(4)));
@@ -179,18 +171,17 @@ fn a_block_is_small_at_the_start_and_after_a_seek(rt: HostRuntime) -> Result<(),
     let bytes = Vec::from_elem(rt.alloc(), 7u8, 60_000)?;
     let inner = Cursor::new(bytes.as_slice());
     let mut reader = FileReader::new(rt.alloc(), inner, Some(60_000))?;
-    // The offset of each block, and how many bytes it has.
-    let blocks = [
-        (0u64, 4096usize),
-        (4096, 8192),
-        (12_288, 8192),
-        (50_000, 4096),
-        (54_096, 5904),
-    ];
-    for (offset, length) in blocks {
+    // The offset of each block, and how many bytes it has after the first one.
+    for (offset, held) in [
+        (0, 4095),
+        (4096, 8191),
+        (12_288, 8191),
+        (50_000, 4095),
+        (54_096, 5903),
+    ] {
         assert_eq!(rt; reader.seek_told(SeekFrom::Start(offset))?, offset);
         assert!(rt; matches!(reader.read_told(&mut [0u8; 1]), Ok(1)));
-        assert_eq!(rt; reader.held().len(), length - 1);
+        assert_eq!(rt; reader.held().len(), held);
     }
     Ok(())
 }
@@ -222,9 +213,8 @@ impl Seek for Slow<'_> {
 #[test]
 fn an_interrupted_read_of_a_file_is_read_again(rt: HostRuntime) -> Result<(), Fail> {
     let bytes = [1u8, 2, 3];
-    let inner = Cursor::new(bytes.as_slice());
     let slow = Slow {
-        inner,
+        inner: Cursor::new(bytes.as_slice()),
         interrupts: false,
     };
     let mut reader = FileReader::new(rt.alloc(), slow, Some(3))?;
@@ -269,11 +259,7 @@ fn reads_of_held_bytes_make_no_call_until_the_reader_is_left(rt: HostRuntime) ->
     bytes[1000] = 1;
     bytes[1003] = 2;
     let mut made = NONE;
-    let counted = Counted {
-        inner: Cursor::new(bytes.as_slice()),
-        made: &mut made,
-    };
-    let mut reader = BufReader::new(rt.alloc(), counted)?;
+    let mut reader = BufReader::new(rt.alloc(), counting(&bytes, &mut made))?;
     let opened = open(&mut reader, Origin::Start)?;
     let mut source = ReaderSource::new(&mut reader, opened.told);
     let mut buffer = [0u8; 4];

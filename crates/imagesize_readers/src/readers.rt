@@ -76,6 +76,16 @@ pub struct Counting<'a, R: Told> {
     pub count: &'a mut u64,
 }
 
+impl<'a, R: Told> Counting<'a, R> {
+    /// Gives what another reader gives, and adds the number of its bytes to this count.
+    pub fn new(reader: R, count: &'a mut u64) -> Self
+        ensures reader { result.reader ≡ reader }
+        ensures count { result.count ≡ count.entry }
+    {
+        Counting { reader, count }
+    }
+}
+
 impl<R: Told> Told for Counting<'_, R> {
     ghost telling = { λ r. may_fail (R.telling r.reader) };
 
@@ -116,6 +126,16 @@ pub struct Calls<'a, R: Told> {
     pub reader: R,
     /// How many reads were made, and how many seeks.
     pub made: &'a mut (u32, u32),
+}
+
+impl<'a, R: Told> Calls<'a, R> {
+    /// Gives what another reader gives, and adds its reads and its seeks to these numbers.
+    pub fn new(reader: R, made: &'a mut (u32, u32)) -> Self
+        ensures reader { result.reader ≡ reader }
+        ensures made { result.made ≡ made.entry }
+    {
+        Calls { reader, made }
+    }
 }
 
 impl<R: Told> Told for Calls<'_, R> {

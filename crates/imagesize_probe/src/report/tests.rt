@@ -4,9 +4,10 @@ ghost use Rattle.imagesize.specs.Meaning.{kind_of, meaning};
 ghost use Rattle.imagesize_probe.specs.Line.{answer_line, ReportsSpans};
 
 use super::{report, report_spans, write_refusal};
+use crate::fakes::Weak;
 use imagesize::{ImageError, Stop, Told};
 use std::alloc::Global;
-use std::io::{self, Cursor, ErrorKind, SeekFrom, Write};
+use std::io::{self, Cursor, ErrorKind, SeekFrom};
 use std::str;
 use std::test::Fail;
 
@@ -178,28 +179,15 @@ fn text_of_an_error_has_at_most_512_bytes(rt: HostRuntime) -> Result<(), Fail> {
 }
 
 // A writer that accepts so many bytes and then fails.
-#[derive(Drop)]
-struct Full {
-    left: usize,
-}
-
-impl Write for Full {
-    fn write(&mut self, buf: &[u8]) -> io::Result<usize> {
-        let count = buf.len().min(self.left);
-        if count == 0 {
-            return Err(io::Error::from(ErrorKind::StorageFull));
-        }
-        self.left -= count;
-        Ok(count)
-    }
-
-    fn flush(&mut self) -> io::Result<()> {
-        Ok(())
+fn full(left: usize) -> Weak {
+    Weak {
+        written: left,
+        sent: usize::MAX,
     }
 }
 
 fn report_into(left: usize, bytes: &[u8]) -> io::Result<bool> {
-    report("a", &mut Cursor::new(bytes), &mut Full { left })
+    report("a", &mut Cursor::new(bytes), &mut full(left))
 }
 
 #[test]
@@ -212,10 +200,11 @@ fn fails_where_the_writer_does(rt: HostRuntime) {
     assert!(rt; matches!(report_into(15, &GIF), Ok(true)));
     let alloc = rt.alloc();
     for left in 0..34 {
-        let mut full = Full { left };
-        let error = report_spans(alloc, "a", &GIF, &mut full).expect_err(&rt, "a full writer");
+        let error = report_spans(alloc, "a", &GIF, &mut full(left)).expect_err(
+            &rt,
+            "a full writer",
+        );
         assert_eq!(rt; error.kind(), ErrorKind::StorageFull);
     }
-    let mut full = Full { left: 34 };
-    assert!(rt; matches!(report_spans(alloc, "a", &GIF, &mut full), Ok(true)));
+    assert!(rt; matches!(report_spans(alloc, "a", &GIF, &mut full(34)), Ok(true)));
 }

@@ -6,7 +6,8 @@ ghost use Rattle.imagesize_source.specs.declared.error.ImageError.TheVariants.{I
 ghost use Rattle.imagesize_source.specs.declared.error.Reason.TheVariants.{Memory};
 
 use super::{Open, WHOLE, exit_code, run};
-use crate::{Disk, buffered};
+use crate::fakes::Weak;
+use crate::{Disk, buffered, or_memory};
 use imagesize::{ImageError, ImageResult, Reason, Told};
 use std::alloc::{AllocError, Global};
 use std::fs;
@@ -61,19 +62,13 @@ fn copied(alloc: Global, bytes: &[u8]) -> ImageResult<Vec<u8>>
     ensures refused { IfErr result (λ e. e ≡ IoError Memory) }
 {
     let mut copy = Vec::new(alloc);
-    match copy.extend_from_slice(bytes) {
-        Ok(()) => Ok(copy),
-        Err(_) => Err(ImageError::IoError(Reason::Memory)),
-    }
+    or_memory(copy.extend_from_slice(bytes))?;
+    Ok(copy)
 }
 
 // `count` bytes of 0.
 fn zeros(alloc: Global, count: usize) -> ImageResult<Vec<u8>> {
-    let mut bytes = Vec::new(alloc);
-    match bytes.resize(count, 0) {
-        Ok(()) => Ok(bytes),
-        Err(_) => Err(ImageError::IoError(Reason::Memory)),
-    }
+    or_memory(Vec::from_elem(alloc, 0, count))
 }
 
 // The error for any other file.
@@ -105,32 +100,6 @@ impl<'a> Open for Same<'a> {
             return Ok(all);
         }
         copied(self.alloc, &self.bytes[..WHOLE + 1])
-    }
-}
-
-// Fails when lines are written, when they are flushed, or never.
-#[derive(Drop)]
-struct Weak {
-    written: usize,
-    sent: usize,
-}
-
-impl Write for Weak {
-    fn write(&mut self, buf: &[u8]) -> io::Result<usize> {
-        let count = buf.len().min(self.written);
-        if count == 0 {
-            return Err(io::Error::from(ErrorKind::StorageFull));
-        }
-        self.written -= count;
-        Ok(count)
-    }
-
-    fn flush(&mut self) -> io::Result<()> {
-        if self.sent == 0 {
-            return Err(io::Error::from(ErrorKind::BrokenPipe));
-        }
-        self.sent -= 1;
-        Ok(())
     }
 }
 
@@ -175,43 +144,52 @@ fn run_same(
     run(alloc, names, &mut Same { alloc, bytes }, output, errors)
 }
 
+// The lines of two files of the shelf.
+const SIZED: &str = "tiny.gif: Gif 100x100\n";
+
+const ENDED: &str = "cut.gif: error: failed to fill whole buffer\n";
+
+// Checks the lines for these arguments over the files of the shelf, and the status. Only status 2 comes with a message.
+fn check_lines(
+    rt: &(impl Abort + AllocGlobal),
+    arguments: &[&str],
+    lines: &[&str],
+    status: u8,
+) -> Result<(), Fail> {
+    let alloc = rt.alloc();
+    let mut expected: Vec<u8> = Vec::new(alloc);
+    for line in lines {
+        expected.extend_from_slice(line.as_bytes())?;
+    }
+    let names = strings(alloc, arguments)?;
+    let mut output = Vec::new(alloc);
+    let mut errors = Vec::new(alloc);
+    let ended = run_on_shelf(alloc, &names, &mut output, &mut errors)?;
+    assert_eq!(rt; ended, status, "{arguments:?}");
+    assert_eq!(rt; output, expected);
+    assert_eq!(rt; errors.is_empty(), status != 2);
+    Ok(())
+}
+
 #[test]
 fn each_name_has_a_line_in_its_turn(rt: HostRuntime) -> Result<(), Fail> {
-    let alloc = rt.alloc();
     for (names, lines, status) in [
-        (["tiny.gif"].as_slice(), "tiny.gif: Gif 100x100\n", 0),
-        (
-            &["cut.gif"],
-            "cut.gif: error: failed to fill whole buffer\n",
-            1,
-        ),
-        (
-            &["tiny.gif", "cut.gif"],
-            "tiny.gif: Gif 100x100\ncut.gif: error: failed to fill whole buffer\n",
-            1,
-        ),
+        (["tiny.gif"].as_slice(), [SIZED].as_slice(), 0),
+        (&["cut.gif"], &[ENDED], 1),
+        (&["tiny.gif", "cut.gif"], &[SIZED, ENDED], 1),
         (
             &["cut.gif", "tiny.gif", "tiny.gif"],
-            "cut.gif: error: failed to fill whole buffer\ntiny.gif: Gif 100x100\ntiny.gif: Gif 100x100\n",
+            &[ENDED, SIZED, SIZED],
             1,
         ),
-        (&["huge.gif"], "huge.gif: error: Out of memory\n", 1),
+        (&["huge.gif"], &["huge.gif: error: Out of memory\n"], 1),
         (
             &["a.gif", "tiny.gif"],
-            "a.gif: error: no such file on the shelf\ntiny.gif: Gif 100x100\n",
+            &["a.gif: error: no such file on the shelf\n", SIZED],
             1,
         ),
     ] {
-        let names = strings(alloc, names)?;
-        let mut output = Vec::new(alloc);
-        let mut errors = Vec::new(alloc);
-        assert_eq!(rt;
-            run_on_shelf(alloc, &names, &mut output, &mut errors)?,
-            status,
-            "{lines}"
-        );
-        assert_eq!(rt; output.as_slice(), lines.as_bytes());
-        assert!(rt; errors.is_empty());
+        check_lines(&rt, names, lines, status)?;
     }
     Ok(())
 }
@@ -291,77 +269,41 @@ fn the_same_bytes_have_the_same_line(rt: HostRuntime) -> Result<(), Fail> {
 
 #[test]
 fn the_option_is_known_as_the_first_argument(rt: HostRuntime) -> Result<(), Fail> {
-    let alloc = rt.alloc();
+    let spans = "  0+12\n  6+2\n  8+2\n";
+    let empty = "e: error: failed to fill whole buffer\n";
+    let lost = "--spans: error: no such file on the shelf\n";
     for (arguments, lines, status) in [
         (
             ["--spans", "tiny.gif"].as_slice(),
-            "tiny.gif: Gif 100x100\n  0+12\n  6+2\n  8+2\n",
+            [SIZED, spans].as_slice(),
             0,
         ),
-        (
-            &["--spans", "cut.gif", "e"],
-            "cut.gif: error: failed to fill whole buffer\n  0+10\ne: error: failed to fill whole buffer\n",
-            1,
-        ),
-        (
-            &["--spans", "--spans"],
-            "--spans: error: no such file on the shelf\n",
-            1,
-        ),
-        (
-            &["tiny.gif", "--spans"],
-            "tiny.gif: Gif 100x100\n--spans: error: no such file on the shelf\n",
-            1,
-        ),
+        (&["--spans", "cut.gif", "e"], &[ENDED, "  0+10\n", empty], 1),
+        (&["--spans", "--spans"], &[lost], 1),
+        (&["tiny.gif", "--spans"], &[SIZED, lost], 1),
         (
             &["--spans", "huge.gif"],
-            "huge.gif: error: Out of memory\n",
+            &["huge.gif: error: Out of memory\n"],
             1,
         ),
-        (&["--spans"], "", 2),
+        (&["--spans"], &[], 2),
         (
             &["--spans ", "--spans"],
-            "--spans : error: no such file on the shelf\n--spans: error: no such file on the shelf\n",
+            &["--spans : error: no such file on the shelf\n", lost],
             1,
         ),
     ] {
-        let arguments = strings(alloc, arguments)?;
-        let mut output = Vec::new(alloc);
-        let mut errors = Vec::new(alloc);
-        assert_eq!(rt;
-            run_on_shelf(alloc, &arguments, &mut output, &mut errors)?,
-            status,
-            "{lines}"
-        );
-        assert_eq!(rt; output.as_slice(), lines.as_bytes());
-        assert_eq!(rt; errors.is_empty(), status != 2);
+        check_lines(&rt, arguments, lines, status)?;
     }
     Ok(())
 }
 
 #[test]
 fn files_are_read_whole_up_to_a_length(rt: HostRuntime) -> Result<(), Fail> {
-    let alloc = rt.alloc();
-    for (name, lines) in [
-        (
-            "16777216",
-            "16777216: error: Could not decode image\n  0+12\n",
-        ),
-        (
-            "16777217",
-            "16777217: error: file is longer than 16777216 bytes\n",
-        ),
-    ] {
-        let arguments = strings(alloc, &["--spans", name])?;
-        let mut output = Vec::new(alloc);
-        let mut errors = Vec::new(alloc);
-        assert_eq!(rt;
-            run_on_shelf(alloc, &arguments, &mut output, &mut errors)?,
-            1
-        );
-        assert_eq!(rt; output.as_slice(), lines.as_bytes());
-    }
-    Ok(())
+    let unknown = "16777216: error: Could not decode image\n  0+12\n";
+    check_lines(&rt, &["--spans", "16777216"], &[unknown], 1)?;
+    let long = "16777217: error: file is longer than 16777216 bytes\n";
+    check_lines(&rt, &["--spans", "16777217"], &[long], 1)
 }
 
 // What the program writes for these arguments over the files of this machine, if its status is 1.
