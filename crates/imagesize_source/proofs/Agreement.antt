@@ -1,5 +1,5 @@
 -- A layout sees an input by its readings alone.
-use Rattle.std.proofs.Common.{◌≡◌, ℕ, zero, suc, ◌+◌, ◌-◌, ◌<◌, ◌≤◌, min, Bool, true, false, ◌⊎◌, inl, inr, eqb, get_or, append_assoc, List, [], ◌∷◌, ◌++◌, length, take, Result, Ok, Err, refl, sym, ap, ◌∙◌, arith}
+use Rattle.std.proofs.Common.{◌≡◌, ℕ, suc, ◌+◌, ◌-◌, ◌<◌, ◌≤◌, min, Bool, true, false, ◌⊎◌, inl, inr, get_or, append_assoc, List, [], ◌∷◌, ◌++◌, length, take, Result, Ok, Err, refl, sym, ap, ◌∙◌, arith}
 use Rattle.std.proofs.lemmas.List.{append-nil, take-take}
 use Rattle.std.proofs.lemmas.Bool.Decides.{nat_tests}
 use Rattle.imagesize_source.specs.declared.halt.Halt.{Halt}
@@ -31,8 +31,7 @@ covered-right (x ∷ s) t offset h = or_right (has_offset x offset) (is_covered 
 -- an offset of a span
 pub covered-one : (offset n i : ℕ) → i < n → is_covered (span_at offset n) (offset + i) ≡ true
 unfolding span_at
-covered-one offset zero i h = absurd (omega arith)
-covered-one offset (suc n) i h = grind arith
+covered-one offset n i h = grind arith
 
 -- all of so many bytes are there
 pub whole_span : (d : List ℕ) (offset n : ℕ) → n ≤ length d - offset → span_of d offset n ≡ span_at offset n
@@ -42,8 +41,7 @@ whole_span d offset n all = let same : min n (length d - offset) ≡ n = omega a
 -- what goes on from an answer rests on its spans
 pub agrees_first : {d e : List ℕ} {X Y : Type 0} (spans : List Span) (r : Result X Halt) (f : X → Reads Y)
     → Agrees d e (go_on spans r f).marks → Agrees d e spans
-agrees_first spans (Ok x) f a = grind (arith, covered-left)
-agrees_first spans (Err e) f a = a
+agrees_first spans r f a = grind (arith, covered-left)
 
 -- ---- where two inputs part
 
@@ -87,8 +85,7 @@ differ (x ∷ xs) (y ∷ ys) long = by_rest (cases_eq y x) (differ xs ys (omega 
 -- bytes have one span
 pub span-some : (offset n : ℕ) → 0 < n → span_at offset n ≡ record { start = offset; len = n } ∷ []
 unfolding span_at
-span-some offset zero some = absurd (omega (arith, some))
-span-some offset (suc n) some = let is : eqb (suc n) 0 ≡ false = grind (arith, nat_tests) in rw is refl
+span-some offset n some = grind arith
 
 -- if the bytes from an offset on differ within two spans, the inputs part there
 parting_at : {texts : Bool} (d e : List ℕ) (offset k m n : ℕ) (x : Differ (part d offset k) (part e offset k)) → x.at < m
@@ -183,11 +180,7 @@ without_texts texts k (reading (TextOf t n) offset f) few = absurd few
 without_texts texts k (begin_record t) few = without_texts texts k t few
 
 pub each_texts : (texts : Bool) {X : Type 0} (k : ℕ) (t : Layout X) → Each k t → AllRead texts t
-each_texts texts k (begin_record t) few = without_texts texts k t few
-each_texts texts k (done x) few = tt
-each_texts texts k (refuse e) few = tt
-each_texts texts k (field order offset n f) few = without_texts texts 0 (field order offset n f) few
-each_texts texts k (reading r offset f) few = without_texts texts 0 (reading r offset f) few
+each_texts texts k t few = grind (arith, without_texts)
 
 pub costed_texts : (texts : Bool) {X : Type 0} (f : X → ℕ) (e u : ℕ) (t : Layout X) → CostsBy f e u t → AllRead texts t
 costed_texts texts f e u (done x) few = tt
@@ -226,8 +219,7 @@ parting_among before more others fewer is also x = record {
 }
 
 pub alike_more : {X : Type 0} (texts : Bool) (d e : List ℕ) (p q : Reads X) → Alike false d e p q → Alike texts d e p q
-alike_more texts d e p q (inl same) = inl same
-alike_more texts d e p q (inr x) = grind arith
+alike_more texts d e p q alike = grind arith
 
 -- what goes on from answers that are alike, where it is alike behind each
 pub alike_then : {texts : Bool} {X Y : Type 0} (d e : List ℕ) (p q : Reads X) (f g : X → Reads Y) → Alike texts d e p q

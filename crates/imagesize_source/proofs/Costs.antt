@@ -1,11 +1,11 @@
 -- How many bytes a layout reads, by its answer.
-use Rattle.std.proofs.Common.{◌≡◌, ℕ, ◌+◌, ◌-◌, ◌≤◌, List, Result, Ok, Err, refl, arith}
+use Rattle.std.proofs.Common.{◌≡◌, ℕ, ◌+◌, ◌-◌, ◌≤◌, List, Result, Ok, Err, arith}
 use Rattle.imagesize_source.specs.Counts.{AtMost, CostsBy, IfBytes, IfRefused}
 use Rattle.imagesize_source.specs.declared.halt.Halt.{Halt}
 use Rattle.imagesize_source.specs.declared.span.Span.{Span}
 use Rattle.imagesize_source.specs.Layout.{Layout, layout_reads, bind}
 use Rattle.imagesize_source.specs.Layout.Layout.{«done», refuse, field, reading, begin_record}
-use Rattle.imagesize_source.specs.Reading.{Reads, Reading, AllOf, PartOf, TextOf, go_on, read_of, most}
+use Rattle.imagesize_source.specs.Reading.{Reads, Reading, go_on, read_of, most}
 use Rattle.imagesize_source.specs.State.{total}
 use Rattle.imagesize_source.proofs.Counts.{of_bytes, total-span_of, total_reading}
 use Rattle.imagesize_source.proofs.Runs.{total-append}
@@ -18,27 +18,20 @@ bound_of f e (Err _) = e
 -- what is owed of a reading, where it succeeds and where it is refused
 owed : (P Q : Type 0) (d : List ℕ) (r : Reading) (offset : ℕ) → IfRefused r P Q
     → Q × ((e : Halt) → (read_of d r offset).answer ≡ Err e → P)
-owed P Q d (AllOf k) offset h = (h.1, λ e is. h.0)
-owed P Q d (PartOf k) offset h = (h, λ e is. absurd cc)
-owed P Q d (TextOf t k) offset h = absurd h
+owed P Q d r offset h = grind arith
 
 -- of less, and of both
 if_refused : {P Q P' Q' : Type 0} (r : Reading) → (P → P') → (Q → Q') → IfRefused r P Q → IfRefused r P' Q'
-if_refused (AllOf k) f g h = (f h.0, g h.1)
-if_refused (PartOf k) f g h = g h
-if_refused (TextOf t k) f g h = h
+if_refused r f g h = grind arith
 
 both : (Few : Type 0) {P Q : Type 0} (r : Reading) → IfBytes r Few → P → Q → IfRefused r P Q
-both Few (AllOf k) few p q = (p, q)
-both Few (PartOf k) few p q = q
-both Few (TextOf t k) few p q = absurd few
+both Few r few p q = grind arith
 
 onward_costs : {X Y : Type 0} (f : Y → ℕ) (e u n : ℕ) (spans : List Span) (r : Result X Halt) (g : X → Reads Y)
     → total spans ≤ n
     → ((x : Halt) → r ≡ Err x → u + n ≤ e) → ((x : X) → u + n + total (g x).marks ≤ bound_of f e (g x).answer)
     → u + total (go_on spans r g).marks ≤ bound_of f e (go_on spans r g).answer
-onward_costs f e u n spans (Ok x) g few enough next = omega (arith, next x, total-append spans (g x).marks)
-onward_costs f e u n spans (Err r) g few enough next = omega (arith, enough r refl)
+onward_costs f e u n spans r g few enough next = grind (arith, total-append)
 
 pub costs : {X : Type 0} (f : X → ℕ) (e u : ℕ) (d : List ℕ) (t : Layout X) → CostsBy f e u t
     → u + total (layout_reads d t).marks ≤ bound_of f e (layout_reads d t).answer

@@ -1,11 +1,10 @@
 -- How many bytes are read, and how many offsets are seen.
 use Rattle.std.proofs.Common.{◌≡◌, ℕ, zero, suc, ◌+◌, ◌-◌, ◌*◌, ◌<◌, ◌≤◌, min, max, Bool, true, false, cond, ◌||◌, List, [], ◌∷◌, length, get_or, Ok, refl, ap, ◌∙◌, arith}
-use Rattle.std.proofs.Math.Nat.{add-zero, mul-add}
+use Rattle.std.proofs.Math.Nat.{mul-add}
 use Rattle.std.proofs.lemmas.Bool.Decides.{nat_tests}
 use Rattle.std.proofs.lemmas.List.Sums.{sum_by-cons, sum_by-le-sum_by}
 use Rattle.std.specs.Prelude.{count_by}
 use Rattle.std.specs.List.{range_with_len}
-use Rattle.imagesize_source.proofs.Agreement.{span-some}
 use Rattle.imagesize_source.proofs.Runs.{total-append}
 use Rattle.imagesize_source.proofs.Texts.{front_length}
 use Rattle.imagesize_source.specs.declared.span.Span.{Span}
@@ -23,8 +22,7 @@ use Rattle.std.proofs.lemmas.Bool.{or_right}
 -- a span has no more bytes than were asked for
 pub total-span_at : (offset n : ℕ) → total (span_at offset n) ≡ n
 unfolding span_at
-total-span_at offset zero = refl
-total-span_at offset (suc n) = ap total (span-some offset (suc n) (omega arith)) ∙ add-zero (suc n)
+total-span_at offset n = grind arith
 
 -- a read has the requested bytes that the input has
 pub total_there : (d : List ℕ) (offset k : ℕ) → total (span_of d offset k) ≡ min k (length d - offset)
@@ -44,15 +42,11 @@ text_length d t offset k = front_length t (part d offset k)
 
 -- the same of any reading
 pub total_reading : (d : List ℕ) (r : Reading) (offset : ℕ) → total (read_of d r offset).marks ≤ most r
-total_reading d (AllOf k) offset = total-span_of d offset k
-total_reading d (PartOf k) offset = total-span_of d offset k
-total_reading d (TextOf t k) offset = grind (arith, text_length, total-span_at, part_length)
+total_reading d r offset = grind (arith, total-span_of, text_length, total-span_at, part_length)
 
 -- what is owed of a reading of bytes
 pub of_bytes : {P : Type 0} (r : Reading) → IfBytes r P → P
-of_bytes (AllOf k) h = h
-of_bytes (PartOf k) h = h
-of_bytes (TextOf t k) h = absurd h
+of_bytes r h = grind arith
 
 -- Readings are of at most so many bytes, and `each` for a record that is begun.
 abbrev pub Bounded : {X : Type 0} → ℕ → ℕ → Reads X → Type 0

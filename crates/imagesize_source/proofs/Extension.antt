@@ -1,5 +1,5 @@
 -- What bytes behind an input change of the answer of a layout: nothing, where no reading was cut.
-use Rattle.std.proofs.Common.{◌≡◌, ℕ, zero, suc, ◌-◌, ◌<◌, ◌≤◌, min, false, List, ◌++◌, length, take, drop, Result, Ok, Err, inl, inr, refl, sym, ap, ◌∙◌, arith}
+use Rattle.std.proofs.Common.{◌≡◌, ℕ, ◌-◌, ◌<◌, ◌≤◌, min, false, List, ◌++◌, length, drop, Result, Ok, inl, inr, refl, sym, ap, ◌∙◌, arith}
 use Rattle.std.proofs.lemmas.Bool.{cases_Bool, cases_lt}
 use Rattle.std.proofs.lemmas.List.{length-append, length-drop, drop-append-le, take-append-drop, take-append-le}
 use Rattle.imagesize_source.specs.declared.halt.Halt.{Halt}
@@ -12,18 +12,13 @@ use Rattle.imagesize_source.specs.Input.{part, span_at, span_of}
 use Rattle.imagesize_source.specs.Layout.{Layout, done, refuse, field, reading, begin_record, layout_reads}
 use Rattle.imagesize_source.specs.Numbers.{number}
 use Rattle.imagesize_source.specs.Extension.{Plain, Never, WhereCut}
-use Rattle.imagesize_source.specs.Reading.{Reads, after_records, and_then, number_read, Reading, AllOf, PartOf, TextOf, go_on, bytes_at, number_at, text_part, read_of, map_answer}
+use Rattle.imagesize_source.specs.Reading.{Reads, after_records, and_then, number_read, Reading, go_on, bytes_at, number_at, text_part, read_of, map_answer}
 use Rattle.imagesize_source.proofs.Parts.{part_front, part_length, part_whole}
 
 -- bytes behind the input are not among those that are all there
 part_more : (d x : List ℕ) (offset k : ℕ) → k ≤ length d - offset → part (d ++ x) offset k ≡ part d offset k
 unfolding part
-part_more d x offset zero h = refl
-part_more d x offset (suc k) h =
-    let short = length-drop offset d in
-    let before : offset ≤ length d = omega arith in
-    let fits : suc k ≤ length (drop offset d) = omega arith in
-    ap (take (suc k)) (drop-append-le offset d x before) ∙ take-append-le (suc k) (drop offset d) x fits
+part_more d x offset k h = grind (arith, length-drop, drop-append-le, take-append-le)
 
 span_more : (d x : List ℕ) (offset k : ℕ) → k ≤ length d - offset → span_of (d ++ x) offset k ≡ span_of d offset k
 unfolding span_of
@@ -50,8 +45,7 @@ number_more d x order offset k h = ap (map_answer (number order)) (bytes_more d 
 -- what has an answer goes on from an answer
 pub onward_ok : {X Y : Type 0} (P : Type 0) (spans : List Span) (r : Result X Halt) (f : X → Reads Y) (y : Y)
     → (go_on spans r f).answer ≡ Ok y → ((x : X) → r ≡ Ok x → (f x).answer ≡ Ok y → P) → P
-onward_ok P spans (Ok x) f y is each = each x refl is
-onward_ok P spans (Err e) f y is each = absurd cc
+onward_ok P spans r f y is each = grind arith
 
 -- a layout that is always refused has no answer
 never_ok : {X : Type 0} (d : List ℕ) (t : Layout X) (v : X) → Never t → (layout_reads d t).answer ≡ Ok v → ⊥
@@ -88,16 +82,13 @@ text_more d x t offset k uncut = elim (cases_Bool (is_ended t (part d offset k))
 
 -- what holds of the bytes of a reading that was not cut
 otherwise : (P Q : Type 0) (r : Reading) (bs : List ℕ) → WhereCut r bs P Q → Q
-otherwise P Q (AllOf k) bs h = h
-otherwise P Q (PartOf k) bs h = h.1
-otherwise P Q (TextOf t k) bs h = h.1
+otherwise P Q r bs h = grind arith
 
 -- bytes behind the input do not change a reading that was answered and not cut
 reading_more : (P Q : Type 0) (d x : List ℕ) (r : Reading) (offset : ℕ) (bs : List ℕ) → (P → ⊥) → WhereCut r bs P Q
     → (read_of d r offset).answer ≡ Ok bs → read_of (d ++ x) r offset ≡ read_of d r offset
-reading_more P Q d x (AllOf k) offset bs not_cut h is = grind (arith, bytes_ok, span_more, bytes_more)
-reading_more P Q d x (PartOf k) offset bs not_cut h is = grind (arith, span_more, part_more, part_length)
-reading_more P Q d x (TextOf t k) offset bs not_cut h is = grind (arith, text_more)
+reading_more P Q d x r offset bs not_cut h is =
+    grind (arith, bytes_ok, span_more, bytes_more, part_more, part_length, text_more)
 
 -- what goes on is the same, where the readings are so whose answer it goes on from
 pub onward_more : {X Y : Type 0} (r r' : Reads X) (f g : X → Reads Y) (y : Y) → (and_then r f).answer ≡ Ok y

@@ -16,8 +16,7 @@ use Rattle.imagesize_source.proofs.Runs.{answered, part_is, runs_refused}
 pub onward-and_then : {X Y Z : Type 0} (marks : List Span) (r : Result X Halt) (f : X → Reads Y) (g : Y → Reads Z)
     (both : X → Reads Z)
     → ((x : X) → both x ≡ and_then (f x) g) → go_on marks r both ≡ and_then (go_on marks r f) g
-onward-and_then marks (Ok x) f g both is = grind (arith, append_assoc)
-onward-and_then marks (Err e) f g both is = refl
+onward-and_then marks r f g both is = grind (arith, append_assoc)
 
 -- the same of readings that begin records
 pub then_then : {X Y Z : Type 0} (r : Reads X) (f : X → Reads Y) (g : Y → Reads Z) (both : X → Reads Z)
@@ -29,8 +28,7 @@ pub on_answer : {X Y : Type 0} (P : Reads Y → Type 0) (spans : List Span) (r :
     → ((x : X) → r ≡ Ok x → P (put_behind spans (f x)))
     → ((e : Halt) → r ≡ Err e → P (just (Err e) spans))
     → P (go_on spans r f)
-on_answer P spans (Ok x) f answered refused = answered x refl
-on_answer P spans (Err e) f answered refused = refused e refl
+on_answer P spans r f answered refused = grind arith
 
 -- what goes on from the same answer
 pub then_alike : {X Y : Type 0} (r : Reads X) (f g : X → Reads Y) → ((x : X) → r.answer ≡ Ok x → f x ≡ g x)

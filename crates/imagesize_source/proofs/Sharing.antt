@@ -9,7 +9,7 @@ use Rattle.imagesize_source.specs.declared.text.Text.{Text}
 use Rattle.imagesize_source.specs.Chain.{Said, Decided, Next, Chain, Along, next_record, verdict, chain_from, Advances}
 use Rattle.imagesize_source.specs.Input.{part, span_at, span_of}
 use Rattle.imagesize_source.specs.Layout.{Layout, done, refuse, field, reading, begin_record, layout_reads}
-use Rattle.imagesize_source.specs.Reading.{Reads, Reading, AllOf, PartOf, TextOf, after_records, and_then, uncounted, go_on, put_behind, bytes_at, number_at, number_read, text_part, read_of}
+use Rattle.imagesize_source.specs.Reading.{Reads, Reading, after_records, and_then, uncounted, go_on, put_behind, bytes_at, number_at, number_read, text_part, read_of}
 use Rattle.imagesize_source.specs.Sharing.{Shares}
 use Rattle.imagesize_source.proofs.Agreement.{covered-left, covered-right, covered-one}
 use Rattle.imagesize_source.proofs.ChainLaws.{chain_induction}
@@ -68,9 +68,7 @@ shared_text d e t offset k a = grind (arith, front_length, part_length, front_sa
 
 shared_reading : (d e : List ℕ) (r : Reading) (offset : ℕ) → Shares d e (read_of e r offset).marks
     → read_of d r offset ≡ read_of e r offset
-shared_reading d e (AllOf k) offset a = rw (shared_span d e offset k a, shared_bytes d e offset k a) refl
-shared_reading d e (PartOf k) offset a = rw (shared_span d e offset k a, shared_part d e offset k a) refl
-shared_reading d e (TextOf t k) offset a = grind (arith, shared_text)
+shared_reading d e r offset a = grind (arith, shared_span, shared_bytes, shared_part, shared_text)
 
 shared_number : (d e : List ℕ) (order : Endian) (offset k : ℕ) → Shares d e (span_of e offset k)
     → number_read d order offset k ≡ number_read e order offset k
