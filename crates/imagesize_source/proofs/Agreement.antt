@@ -9,7 +9,7 @@ use Rattle.std.proofs.lemmas.Bool.{cases_eq, cases_lt, or_cases, or_left, or_rig
 use Rattle.imagesize_source.specs.Counts.{AtMost, CostsBy, Each}
 use Rattle.imagesize_source.specs.Agreement.{AllRead, Agrees, Alike, IsLocal, IsRead, Parting, has_offset, is_covered}
 use Rattle.imagesize_source.specs.Input.{part, span_at, span_of}
-use Rattle.imagesize_source.specs.Layout.{Layout, done, refuse, field, reading, begin_record, layout_reads}
+use Rattle.imagesize_source.specs.Layout.{Layout, field, reading, begin_record, layout_reads}
 use Rattle.imagesize_source.specs.declared.text.Text.{Text}
 use Rattle.imagesize_source.specs.Text.{text_front}
 use Rattle.imagesize_source.proofs.Texts.{front_same, front_take}
@@ -161,35 +161,30 @@ alike_text d e t offset k read long =
 
 -- each layout is read where texts are
 pub with_texts : {X : Type 0} (t : Layout X) → AllRead true t
-with_texts (done x) = tt
-with_texts (refuse e) = tt
 with_texts (field order offset k f) = λ v. with_texts (f v)
-with_texts (reading (AllOf k) offset f) = (tt, λ bs. with_texts (f bs))
-with_texts (reading (PartOf k) offset f) = (tt, λ bs. with_texts (f bs))
-with_texts (reading (TextOf t k) offset f) = (refl, λ bs. with_texts (f bs))
+with_texts (reading r offset f) = let rest : (bs : List ℕ) → AllRead true (f bs) = λ bs. with_texts (f bs) in grind (arith, rest)
 with_texts (begin_record t) = with_texts t
+with_texts _ = tt
 
 -- and one whose bytes are counted has no texts
 pub without_texts : (texts : Bool) {X : Type 0} (k : ℕ) (t : Layout X) → AtMost k t → AllRead texts t
-without_texts texts k (done x) few = tt
-without_texts texts k (refuse e) few = tt
 without_texts texts k (field order offset n f) few = λ v. without_texts texts (k - n) (f v) (few.1 v)
-without_texts texts k (reading (AllOf n) offset f) few = (tt, λ bs. without_texts texts (k - n) (f bs) (few.1 bs))
-without_texts texts k (reading (PartOf n) offset f) few = (tt, λ bs. without_texts texts (k - n) (f bs) (few.1 bs))
-without_texts texts k (reading (TextOf t n) offset f) few = absurd few
+without_texts texts k (reading r offset f) few =
+    let rest : (bs : List ℕ) (j : ℕ) → AtMost j (f bs) → AllRead texts (f bs) = λ bs j. without_texts texts j (f bs) in
+    grind (arith, rest)
 without_texts texts k (begin_record t) few = without_texts texts k t few
+without_texts texts k _ few = tt
 
 pub each_texts : (texts : Bool) {X : Type 0} (k : ℕ) (t : Layout X) → Each k t → AllRead texts t
 each_texts texts k t few = grind (arith, without_texts)
 
 pub costed_texts : (texts : Bool) {X : Type 0} (f : X → ℕ) (e u : ℕ) (t : Layout X) → CostsBy f e u t → AllRead texts t
-costed_texts texts f e u (done x) few = tt
-costed_texts texts f e u (refuse r) few = tt
 costed_texts texts f e u (field order offset n g) few = λ v. costed_texts texts f e (u + n) (g v) (few.1 v)
-costed_texts texts f e u (reading (AllOf n) offset g) few = (tt, λ bs. costed_texts texts f e (u + n) (g bs) (few.1 bs))
-costed_texts texts f e u (reading (PartOf n) offset g) few = (tt, λ bs. costed_texts texts f e (u + n) (g bs) (few bs))
-costed_texts texts f e u (reading (TextOf t n) offset g) few = absurd few
+costed_texts texts f e u (reading r offset g) few =
+    let rest : (bs : List ℕ) (v : ℕ) → CostsBy f e v (g bs) → AllRead texts (g bs) = λ bs v. costed_texts texts f e v (g bs) in
+    grind (arith, rest)
 costed_texts texts f e u (begin_record t) few = costed_texts texts f e u t few
+costed_texts texts f e u _ few = tt
 
 alike_reading : {texts : Bool} (d e : List ℕ) (r : Reading) (offset : ℕ) → IsRead texts r → length e ≡ length d
     → Alike texts d e (read_of d r offset) (read_of e r offset)
@@ -238,18 +233,12 @@ alike_then {texts} {X} {Y} d e p q f g (inl same) rest = rw same (by_answer p.an
 -- a layout is local
 pub alike_layout : {texts : Bool} {X : Type 0} (d e : List ℕ) (t : Layout X) → AllRead texts t → length e ≡ length d
     → Alike texts d e (layout_reads d t) (layout_reads e t)
-alike_layout d e (done x) read long = inl refl
-alike_layout d e (refuse x) read long = inl refl
 alike_layout d e (field order offset k f) read long =
-    alike_then d e (number_read d order offset k) (number_read e order offset k)
-    (λ v. layout_reads d (f v)) (λ v. layout_reads e (f v))
-    (local_number order offset k d e long)
-    (λ v is also. alike_layout d e (f v) (read v) long)
+    alike_then d e _ _ _ _ (local_number order offset k d e long) (λ v is also. alike_layout d e (f v) (read v) long)
 alike_layout d e (reading r offset f) read long =
-    alike_then d e (read_of d r offset) (read_of e r offset) (λ bs. layout_reads d (f bs))
-    (λ bs. layout_reads e (f bs)) (alike_reading d e r offset read.0 long)
-    (λ bs is also. alike_layout d e (f bs) (read.1 bs) long)
+    alike_then d e _ _ _ _ (alike_reading d e r offset read.0 long) (λ bs is also. alike_layout d e (f bs) (read.1 bs) long)
 alike_layout d e (begin_record t) read long = grind (arith, (alike_layout d e t read long))
+alike_layout d e _ read long = inl refl
 
 pub local_layout : {texts : Bool} {X : Type 0} (t : Layout X) → AllRead texts t → IsLocal texts (λ d. layout_reads d t)
 local_layout t read d e long = alike_layout d e t read long
@@ -262,4 +251,4 @@ local_then r f first rest d e long = grind (arith, alike_then)
 -- readings that take the length of the input
 pub local_length : {texts : Bool} {X : Type 0} (f : ℕ → List ℕ → Reads X) → ((n : ℕ) → IsLocal texts (f n))
     → IsLocal texts (λ d. f (length d) d)
-local_length {texts} f each d e long = grind (arith)
+local_length {texts} f each d e long = grind arith

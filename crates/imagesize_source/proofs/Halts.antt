@@ -20,7 +20,8 @@ pub stated_ok : {X : Type 0} (r : Result X Halt) (x : X) → stated r ≡ Ok x �
 stated_ok r x is = grind arith
 
 -- an error is a fault or refused memory only of a failed call, and a spent budget only of a halt that says so
-pub error_memory : (failure : ImageError) (budget : ℕ) (h : Halt) → is_memory failure ≡ false → is_memory (error_by failure budget h) ≡ false
+pub error_memory : (failure : ImageError) (budget : ℕ) (h : Halt) → is_memory failure ≡ false
+    → is_memory (error_by failure budget h) ≡ false
 error_memory failure budget h plain = grind arith
 
 pub error_spent : (P : ℕ → Type 0) (failure : ImageError) (budget : ℕ) (h : Halt) → budget_spent failure ≡ None

@@ -102,12 +102,12 @@ pub ruleset steps = (past-past, past-none, total-append, append-nil, past-held, 
 -- no read was made yet
 pub reached_start : {X : Type 0} (a : State) (whole : Reads X) → Reached a a whole whole
 unfolding state_after
-reached_start a whole = grind (arith)
+reached_start a whole = grind arith
 
 -- after a result, what follows from it is left
 pub reached_by : {X Y : Type 0} {a m : State} {x : X} {r : Reads X} (f : X → Reads Y) → Runs a m (Ok x) r
     → Reached a m (and_then r f) (f x)
-reached_by {r} f h = grind (arith)
+reached_by {r} f h = grind arith
 
 module _ {X : Type 0} {a b : State} {whole rest : Reads X} (h : Reached a b whole rest) where
   -- an honest source keeps its input
@@ -228,4 +228,4 @@ number_missing {a} {b} d order offset k e h = grind arith
 pub runs_free : {X : Type 0} {a b : State} {reads : Reads X} (r : Result X Halt) → IsSound a → IsSound b → b.frame ≡ a.frame
     → b.taken ≡ a.taken → reads.answer ≡ r → b ≡ state_after a reads.marks → is_faulted r ≡ false → IfErr r (EndedBy b)
     → Runs a b r reads
-runs_free r sound sound_after same none is passed no_fault ended = grind (arith)
+runs_free r sound sound_after same none is passed no_fault ended = grind arith

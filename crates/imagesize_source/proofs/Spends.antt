@@ -63,8 +63,6 @@ onward_spends n q to spans r f next few here rest = grind (arith, total-append)
 -- a layout that goes forward spends the bytes of the input
 pub spends : {X : Type 0} (d : List ℕ) (to : X → Option ℕ) (q : ℕ) (t : Layout X) → Onto to q t
     → Spends (length d) q to (layout_reads d t)
-spends d to q (done x) h = grind arith
-spends d to q (refuse e) h = omega arith
 spends d to q (field order offset k f) h =
     onward_spends (length d) q to (span_of d offset k) _ _ (λ _. offset + k)
     (omega (arith, h.0, total_there d offset k)) (λ v _. omega (arith, h.0, total_there d offset k))
@@ -74,6 +72,7 @@ spends d to q (reading r offset f) h =
     (omega (arith, h.0, reading_left d r offset)) (λ bs is. omega (arith, h.0, reading_spends d r offset bs is))
     (λ bs _. spends d to (offset + passed r bs) (f bs) (h.1 bs))
 spends d to q (begin_record t) h = spends d to q t h
+spends d to q _ h = grind arith
 
 -- readings, and others that go on from the offset where they lead
 pub spends_then : {X Y : Type 0} (n q : ℕ) (next : X → ℕ) (to : Y → Option ℕ) (r : Reads X) (f : X → Reads Y)
