@@ -24,13 +24,11 @@ size_most type d = cost_way (kind_cost type) (lasts type) (has_texts type) (way_
 
 onward_most : (spans : List Span) (r : Result ImageType Halt) (d : List ℕ) → total spans ≤ bound_of kind_cost 37 r
     → total (go_on spans r (λ found. size_reads found d)).marks ≤ most_as r d
-onward_most spans (Ok type) d few = omega (arith, total-append spans (size_reads type d).marks, few, size_most type d)
-onward_most spans (Err e) d few = omega (arith, few)
+onward_most spans r d few = grind (arith, total-append, size_most)
 
 -- a type or none, whatever the error is
 same_most : (r : Result ImageType Halt) (d : List ℕ) → most_as r d ≡ most_as (stated r) d
-same_most (Ok type) d = refl
-same_most (Err halt) d = refl
+same_most r d = grind arith
 
 pub cost_most : (d : List ℕ) (offset : ℕ) → cost d offset ≤ most_bytes d offset
 unfolding meaning_reads
@@ -38,9 +36,7 @@ cost_most d offset = grind (arith, same_most, onward_most, kind_at_most)
 
 -- these are at most 41 more than the input has
 most_within : {E : Type 0} (r : Result ImageType E) (d : List ℕ) → most_as r d ≤ length d + 41
-most_within (Ok Aseprite) d = omega arith
-most_within (Ok _) d = omega arith
-most_within (Err e) d = omega arith
+most_within r d = grind arith
 
 pub cost_within : (d : List ℕ) (offset : ℕ) → cost d offset ≤ length d + 41
 cost_within d offset = omega (arith, cost_most d offset, most_within (stated (kind_reads d offset).answer) d)
@@ -50,9 +46,7 @@ size_within type d = omega (arith, size_most type d, most_within {E = Halt} (Ok 
 
 -- and at most the bytes that are stated
 most_stated : {E : Type 0} (r : Result ImageType E) (d : List ℕ) → most_as r d ≤ stated_as r d
-most_stated (Ok Aseprite) d = omega arith
-most_stated (Ok _) d = omega arith
-most_stated (Err e) d = omega arith
+most_stated r d = grind arith
 
 pub cost_stated : (d : List ℕ) (offset : ℕ) → cost d offset ≤ stated_bytes d offset
 cost_stated d offset = omega (arith, cost_most d offset, most_stated (stated (kind_reads d offset).answer) d)

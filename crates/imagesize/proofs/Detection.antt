@@ -22,9 +22,10 @@ use Rattle.imagesize.specs.Meaning.{kind_of, kind_reads}
 use Rattle.imagesize.specs.Types.{lasts, rows, way_of}
 use Rattle.imagesize.specs.declared.types.ImageType.{ImageType}
 use Rattle.imagesize.specs.declared.types.ImageType.TheVariants.{Atc, Dds, Eac, Etc2, Heif, Pvrtc, Tga}
+use Rattle.imagesize_source.proofs.Runs.{steps, runs_then}
+use Rattle.imagesize_source.proofs.Layouts.{binding, over-bind}
 use Rattle.imagesize_source.proofs.Always.{Always, CompressionLaws, always, always_bind}
 use Rattle.imagesize_source.proofs.Costs.{bound_of, costs, costs_bind}
-use Rattle.imagesize_source.proofs.Layouts.{over-bind}
 use Rattle.imagesize_source.proofs.Extension.{bytes_ok, bytes_more}
 use Rattle.imagesize_source.specs.Counts.{CostsBy}
 use Rattle.imagesize_source.specs.Input.{part, span_of}
@@ -37,7 +38,6 @@ use Rattle.imagesize_types.specs.declared.compression.Compression.TheVariants.{U
 use Rattle.imagesize_types.specs.declared.compression.DdsCompression.TheVariants.{Unknown as dds_unknown}
 use Rattle.imagesize_types.specs.declared.compression.PkmCompression.TheVariants.{Unknown as pkm_unknown}
 use Rattle.imagesize_types.specs.declared.compression.PvrtcCompression.TheVariants.{Unknown as pvrtc_unknown}
-use Rattle.imagesize_source.proofs.Runs.{runs_then}
 use Rattle.imagesize_source.specs.Reading.{AllOf, PartOf, Reads, TextOf, go_on, bytes_at, bytes_read}
 use Rattle.imagesize_source.specs.State.{State, Runs, total}
 use Rattle.imagesize_source.specs.declared.error.ImageError.{ImageError}
@@ -57,11 +57,6 @@ kind_cost (Dds _) = 20
 kind_cost Tga = 37
 kind_cost _ = 12
 
--- no type is read from more than 37
-pub kind_few : (type : ImageType) → kind_cost type ≤ 37
-kind_few Tga = omega arith
-kind_few _ = omega arith
-
 -- a type whose size is told in the same way, whatever its compression
 abbrev pub SameWay : ImageType → ImageType → Type 0
 SameWay found type = way_of type ≡ way_of found
@@ -79,11 +74,7 @@ Fades u (begin_record t) = Fades u t
 -- a part that is there is not changed by bytes that follow
 part_kept : (d x : List ℕ) (offset n : ℕ) → n ≤ length d - offset → part (d ++ x) offset n ≡ part d offset n
 unfolding part
-part_kept d x offset zero h = refl
-part_kept d x offset (suc n) h =
-    let short = length-drop offset d in
-    ap (take (suc n)) (drop-append-le offset d x (omega (arith, h)))
-    ∙ take-append-le (suc n) (drop offset d) x (omega (arith, h, short))
+part_kept d x offset n h = grind (arith, length-drop, drop-append-le, take-append-le)
 
 fades : {X : Type 0} (u : X) (d x : List ℕ) (t : Layout X) (v w : X) → Fades u t → (layout_reads d t).answer ≡ Ok v
     → (layout_reads (d ++ x) t).answer ≡ Ok w → (w ≡ v) ⊎ (v ≡ u)
@@ -164,8 +155,7 @@ with_costs offset head found = by_compression (CostsBy kind_cost 37 12) offset h
     (λ fits. fits)
 
 none_costs : (is : Bool) → CostsBy kind_cost 37 37 (tga_or_none is)
-none_costs true = omega arith
-none_costs false = omega arith
+none_costs is = grind arith
 
 by_costs : (n offset : ℕ) (head : List ℕ) (found : Option ImageType)
     → CostsBy kind_cost 37 12 (kind_by n offset head found)
@@ -182,8 +172,7 @@ pub kind_at_most : (d : List ℕ) (offset : ℕ)
 kind_at_most d offset = omega (arith, costs kind_cost 37 0 d (kind (length d) offset) (kind_costs (length d) offset))
 
 few_of : (r : Result ImageType Halt) → bound_of kind_cost 37 r ≤ 37
-few_of (Ok type) = kind_few type
-few_of (Err e) = omega arith
+few_of r = grind arith
 
 -- and at most, whatever is found
 pub kind_within : (d : List ℕ) (offset : ℕ) → total (kind_reads d offset).marks ≤ 37
@@ -199,12 +188,10 @@ with_alike offset head found = by_compression (Always (SameWay found)) offset he
 onward_ok : {X Y : Type 0} (spans : List Span) (r : Result X Halt) (f : X → Reads Y) (y : Y)
     → (go_on spans r f).answer ≡ Ok y
     → (x : X) × (r ≡ Ok x) × ((f x).answer ≡ Ok y)
-onward_ok spans (Ok x) f y is = (x, refl, is)
-onward_ok spans (Err e) f y is = absurd cc
+onward_ok spans r f y is = grind arith
 
 tga_is : (is : Bool) (d : List ℕ) (type : ImageType) → (layout_reads d (tga_or_none is)).answer ≡ Ok type → type ≡ Tga
-tga_is true d type is = cc
-tga_is false d type is = absurd cc
+tga_is is' d type is = grind arith
 
 ok_is : {X : Type 0} {x y : X} → ◌≡◌ {A = Result X Halt} (Ok x) (Ok y) → x ≡ y
 ok_is e = cc
@@ -273,8 +260,7 @@ kind_more d x offset type is stays =
 
 -- a type whose size lasts is kept
 lasting : (type : ImageType) → lasts type ≡ true → keeps type ≡ true
-lasting Tga stays = absurd cc
-lasting _ stays = refl
+lasting type stays = grind arith
 
 pub way_more : (d x : List ℕ) (offset : ℕ) (type : ImageType) → (kind_reads d offset).answer ≡ Ok type → lasts type ≡ true
     → (after : ImageType) × ((kind_reads (d ++ x) offset).answer ≡ Ok after) × SameWay type after
@@ -296,3 +282,6 @@ pub head_then : {a m b : State} (r : Result ImageType Halt) (offset : ℕ) (head
 head_then {a} {m} {b} r offset head long first second = runs_then (bytes_read a.held.input offset 12)
     (λ bs held. layout_reads held.input (kind_by (length held.input) offset bs (first_row rows bs)))
     (subst (λ k. Runs a m (Ok head) (bytes_read a.held.input offset k)) long first) second
+
+-- what proves a function whose readings go on from others
+pub ruleset steps_bound = (steps, binding)

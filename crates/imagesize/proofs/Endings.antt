@@ -28,9 +28,7 @@ pub record Plain (b : State) : Type 0 where
 -- so no call over a reader is refused memory
 pub no_memory : {X : Type 0} (fault : Option Error) (budget : ℕ) (r : Result X Halt)
     → IfErr (with_error (kept_error fault) budget r) (λ e. is_memory e ≡ false)
-no_memory fault budget (Ok x) = tt
-no_memory None budget (Err halt) = error_memory (kept_error None) budget halt refl
-no_memory (Some e) budget (Err halt) = error_memory (kept_error (Some e)) budget halt refl
+no_memory fault budget r = grind arith
 
 -- a source that counts nothing stops a call by a fault alone
 pub only_fault : {X : Type 0} {a b : State} (r : Result X Halt) (reads : Reads X) → a.frame.counts ≡ false → Runs a b r reads
@@ -68,20 +66,15 @@ pub budget_least : {X : Type 0} {a b : State} (told : ℕ) (r : Result X Halt) (
 budget_least told (Ok x) reads start plain h = tt
 budget_least {b = b} told (Err halt) reads start plain h = grind (arith, budget_taken)
 
-parts : (p q : ℕ × ℕ) → p ≡ q → (p.0 ≡ q.0) × (p.1 ≡ q.1)
-parts p q same = (ap (λ (x : ℕ × ℕ). x.0) same, ap (λ (x : ℕ × ℕ). x.1) same)
-
 rose : (before after : Option ℕ) (taken : ℕ) → drift after taken ≡ drift before 0
     → after ≡ option_map (λ c. c + taken) before
-rose None None taken same = refl
-rose None (Some c) taken same = absurd cc
-rose (Some c) None taken same = absurd cc
-rose (Some c) (Some d) taken same = grind (arith, parts)
+rose before after taken same = grind arith
 
 -- a named count rose by all of it
 pub budget_counted : {X : Type 0} {a b : State} (told : ℕ) (before after : Option ℕ) (r : Result X Halt) (reads : Reads X)
     → a.frame.budget ≡ min (told + 64) (2 ^ 64 - 1) → since_of a.frame.backing ≡ drift before 0 → Plain b → Runs a b r reads
-    → since_of b.frame.backing ≡ drift after b.taken → IfErr (with_error b.failure b.frame.budget r) (λ e. IfSome (budget_spent e) (SpentAll before after))
+    → since_of b.frame.backing ≡ drift after b.taken
+    → IfErr (with_error b.failure b.frame.budget r) (λ e. IfSome (budget_spent e) (SpentAll before after))
 budget_counted told before after (Ok x) reads start counts plain h counted = tt
 budget_counted {b = b} told before after (Err halt) reads start counts plain h counted = grind (arith, rose, budget_taken)
 
@@ -95,8 +88,7 @@ fault_last {b = b} failure fault (Err halt) reads is h = grind (arith, error_fau
 
 -- the error that a reader keeps is a fault
 pub kept_plain : (fault : Option Error) (b : State) → b.failure ≡ kept_error fault → Plain b
-kept_plain None b is = record { spent = ap (λ e. budget_spent e) is }
-kept_plain (Some e) b is = record { spent = ap (λ e. budget_spent e) is }
+kept_plain fault b is = grind arith
 
 -- and the reader is left as it was, but for its offset and the interruptions that came
 pub leaves_reader : {X : Type 0} {a b : State} (telling mid new : Option Telling) (count : Option ℕ) (home : ℕ) (opened : Opened)
@@ -109,18 +101,12 @@ pub settled : (telling first mid new : Option Telling) (opened : Opened) (left :
     → (left ≡ None → new ≡ mid) → Leaves telling mid
     → IfSome left (λ position. (r : Result ℕ Error) × SeekTells mid new (Start position) r)
     → IfSome left (λ position. position ≤ opened.told) → Leaves telling new
-settled telling first mid new opened None opens stays leaves seeks within = subst (Leaves telling) (sym (stays refl)) leaves
-settled None first mid new opened (Some position) opens stays leaves seeks within = grind arith
-settled (Some t) first None new opened (Some position) opens stays leaves seeks within = absurd leaves
-settled (Some t) first (Some u) new opened (Some position) opens stays leaves seeks within = grind arith
+settled telling first mid new opened left opens stays leaves seeks within = grind arith
 
 -- no fault was kept where it is moved
-pub fault_settled : {X : Type 0} (failure failure' : Option (Option Error)) (fault : Option Error) (left : Option ℕ) (failing : ImageError) (budget : ℕ)
-    (r : Result X Halt) → (left ≡ None → failure' ≡ failure)
-    → IfErr (with_error failing budget r) (λ e. is_fault e ≡ true → IsLast failure e) → IfSome left (λ _. fault ≡ None) → failing ≡ kept_error fault
+pub fault_settled : {X : Type 0} (failure failure' : Option (Option Error)) (fault : Option Error)
+    (left : Option ℕ) (failing : ImageError) (budget : ℕ) (r : Result X Halt) → (left ≡ None → failure' ≡ failure)
+    → IfErr (with_error failing budget r) (λ e. is_fault e ≡ true → IsLast failure e)
+    → IfSome left (λ _. fault ≡ None) → failing ≡ kept_error fault
     → IfErr (with_error failing budget r) (λ e. is_fault e ≡ true → IsLast failure' e)
-fault_settled failure failure' fault None failing budget (Ok x) stays last calm kept = tt
-fault_settled failure failure' fault None failing budget (Err halt) stays last calm kept = grind arith
-fault_settled failure failure' fault (Some position) failing budget (Ok x) stays last calm kept = tt
-fault_settled failure failure' fault (Some position) failing budget (Err halt) stays last calm kept =
-    grind (arith, error_fault)
+fault_settled failure failure' fault left failing budget r stays last calm kept = grind arith

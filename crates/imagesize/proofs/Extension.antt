@@ -1,5 +1,5 @@
 -- A size stays, whatever bytes follow.
-use Rattle.std.proofs.Common.{◌≡◌, ℕ, true, List, ◌++◌, Result, Ok, Err, IfOk, IsTrue, refl, sym, ap, ◌∙◌}
+use Rattle.std.proofs.Common.{arith, ◌≡◌, ℕ, true, List, ◌++◌, Result, Ok, Err, IfOk, IsTrue, refl, sym, ap, ◌∙◌}
 use Rattle.imagesize.proofs.Detection.{kind_cost, way_more}
 use Rattle.imagesize.proofs.Ways.{laws_of}
 use Rattle.imagesize.specs.Counts.{lasts_as}
@@ -24,8 +24,7 @@ meaning_of d offset type is = ap (λ r. (go_on (kind_reads d offset).marks r (λ
 
 lasting_kind : (r : Result ImageType Halt) → lasts_as r ≡ true
     → (type : ImageType) × (r ≡ Ok type) × (lasts type ≡ true)
-lasting_kind (Ok type) stays = (type, refl, stays)
-lasting_kind (Err e) stays = absurd cc
+lasting_kind r stays = grind arith
 
 -- a size of a type that lasts is that of the bytes and any that follow
 meaning_more : (d x : List ℕ) (offset : ℕ) (size : ImageSize) → lasts_as (kind_reads d offset).answer ≡ true
@@ -40,12 +39,9 @@ meaning_more d x offset size stays is =
     d x size sized
 
 same_lasts : (r : Result ImageType Halt) → lasts_as (stated r) ≡ lasts_as r
-same_lasts (Ok type) = refl
-same_lasts (Err halt) = refl
+same_lasts r = grind arith
 
 pub size_lasts : (d : List ℕ) (offset : ℕ) (r : Result ImageSize ImageError) → r ≡ (meaning d offset).answer
     → IsTrue (lasts_as (kind_of d offset).answer)
     → IfOk r (λ size. (x : List ℕ) → (meaning (d ++ x) offset).answer ≡ Ok size)
-size_lasts d offset (Ok size) is stays = λ x. ap stated (meaning_more d x offset size
-    (sym (same_lasts (kind_reads d offset).answer) ∙ stays) (stated_ok (meaning_reads d offset).answer size (sym is)))
-size_lasts d offset (Err e) is stays = tt
+size_lasts d offset r is stays = grind (arith, meaning_more, same_lasts, stated_ok)

@@ -67,12 +67,10 @@ found_kind t mid count home told offset a found r honest began start finds =
 -- a type is stated as it is read
 stated_kind : (found : Option ImageType) (r : Result ImageType Halt) → IfSome found (λ type. r ≡ Ok type)
     → IfSome found (λ type. stated r ≡ Ok type)
-stated_kind None r is = tt
-stated_kind (Some type) r is = ap stated is
+stated_kind found r is = grind arith
 
 pub same_kind : (r : Result ImageType Halt) → result_ok r ≡ result_ok (stated r)
-same_kind (Ok type) = refl
-same_kind (Err halt) = refl
+same_kind r = grind arith
 
 -- type, size and count of a reader that was opened
 pub probes_opened : (telling mid : Option Telling) (count : Option ℕ) (home : ℕ) (opened : Opened) (a b : State)

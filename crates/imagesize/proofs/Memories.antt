@@ -13,5 +13,4 @@ use Rattle.imagesize_source.specs.declared.error.ImageError.{ImageError}
 pub memory_answers : {X : Type 0} (telling mid : Option Telling) (opened : Opened) (d : List ℕ)
     (reads_of : List ℕ → ℕ → Outcome X) (r : Result X ImageError) → Opens telling mid (Ok opened) → IsMemory mid d
     → r ≡ (reads_of d opened.offset).answer → is_stopped r ≡ false → Answers telling reads_of r
-memory_answers None mid opened d reads_of r opens memory is goes_on = tt
-memory_answers (Some t) mid opened d reads_of r opens memory is goes_on = grind arith
+memory_answers telling mid opened d reads_of r opens memory is goes_on = grind arith

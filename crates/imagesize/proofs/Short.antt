@@ -30,5 +30,4 @@ pub answers_end : {X : Type 0} (telling : Option Telling) (reads_of : List ℕ �
     → ((d : List ℕ) (offset : ℕ) → length d < offset + 12 → (reads_of d offset).answer ≡ Err end_of_input)
     → Answers telling reads_of r
     → Ends telling r
-answers_end None reads_of r short answers = tt
-answers_end (Some t) reads_of r short answers = grind arith
+answers_end telling reads_of r short answers = grind arith

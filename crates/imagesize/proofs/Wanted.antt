@@ -86,8 +86,7 @@ pub known_where_covered : (d : List ℕ) (n : ℕ) (spans : List Span) (bytes : 
 known_where_covered d n spans bytes offset has below = grind (arith, known_covered, unknown_free)
 
 some_byte : (o : Option ℕ) → is_some o ≡ true → (byte : ℕ) × (o ≡ Some byte)
-some_byte None is = absurd cc
-some_byte (Some byte) is = (byte, refl)
+some_byte o is = grind arith
 
 -- one that has them has the byte of the filled input where it is known
 same_known : (d : List ℕ) (n : ℕ) (spans : List Span) (bytes : List ℕ) (offset : ℕ) → HasKnown d n spans bytes
@@ -228,8 +227,7 @@ type_wanted d n spans bytes w wants = grind (arith, marks_onward, covered-left, 
 no_size : (d : List ℕ) (k : Result ImageType Halt) (e : ImageError) → k ≡ (kind_reads d 0).answer → Err e ≡ stated k
     → Err e ≡ stated (meaning_reads d 0).answer
 unfolding meaning_reads
-no_size d (Ok type) e same is = absurd cc
-no_size d (Err halt) e same is = grind arith
+no_size d k e same is = grind arith
 
 -- a type that is refused is none
 pub type_refused : (d : List ℕ) (e : ImageError) → ◌≡◌ {A = Result ImageType ImageError} (Err e) (kind_of d 0).answer
@@ -262,8 +260,7 @@ type_sized d n spans bytes type (Wanted w) is says =
 pub tells : {T : Type 0} (texts : Bool) (IsSo : T → Type 0) (marks : List Span) (n : ℕ) (spans : List Span)
     (bytes : List ℕ)
     (answer : PartsAnswer T) → Says texts IsSo marks n spans bytes answer → AllKnown n spans bytes marks → Tells answer
-tells texts IsSo marks n spans bytes (Found found) says all = tt
-tells texts IsSo marks n spans bytes (Wanted w) says all = grind (arith, says)
+tells texts IsSo marks n spans bytes answer says all = grind arith
 
 -- a failure is never found
 pub unstopped : {X : Type 0} (f : List ℕ → Reads X) (n : ℕ) (spans : List Span) (bytes : List ℕ) (texts : Bool)
@@ -293,8 +290,7 @@ reaches_end f n spans bytes texts log missed failure budget r short is_text call
 
 pub reaches_type : (type : ImageType) (answer : PartsAnswer (Result ImageSize ImageError)) (P : Span → Type 0)
     → IfWanted answer P → IfWanted (with_type type answer) P
-reaches_type type (Found answer) P is = is
-reaches_type type (Wanted w) P is = is
+reaches_type type answer P is = grind arith
 
 -- the end of a read of the size is one of all reads
 pub size_ends_of : (d : List ℕ) (type : ImageType) (answer : PartsAnswer (Result ImageSize ImageError))
@@ -302,14 +298,12 @@ pub size_ends_of : (d : List ℕ) (type : ImageType) (answer : PartsAnswer (Resu
     → IfWanted answer (λ w. EndsBetween w.start (w.start + w.len) (size_of type d).marks)
     → IfWanted answer (λ w. EndsBetween w.start (w.start + w.len) (meaning d 0).marks)
 unfolding meaning_reads
-size_ends_of d type (Found answer) is ends = tt
-size_ends_of d type (Wanted w) is ends = grind (arith, stated_ok, any_right)
+size_ends_of d type answer is ends = grind (arith, stated_ok, any_right)
 
 pub unstopped_type : (type : ImageType) (answer : PartsAnswer (Result ImageSize ImageError))
     → IfFound answer (λ r. is_stopped_error r ≡ false)
     → IfFound (with_type type answer) (λ found. is_stopped_error found.1 ≡ false)
-unstopped_type type (Found answer) is = is
-unstopped_type type (Wanted w) is = tt
+unstopped_type type answer is = grind arith
 
 pub fits : {T : Type 0} (texts : Bool) (n : ℕ) (spans : List Span) (bytes : List ℕ) (missed : Option Missing)
     (found : T) (test : Bool)

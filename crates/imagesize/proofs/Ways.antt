@@ -21,29 +21,9 @@ use Rattle.imagesize.specs.Types.{lasts, way_of}
 use Rattle.imagesize.specs.declared.types.ImageType.TheVariants.{Aseprite, Astc, Atc, Bmp, Dds, Eac, Etc2, Exr, Farbfeld, Gif, Hdr, Heif, Ico, Ilbm, Jpeg, Jxl, Ktx2, Pnm, Pvrtc, Psd, Qoi, Tga, Tiff, Vtf, Webp}
 use Rattle.imagesize_source.proofs.Way.{Laws}
 
+ruleset fixed_laws = (sides_laws, height_first_laws, atc_laws, pkm_laws, pvrtc_laws, webp_laws)
+
+ruleset other_laws = (exr_laws, hdr_laws, heif_laws, ico_laws, ilbm_laws, jpeg_laws, jxl_laws, pnm_laws, tiff_laws)
+
 pub laws_of : (type : ImageType) → Laws (kind_cost type) (lasts type) (has_texts type) (way_of type)
-laws_of Aseprite = sides_laws (omega arith)
-laws_of Astc = sides_laws (omega arith)
-laws_of (Atc _) = atc_laws
-laws_of Bmp = sides_laws (omega arith)
-laws_of (Dds _) = height_first_laws (omega arith)
-laws_of (Eac _) = pkm_laws
-laws_of (Etc2 _) = pkm_laws
-laws_of Exr = exr_laws
-laws_of Farbfeld = sides_laws (omega arith)
-laws_of Gif = sides_laws (omega arith)
-laws_of Hdr = hdr_laws
-laws_of (Heif _) = heif_laws
-laws_of Ico = ico_laws
-laws_of Ilbm = ilbm_laws
-laws_of Jpeg = jpeg_laws
-laws_of Jxl = jxl_laws
-laws_of Ktx2 = sides_laws (omega arith)
-laws_of Pnm = pnm_laws
-laws_of (Pvrtc _) = pvrtc_laws
-laws_of Psd = height_first_laws (omega arith)
-laws_of Qoi = sides_laws (omega arith)
-laws_of Tga = sides_laws (omega arith)
-laws_of Tiff = tiff_laws
-laws_of Vtf = sides_laws (omega arith)
-laws_of Webp = webp_laws
+laws_of type = grind (arith, fixed_laws, other_laws)

@@ -78,8 +78,7 @@ then_within n r f first rest = onward_within n r.marks r.answer f first rest
 
 record_within : {C X : Type 0} (c : Chain C X) (d : List ℕ) (at : Option (Along C))
     → AreWithin (length d) (option_map_or (λ u. (next_record c d u).marks) at [])
-record_within c d None = All-nil (IsWithin (length d))
-record_within c d (Some u) = layout_within d (c.said u.held u.offset)
+record_within c d at = grind (arith, layout_within)
 
 records_within : {C X : Type 0} (c : Chain C X) (d : List ℕ) (t : Along C) (indices : List ℕ)
     → AreWithin (length d) (flat_map (marks_of c d t) indices)
@@ -112,8 +111,7 @@ heif_within d =
     (λ ipco. chain_within (properties ipco.size (ipco.offset + 8)) d)))))
 
 codestream_within : (d : List ℕ) (found : Option (List ℕ)) → AreWithin (length d) (codestream d found).marks
-codestream_within d None = chain_within jxl_chain d
-codestream_within d (Some front) = All-nil (IsWithin (length d))
+codestream_within d found = grind (arith, chain_within)
 
 -- what is owed of a size, by the way in which it is found
 abbrev IsMarked : Way ImageSize → Type 0
@@ -122,9 +120,7 @@ IsMarked (Recorded outside each stated reads) = (d : List ℕ) → AreWithin (le
 IsMarked (Texts reads) = (d : List ℕ) → AreWithin (length d) (reads d).marks
 
 way_within : (way : Way ImageSize) (d : List ℕ) → IsMarked way → AreWithin (length d) (by_way way d).marks
-way_within (Fixed most layout) d marked = layout_within d layout
-way_within (Recorded outside each stated reads) d marked = marked d
-way_within (Texts reads) d marked = marked d
+way_within way d marked = grind (arith, layout_within)
 
 type_marked : (type : ImageType) → IsMarked (way_of type)
 type_marked Exr = λ d. then_within (length d) (number_read d Little 4 4)

@@ -77,4 +77,5 @@ abbrev pub pkm_ways : List PkmCompression
 pkm_ways = pkm.Etc1 ∷ pkm.Etc2 ∷ pkm.Etc2A1 ∷ pkm.Etc2A8 ∷ pkm.EacR ∷ pkm.EacRg ∷ pkm.EacRSigned ∷ pkm.EacRgSigned ∷ pkm.Unknown ∷ []
 
 abbrev pub pvrtc_ways : List PvrtcCompression
-pvrtc_ways = pvrtc.Pvrtc2BppRgb ∷ pvrtc.Pvrtc2BppRgba ∷ pvrtc.Pvrtc4BppRgb ∷ pvrtc.Pvrtc4BppRgba ∷ pvrtc.Etc2Rgb ∷ pvrtc.Etc2Rgba ∷ pvrtc.Etc2RgbA1 ∷ pvrtc.EacR11 ∷ pvrtc.EacRg11 ∷ pvrtc.Unknown ∷ []
+pvrtc_ways = pvrtc.Pvrtc2BppRgb ∷ pvrtc.Pvrtc2BppRgba ∷ pvrtc.Pvrtc4BppRgb ∷ pvrtc.Pvrtc4BppRgba ∷ pvrtc.Etc2Rgb ∷ pvrtc.Etc2Rgba
+    ∷ pvrtc.Etc2RgbA1 ∷ pvrtc.EacR11 ∷ pvrtc.EacRg11 ∷ pvrtc.Unknown ∷ []

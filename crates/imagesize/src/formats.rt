@@ -52,7 +52,8 @@ fn by_head<S: Source>(source: &mut S, offset: u64, head: &[u8; 12]) -> Result<Im
 #[tactic(auto, using(imagesize_source::proofs::Runs::steps, imagesize_source::proofs::Layouts::binding))]
 fn tga_or_none<S: Source>(source: &mut S, head: &[u8; 12]) -> Result<ImageType, Halt>
     requires { IsSound (S.state source.old) }
-    ensures { Follows (S.state source.old) (S.state source.new) result (bind (is_tga (length (S.state source.old).held.input) head.now) tga_or_none) }
+    ensures { Follows (S.state source.old) (S.state source.new) result
+        (bind (is_tga (length (S.state source.old).held.input) head.now) tga_or_none) }
 {
     if tga::matches(source, head)? {
         return Ok(ImageType::Tga);
@@ -119,7 +120,7 @@ pub fn with_compression<S: Source>(
 
 // The type with its compression, if the type has several.
 #[inline(always)]
-#[tactic(auto, using(imagesize_source::proofs::Runs::steps, imagesize_source::proofs::Layouts::binding), unfolding(crate::specs::Kind::with_compression))]
+#[tactic(auto, using(crate::proofs::Detection::steps_bound), unfolding(crate::specs::Kind::with_compression))]
 fn read_compression<S: Source>(
     source: &mut S,
     offset: u64,

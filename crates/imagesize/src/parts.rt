@@ -144,7 +144,8 @@ impl ImageType {
 
         // For a text format, a span reaches to the end of the text, as `parts_probe` says.
         ensures reaches { total < 2 ^ 63 → has_texts self.now ≡ true
-            → IfWanted result (λ w. EndsBetween w.start (w.start + w.len) (size_of self.now (filled_input total spans.now bytes.now)).marks) }
+            → IfWanted result
+            (λ w. EndsBetween w.start (w.start + w.len) (size_of self.now (filled_input total spans.now bytes.now)).marks) }
 
         // No result is a fault, a spent budget or a lack of memory.
         ensures unstopped { total < 2 ^ 63 → IfFound result (λ answer. is_stopped answer ≡ false) }

@@ -2,6 +2,7 @@
 use Rattle.std.proofs.Common.{List, ℕ, [], ◌∷◌, Option, None, Some, codes, arith}
 use Rattle.std.specs.Str.{bytes_eq}
 use Rattle.imagesize_fixed.specs.Dds.{dds_compression, dds_compression_by}
+use Rattle.imagesize_source.proofs.Runs.{missed_before, steps}
 use Rattle.imagesize_source.specs.Layout.{whole}
 use Rattle.imagesize_source.proofs.Always.{CompressionLaws}
 use Rattle.imagesize_source.proofs.Tests.{on_test}
@@ -19,3 +20,6 @@ pub dds_compression_laws : CompressionLaws 8 dds_compression
 unfolding dds_compression
 dds_compression_laws =
     record { few = (omega arith, λ bs. (by_code (whole 4 bs)).few); answers = λ bs. (by_code (whole 4 bs)).answers }
+
+-- what proves the function that reads its compression
+pub ruleset dds_steps = (steps, missed_before)

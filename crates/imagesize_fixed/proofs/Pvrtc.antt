@@ -1,6 +1,7 @@
 -- PowerVR textures: what is read of them.
 use Rattle.std.proofs.Common.{List, ℕ, Option, None, Some, arith}
 use Rattle.imagesize_fixed.specs.Pvrtc.{is_pvr3, pvr2, pvr3, pvrtc, pvrtc_compression, pvrtc_compression_by}
+use Rattle.imagesize_source.proofs.Runs.{missed_before, steps}
 use Rattle.imagesize_source.specs.Counts.{AtMost}
 use Rattle.imagesize_source.specs.Extension.{Plain}
 use Rattle.imagesize_source.specs.Layout.{whole}
@@ -29,3 +30,6 @@ pvrtc_laws = record {
   );
   plain = λ tag. on_test Plain (is_pvr3 tag) pvr3 pvr2 (λ _ _ _. tt) (λ _ _ _. tt);
 }
+
+-- what proves the function that reads its compression
+pub ruleset pvrtc_steps = (steps, missed_before)

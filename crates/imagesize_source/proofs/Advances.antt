@@ -1,5 +1,5 @@
 -- How a chain is seen to advance: by the layouts of its records.
-use Rattle.std.proofs.Common.{◌≡◌, ℕ, ◌<◌, ◌≤◌, List, [], ◌∷◌, length, Ok, refl, sym, ap, ◌∙◌, subst, arith}
+use Rattle.std.proofs.Common.{◌≡◌, ℕ, ◌<◌, ◌≤◌, List, [], ◌∷◌, length, Ok, refl, sym, ap, ◌∙◌, arith}
 use Rattle.imagesize_source.specs.Chain.{Said, Decided, Next, Chain, Advances}
 use Rattle.imagesize_source.specs.Layout.{Layout, done, refuse, field, reading, begin_record, layout_reads}
 use Rattle.imagesize_source.specs.Reading.{Reading, AllOf, PartOf, TextOf, read_of}
@@ -34,12 +34,10 @@ Begins q (begin_record t) = Begins q t
 
 pub tells : {C X : Type 0} (P : ℕ → Type 0) (d : List ℕ) (t : Layout (Said C X)) (v : C) (q : ℕ) → Tells P t
     → (layout_reads d t).answer ≡ Ok (Next v q) → P q
-tells P d (done (Decided x)) v q h is = absurd cc
-tells P d (done (Next w offset)) v q h is = let same : offset ≡ q = cc in subst P same h
-tells P d (refuse e) v q h is = absurd cc
 tells P d (field order offset k f) v q h is = onward_ok (P q) _ _ _ (Next v q) is (λ n _ got. tells P d (f n) v q (h n) got)
 tells P d (reading r offset f) v q h is = onward_ok (P q) _ _ _ (Next v q) is (λ bs _ got. tells P d (f bs) v q (h bs) got)
 tells P d (begin_record t) v q h is = tells P d t v q h is
+tells P d _ v q h is = grind arith
 
 -- where a reading gives a byte, there was one
 some_byte : {P : Type 0} (d : List ℕ) (r : Reading) (offset : ℕ) (bs : List ℕ) → OrSome r P → (bs ≡ [] → P → ⊥)
@@ -54,14 +52,12 @@ some_byte d (TextOf t k) offset (b ∷ bs) h none is =
 -- where a layout tells a next offset, there was a byte
 begins : {C X : Type 0} (d : List ℕ) (t : Layout (Said C X)) (v : C) (q p : ℕ) → Begins q t
     → (layout_reads d t).answer ≡ Ok (Next v p) → q < length d
-begins d (done (Decided x)) v q p h is = absurd cc
-begins d (done (Next w offset)) v q p h is = absurd h
-begins d (refuse e) v q p h is = absurd cc
 begins d (field order offset k f) v q p h is = grind (arith, number_ok)
 begins d (reading r offset f) v q p h is = onward_ok (q < length d) _ _ _ (Next v p) is (λ bs got told.
     let below = some_byte d r offset bs h.1 (λ none nothing. tells (λ _. ⊥) d (f []) v p nothing
     (sym (ap (λ bs. (layout_reads d (f bs)).answer) none) ∙ told)) got in omega (arith, h.0))
 begins d (begin_record t) v q p h is = begins d t v q p h is
+begins d _ v q p h is = grind arith
 
 -- A chain advances, whose records each begin at their offset or behind it and tell only greater offsets.
 pub advances : {C X : Type 0} (c : Chain C X)

@@ -1,5 +1,5 @@
 -- A layout sees an input by its readings alone.
-use Rattle.std.proofs.Common.{◌≡◌, ℕ, zero, suc, ◌+◌, ◌-◌, ◌<◌, ◌≤◌, min, Bool, true, false, ◌⊎◌, inl, inr, eqb, get_or, append_assoc, List, [], ◌∷◌, ◌++◌, length, take, Result, Ok, Err, refl, sym, ap, ◌∙◌, arith}
+use Rattle.std.proofs.Common.{◌≡◌, ℕ, suc, ◌+◌, ◌-◌, ◌<◌, ◌≤◌, min, Bool, true, false, ◌⊎◌, inl, inr, get_or, append_assoc, List, [], ◌∷◌, ◌++◌, length, take, Result, Ok, Err, refl, sym, ap, ◌∙◌, arith}
 use Rattle.std.proofs.lemmas.List.{append-nil, take-take}
 use Rattle.std.proofs.lemmas.Bool.Decides.{nat_tests}
 use Rattle.imagesize_source.specs.declared.halt.Halt.{Halt}
@@ -9,7 +9,7 @@ use Rattle.std.proofs.lemmas.Bool.{cases_eq, cases_lt, or_cases, or_left, or_rig
 use Rattle.imagesize_source.specs.Counts.{AtMost, CostsBy, Each}
 use Rattle.imagesize_source.specs.Agreement.{AllRead, Agrees, Alike, IsLocal, IsRead, Parting, has_offset, is_covered}
 use Rattle.imagesize_source.specs.Input.{part, span_at, span_of}
-use Rattle.imagesize_source.specs.Layout.{Layout, done, refuse, field, reading, begin_record, layout_reads}
+use Rattle.imagesize_source.specs.Layout.{Layout, field, reading, begin_record, layout_reads}
 use Rattle.imagesize_source.specs.declared.text.Text.{Text}
 use Rattle.imagesize_source.specs.Text.{text_front}
 use Rattle.imagesize_source.proofs.Texts.{front_same, front_take}
@@ -31,8 +31,7 @@ covered-right (x ∷ s) t offset h = or_right (has_offset x offset) (is_covered 
 -- an offset of a span
 pub covered-one : (offset n i : ℕ) → i < n → is_covered (span_at offset n) (offset + i) ≡ true
 unfolding span_at
-covered-one offset zero i h = absurd (omega arith)
-covered-one offset (suc n) i h = grind arith
+covered-one offset n i h = grind arith
 
 -- all of so many bytes are there
 pub whole_span : (d : List ℕ) (offset n : ℕ) → n ≤ length d - offset → span_of d offset n ≡ span_at offset n
@@ -42,8 +41,7 @@ whole_span d offset n all = let same : min n (length d - offset) ≡ n = omega a
 -- what goes on from an answer rests on its spans
 pub agrees_first : {d e : List ℕ} {X Y : Type 0} (spans : List Span) (r : Result X Halt) (f : X → Reads Y)
     → Agrees d e (go_on spans r f).marks → Agrees d e spans
-agrees_first spans (Ok x) f a = grind (arith, covered-left)
-agrees_first spans (Err e) f a = a
+agrees_first spans r f a = grind (arith, covered-left)
 
 -- ---- where two inputs part
 
@@ -87,8 +85,7 @@ differ (x ∷ xs) (y ∷ ys) long = by_rest (cases_eq y x) (differ xs ys (omega 
 -- bytes have one span
 pub span-some : (offset n : ℕ) → 0 < n → span_at offset n ≡ record { start = offset; len = n } ∷ []
 unfolding span_at
-span-some offset zero some = absurd (omega (arith, some))
-span-some offset (suc n) some = let is : eqb (suc n) 0 ≡ false = grind (arith, nat_tests) in rw is refl
+span-some offset n some = grind arith
 
 -- if the bytes from an offset on differ within two spans, the inputs part there
 parting_at : {texts : Bool} (d e : List ℕ) (offset k m n : ℕ) (x : Differ (part d offset k) (part e offset k)) → x.at < m
@@ -164,39 +161,30 @@ alike_text d e t offset k read long =
 
 -- each layout is read where texts are
 pub with_texts : {X : Type 0} (t : Layout X) → AllRead true t
-with_texts (done x) = tt
-with_texts (refuse e) = tt
 with_texts (field order offset k f) = λ v. with_texts (f v)
-with_texts (reading (AllOf k) offset f) = (tt, λ bs. with_texts (f bs))
-with_texts (reading (PartOf k) offset f) = (tt, λ bs. with_texts (f bs))
-with_texts (reading (TextOf t k) offset f) = (refl, λ bs. with_texts (f bs))
+with_texts (reading r offset f) = let rest : (bs : List ℕ) → AllRead true (f bs) = λ bs. with_texts (f bs) in grind (arith, rest)
 with_texts (begin_record t) = with_texts t
+with_texts _ = tt
 
 -- and one whose bytes are counted has no texts
 pub without_texts : (texts : Bool) {X : Type 0} (k : ℕ) (t : Layout X) → AtMost k t → AllRead texts t
-without_texts texts k (done x) few = tt
-without_texts texts k (refuse e) few = tt
 without_texts texts k (field order offset n f) few = λ v. without_texts texts (k - n) (f v) (few.1 v)
-without_texts texts k (reading (AllOf n) offset f) few = (tt, λ bs. without_texts texts (k - n) (f bs) (few.1 bs))
-without_texts texts k (reading (PartOf n) offset f) few = (tt, λ bs. without_texts texts (k - n) (f bs) (few.1 bs))
-without_texts texts k (reading (TextOf t n) offset f) few = absurd few
+without_texts texts k (reading r offset f) few =
+    let rest : (bs : List ℕ) (j : ℕ) → AtMost j (f bs) → AllRead texts (f bs) = λ bs j. without_texts texts j (f bs) in
+    grind (arith, rest)
 without_texts texts k (begin_record t) few = without_texts texts k t few
+without_texts texts k _ few = tt
 
 pub each_texts : (texts : Bool) {X : Type 0} (k : ℕ) (t : Layout X) → Each k t → AllRead texts t
-each_texts texts k (begin_record t) few = without_texts texts k t few
-each_texts texts k (done x) few = tt
-each_texts texts k (refuse e) few = tt
-each_texts texts k (field order offset n f) few = without_texts texts 0 (field order offset n f) few
-each_texts texts k (reading r offset f) few = without_texts texts 0 (reading r offset f) few
+each_texts texts k t few = grind (arith, without_texts)
 
 pub costed_texts : (texts : Bool) {X : Type 0} (f : X → ℕ) (e u : ℕ) (t : Layout X) → CostsBy f e u t → AllRead texts t
-costed_texts texts f e u (done x) few = tt
-costed_texts texts f e u (refuse r) few = tt
 costed_texts texts f e u (field order offset n g) few = λ v. costed_texts texts f e (u + n) (g v) (few.1 v)
-costed_texts texts f e u (reading (AllOf n) offset g) few = (tt, λ bs. costed_texts texts f e (u + n) (g bs) (few.1 bs))
-costed_texts texts f e u (reading (PartOf n) offset g) few = (tt, λ bs. costed_texts texts f e (u + n) (g bs) (few bs))
-costed_texts texts f e u (reading (TextOf t n) offset g) few = absurd few
+costed_texts texts f e u (reading r offset g) few =
+    let rest : (bs : List ℕ) (v : ℕ) → CostsBy f e v (g bs) → AllRead texts (g bs) = λ bs v. costed_texts texts f e v (g bs) in
+    grind (arith, rest)
 costed_texts texts f e u (begin_record t) few = costed_texts texts f e u t few
+costed_texts texts f e u _ few = tt
 
 alike_reading : {texts : Bool} (d e : List ℕ) (r : Reading) (offset : ℕ) → IsRead texts r → length e ≡ length d
     → Alike texts d e (read_of d r offset) (read_of e r offset)
@@ -226,8 +214,7 @@ parting_among before more others fewer is also x = record {
 }
 
 pub alike_more : {X : Type 0} (texts : Bool) (d e : List ℕ) (p q : Reads X) → Alike false d e p q → Alike texts d e p q
-alike_more texts d e p q (inl same) = inl same
-alike_more texts d e p q (inr x) = grind arith
+alike_more texts d e p q alike = grind arith
 
 -- what goes on from answers that are alike, where it is alike behind each
 pub alike_then : {texts : Bool} {X Y : Type 0} (d e : List ℕ) (p q : Reads X) (f g : X → Reads Y) → Alike texts d e p q
@@ -246,18 +233,12 @@ alike_then {texts} {X} {Y} d e p q f g (inl same) rest = rw same (by_answer p.an
 -- a layout is local
 pub alike_layout : {texts : Bool} {X : Type 0} (d e : List ℕ) (t : Layout X) → AllRead texts t → length e ≡ length d
     → Alike texts d e (layout_reads d t) (layout_reads e t)
-alike_layout d e (done x) read long = inl refl
-alike_layout d e (refuse x) read long = inl refl
 alike_layout d e (field order offset k f) read long =
-    alike_then d e (number_read d order offset k) (number_read e order offset k)
-    (λ v. layout_reads d (f v)) (λ v. layout_reads e (f v))
-    (local_number order offset k d e long)
-    (λ v is also. alike_layout d e (f v) (read v) long)
+    alike_then d e _ _ _ _ (local_number order offset k d e long) (λ v is also. alike_layout d e (f v) (read v) long)
 alike_layout d e (reading r offset f) read long =
-    alike_then d e (read_of d r offset) (read_of e r offset) (λ bs. layout_reads d (f bs))
-    (λ bs. layout_reads e (f bs)) (alike_reading d e r offset read.0 long)
-    (λ bs is also. alike_layout d e (f bs) (read.1 bs) long)
+    alike_then d e _ _ _ _ (alike_reading d e r offset read.0 long) (λ bs is also. alike_layout d e (f bs) (read.1 bs) long)
 alike_layout d e (begin_record t) read long = grind (arith, (alike_layout d e t read long))
+alike_layout d e _ read long = inl refl
 
 pub local_layout : {texts : Bool} {X : Type 0} (t : Layout X) → AllRead texts t → IsLocal texts (λ d. layout_reads d t)
 local_layout t read d e long = alike_layout d e t read long
@@ -270,4 +251,4 @@ local_then r f first rest d e long = grind (arith, alike_then)
 -- readings that take the length of the input
 pub local_length : {texts : Bool} {X : Type 0} (f : ℕ → List ℕ → Reads X) → ((n : ℕ) → IsLocal texts (f n))
     → IsLocal texts (λ d. f (length d) d)
-local_length {texts} f each d e long = grind (arith)
+local_length {texts} f each d e long = grind arith

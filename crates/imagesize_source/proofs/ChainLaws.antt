@@ -1,5 +1,5 @@
 -- What holds of every chain: locality, counts and extension.
-use Rattle.std.proofs.Common.{Bool, ◌≡◌, ℕ, ◌+◌, ◌*◌, ◌≤◌, List, [], ◌∷◌, ◌++◌, Some, Result, Ok, Err, inl, refl, sym, ap, ◌∙◌, arith}
+use Rattle.std.proofs.Common.{Bool, ◌≡◌, ℕ, ◌+◌, ◌*◌, ◌≤◌, List, [], ◌∷◌, ◌++◌, Some, Result, Ok, inl, refl, sym, ap, ◌∙◌, arith}
 use Rattle.imagesize_source.specs.declared.halt.Halt.{Halt}
 use Rattle.imagesize_source.specs.Agreement.{AllRead, Alike, IsLocal}
 use Rattle.imagesize_source.specs.Chain.{Said, Decided, Next, Chain, Along, start, next_record, verdict, chain_from, chain_at, Advances}
@@ -73,9 +73,7 @@ module _ {C X : Type 0} (c : Chain C X) (d : List ℕ) (adv : Advances c d) wher
   )
 
 verdict_ok : {C X : Type 0} (r : Result (Said C X) Halt) (y : X) → verdict r ≡ Some (Ok y) → r ≡ Ok (Decided y)
-verdict_ok (Ok (Decided x)) y is = cc
-verdict_ok (Ok (Next v offset)) y is = absurd cc
-verdict_ok (Err e) y is = absurd cc
+verdict_ok r y is = grind arith
 
 -- Extension: bytes behind an input change no answer of a chain of plain records.
 pub lasts_chain : {C X : Type 0} (c : Chain C X) → ((d : List ℕ) → Advances c d)

@@ -1,11 +1,10 @@
 -- How many bytes are read, and how many offsets are seen.
 use Rattle.std.proofs.Common.{◌≡◌, ℕ, zero, suc, ◌+◌, ◌-◌, ◌*◌, ◌<◌, ◌≤◌, min, max, Bool, true, false, cond, ◌||◌, List, [], ◌∷◌, length, get_or, Ok, refl, ap, ◌∙◌, arith}
-use Rattle.std.proofs.Math.Nat.{add-zero, mul-add}
+use Rattle.std.proofs.Math.Nat.{mul-add}
 use Rattle.std.proofs.lemmas.Bool.Decides.{nat_tests}
 use Rattle.std.proofs.lemmas.List.Sums.{sum_by-cons, sum_by-le-sum_by}
 use Rattle.std.specs.Prelude.{count_by}
 use Rattle.std.specs.List.{range_with_len}
-use Rattle.imagesize_source.proofs.Agreement.{span-some}
 use Rattle.imagesize_source.proofs.Runs.{total-append}
 use Rattle.imagesize_source.proofs.Texts.{front_length}
 use Rattle.imagesize_source.specs.declared.span.Span.{Span}
@@ -14,7 +13,7 @@ use Rattle.imagesize_source.specs.Agreement.{has_offset, is_covered}
 use Rattle.imagesize_source.specs.Counts.{offsets, AtMost, Each, IfBytes}
 use Rattle.imagesize_source.specs.Input.{part, span_at, span_of}
 use Rattle.imagesize_source.specs.Layout.{Layout, done, refuse, field, reading, begin_record, layout_reads, bind}
-use Rattle.imagesize_source.specs.Reading.{Reads, Reading, AllOf, PartOf, TextOf, and_then, plus, number_read, text_part, read_of, most}
+use Rattle.imagesize_source.specs.Reading.{Reads, Reading, and_then, plus, number_read, text_part, read_of, most}
 use Rattle.imagesize_source.specs.State.{State, state_after, step, total, new_bytes, front_after, place_after, place_by}
 use Rattle.imagesize_source.proofs.Marks.{plus-is}
 use Rattle.imagesize_source.proofs.Parts.{part_length}
@@ -23,8 +22,7 @@ use Rattle.std.proofs.lemmas.Bool.{or_right}
 -- a span has no more bytes than were asked for
 pub total-span_at : (offset n : ℕ) → total (span_at offset n) ≡ n
 unfolding span_at
-total-span_at offset zero = refl
-total-span_at offset (suc n) = ap total (span-some offset (suc n) (omega arith)) ∙ add-zero (suc n)
+total-span_at offset n = grind arith
 
 -- a read has the requested bytes that the input has
 pub total_there : (d : List ℕ) (offset k : ℕ) → total (span_of d offset k) ≡ min k (length d - offset)
@@ -44,15 +42,11 @@ text_length d t offset k = front_length t (part d offset k)
 
 -- the same of any reading
 pub total_reading : (d : List ℕ) (r : Reading) (offset : ℕ) → total (read_of d r offset).marks ≤ most r
-total_reading d (AllOf k) offset = total-span_of d offset k
-total_reading d (PartOf k) offset = total-span_of d offset k
-total_reading d (TextOf t k) offset = grind (arith, text_length, total-span_at, part_length)
+total_reading d r offset = grind (arith, total-span_of, text_length, total-span_at, part_length)
 
 -- what is owed of a reading of bytes
 pub of_bytes : {P : Type 0} (r : Reading) → IfBytes r P → P
-of_bytes (AllOf k) h = h
-of_bytes (PartOf k) h = h
-of_bytes (TextOf t k) h = absurd h
+of_bytes r h = grind arith
 
 -- Readings are of at most so many bytes, and `each` for a record that is begun.
 abbrev pub Bounded : {X : Type 0} → ℕ → ℕ → Reads X → Type 0
@@ -74,17 +68,23 @@ then_within r f j k one two = omega (arith, bounded_then 0 j k r f (omega arith)
 
 -- a layout that asks for at most k bytes reads no more of any input
 pub at_most : {X : Type 0} (d : List ℕ) (k : ℕ) (t : Layout X) → AtMost k t → total (layout_reads d t).marks ≤ k
-at_most d k (done x) h = omega arith
-at_most d k (refuse e) h = omega arith
 at_most d k (field order offset n f) h =
-    let all = then_within (number_read d order offset n) (λ v. layout_reads d (f v)) n (k - n) (total-span_of d offset n)
-    (λ v is. at_most d (k - n) (f v) (h.1 v)) in
-    omega (arith, h.0)
+    omega (
+      arith,
+      h.0,
+      then_within (number_read d order offset n) (λ v. layout_reads d (f v)) n (k - n)
+          (total-span_of d offset n) (λ v is. at_most d (k - n) (f v) (h.1 v)),
+    )
 at_most d k (reading r offset f) h =
-    let all = then_within (read_of d r offset) (λ bs. layout_reads d (f bs)) (most r) (k - most r) (total_reading d r offset)
-    (λ bs is. at_most d (k - most r) (f bs) ((of_bytes r h).1 bs)) in
-    omega (arith, (of_bytes r h).0)
+    let few = of_bytes r h in
+    omega (
+      arith,
+      few.0,
+      then_within (read_of d r offset) (λ bs. layout_reads d (f bs)) (most r) (k - most r)
+          (total_reading d r offset) (λ bs is. at_most d (k - most r) (f bs) (few.1 bs)),
+    )
 at_most d k (begin_record t) h = at_most d k t h
+at_most d k _ h = omega arith
 
 -- a layout that asks for at most so many bytes
 pub bounded_layout : {X : Type 0} (each k : ℕ) (d : List ℕ) (t : Layout X) → AtMost k t
@@ -102,16 +102,13 @@ bounded_each each d (reading r offset f) few = bounded_layout each 0 d (reading 
 
 -- at most j bytes are at most k, where k is no less
 pub at_most_more : {X : Type 0} (j k : ℕ) (t : Layout X) → j ≤ k → AtMost j t → AtMost k t
-at_most_more j k (done x) le h = tt
-at_most_more j k (refuse e) le h = tt
 at_most_more j k (field order offset n f) le h =
     (omega (arith, h.0), λ v. at_most_more (j - n) (k - n) (f v) (omega arith) (h.1 v))
-at_most_more j k (reading (AllOf n) offset f) le h =
-    (omega (arith, h.0), λ bs. at_most_more (j - n) (k - n) (f bs) (omega arith) (h.1 bs))
-at_most_more j k (reading (PartOf n) offset f) le h =
-    (omega (arith, h.0), λ bs. at_most_more (j - n) (k - n) (f bs) (omega arith) (h.1 bs))
-at_most_more j k (reading (TextOf t n) offset f) le h = absurd h
+at_most_more j k (reading r offset f) le h =
+    let rest : (bs : List ℕ) (i m : ℕ) → i ≤ m → AtMost i (f bs) → AtMost m (f bs) = λ bs i m. at_most_more i m (f bs) in
+    grind (arith, rest)
 at_most_more j k (begin_record t) le h = at_most_more j k t le h
+at_most_more j k _ le h = tt
 
 -- a layout behind another asks for as many bytes as both
 bind_within : {X Y : Type 0} (j k m : ℕ) (t : Layout X) (g : X → Layout Y) → j + k ≤ m → AtMost j t
@@ -120,11 +117,10 @@ bind_within j k m (done x) g fits h rest = at_most_more k m (g x) (omega arith) 
 bind_within j k m (refuse e) g fits h rest = tt
 bind_within j k m (field order offset n f) g fits h rest =
     (omega (arith, h.0), λ v. bind_within (j - n) k (m - n) (f v) g (omega (arith, h.0)) (h.1 v) rest)
-bind_within j k m (reading (AllOf n) offset f) g fits h rest =
-    (omega (arith, h.0), λ bs. bind_within (j - n) k (m - n) (f bs) g (omega (arith, h.0)) (h.1 bs) rest)
-bind_within j k m (reading (PartOf n) offset f) g fits h rest =
-    (omega (arith, h.0), λ bs. bind_within (j - n) k (m - n) (f bs) g (omega (arith, h.0)) (h.1 bs) rest)
-bind_within j k m (reading (TextOf t n) offset f) g fits h rest = absurd h
+bind_within j k m (reading r offset f) g fits h rest =
+    let on : (bs : List ℕ) (i n : ℕ) → i + k ≤ n → AtMost i (f bs) → AtMost n (bind (f bs) g) =
+    λ bs i n few at. bind_within i k n (f bs) g few at rest in
+    grind (arith, on)
 bind_within j k m (begin_record t) g fits h rest = bind_within j k m t g fits h rest
 
 pub at_most_bind : {X Y : Type 0} (j k : ℕ) (t : Layout X) (g : X → Layout Y) → AtMost j t → ((x : X) → AtMost k (g x))

@@ -1,29 +1,23 @@
 -- What bytes behind an input change of the answer of a layout: nothing, where no reading was cut.
-use Rattle.std.proofs.Common.{◌≡◌, ℕ, zero, suc, ◌-◌, ◌<◌, ◌≤◌, min, false, List, ◌++◌, length, take, drop, Result, Ok, Err, inl, inr, refl, sym, ap, ◌∙◌, arith}
-use Rattle.std.proofs.lemmas.Bool.{cases_Bool, cases_lt}
+use Rattle.std.proofs.Common.{◌≡◌, ℕ, ◌-◌, ◌<◌, ◌≤◌, min, false, List, ◌++◌, length, drop, Result, Ok, refl, sym, ap, ◌∙◌, arith}
 use Rattle.std.proofs.lemmas.List.{length-append, length-drop, drop-append-le, take-append-drop, take-append-le}
 use Rattle.imagesize_source.specs.declared.halt.Halt.{Halt}
 use Rattle.imagesize_source.specs.declared.span.Span.{Span}
 use Rattle.imagesize_source.specs.declared.text.Text.{Text}
-use Rattle.imagesize_source.specs.Text.{is_ended, text_front}
+use Rattle.imagesize_source.specs.Text.{is_ended}
 use Rattle.imagesize_source.proofs.Texts.{front_all, front_any, front_more}
 use Rattle.imagesize_source.specs.declared.endian.Endian.{Endian}
 use Rattle.imagesize_source.specs.Input.{part, span_at, span_of}
-use Rattle.imagesize_source.specs.Layout.{Layout, done, refuse, field, reading, begin_record, layout_reads}
+use Rattle.imagesize_source.specs.Layout.{Layout, field, reading, begin_record, layout_reads}
 use Rattle.imagesize_source.specs.Numbers.{number}
 use Rattle.imagesize_source.specs.Extension.{Plain, Never, WhereCut}
-use Rattle.imagesize_source.specs.Reading.{Reads, after_records, and_then, number_read, Reading, AllOf, PartOf, TextOf, go_on, bytes_at, number_at, text_part, read_of, map_answer}
+use Rattle.imagesize_source.specs.Reading.{Reads, after_records, and_then, number_read, Reading, go_on, bytes_at, number_at, text_part, read_of, map_answer}
 use Rattle.imagesize_source.proofs.Parts.{part_front, part_length, part_whole}
 
 -- bytes behind the input are not among those that are all there
 part_more : (d x : List ℕ) (offset k : ℕ) → k ≤ length d - offset → part (d ++ x) offset k ≡ part d offset k
 unfolding part
-part_more d x offset zero h = refl
-part_more d x offset (suc k) h =
-    let short = length-drop offset d in
-    let before : offset ≤ length d = omega arith in
-    let fits : suc k ≤ length (drop offset d) = omega arith in
-    ap (take (suc k)) (drop-append-le offset d x before) ∙ take-append-le (suc k) (drop offset d) x fits
+part_more d x offset k h = grind (arith, length-drop, drop-append-le, take-append-le)
 
 span_more : (d x : List ℕ) (offset k : ℕ) → k ≤ length d - offset → span_of (d ++ x) offset k ≡ span_of d offset k
 unfolding span_of
@@ -36,7 +30,7 @@ bytes_ok d a offset k is = grind arith
 
 pub number_ok : (d : List ℕ) (order : Endian) (offset k v : ℕ) → number_at d order offset k ≡ Ok v → k ≤ length d - offset
 unfolding number_at bytes_at
-number_ok d order offset k v is = grind (arith)
+number_ok d order offset k v is = grind arith
 
 pub bytes_more : (d x : List ℕ) (offset k : ℕ) → k ≤ length d - offset → bytes_at (d ++ x) offset k ≡ bytes_at d offset k
 unfolding bytes_at
@@ -50,16 +44,14 @@ number_more d x order offset k h = ap (map_answer (number order)) (bytes_more d 
 -- what has an answer goes on from an answer
 pub onward_ok : {X Y : Type 0} (P : Type 0) (spans : List Span) (r : Result X Halt) (f : X → Reads Y) (y : Y)
     → (go_on spans r f).answer ≡ Ok y → ((x : X) → r ≡ Ok x → (f x).answer ≡ Ok y → P) → P
-onward_ok P spans (Ok x) f y is each = each x refl is
-onward_ok P spans (Err e) f y is each = absurd cc
+onward_ok P spans r f y is each = grind arith
 
 -- a layout that is always refused has no answer
 never_ok : {X : Type 0} (d : List ℕ) (t : Layout X) (v : X) → Never t → (layout_reads d t).answer ≡ Ok v → ⊥
-never_ok d (done x) v never is = never
-never_ok d (refuse e) v never is = absurd cc
 never_ok d (field order offset k f) v never is = onward_ok ⊥ _ _ _ v is (λ n got ok. never_ok d (f n) v (never n) ok)
 never_ok d (reading r offset f) v never is = onward_ok ⊥ _ _ _ v is (λ bs got ok. never_ok d (f bs) v (never bs) ok)
 never_ok d (begin_record t) v never is = never_ok d t v never is
+never_ok d _ v never is = grind arith
 
 -- bytes behind the input follow those that are there
 pub part_grows : (d x : List ℕ) (offset k : ℕ) → (rest : List ℕ) × (part (d ++ x) offset k ≡ part d offset k ++ rest)
@@ -74,30 +66,20 @@ text_more : (d x : List ℕ) (t : Text) (offset k : ℕ)
     → (is_ended t (text_part d t offset k) ≡ false → length (text_part d t offset k) < k → ⊥)
     → text_part (d ++ x) t offset k ≡ text_part d t offset k
 unfolding text_part
-text_more d x t offset k uncut = elim (cases_Bool (is_ended t (part d offset k))) [
-  | inl some ↦ (
-      let grows = part_grows d x offset k in
-      ap (text_front t) grows.1 ∙ front_more t (part d offset k) grows.0 some
-      )
-  | inr none ↦ elim (cases_lt (length d - offset) k) [
-    | inr all ↦ ap (text_front t) (part_more d x offset k all)
-    | inl some_missing ↦ absurd (uncut (front_any t (part d offset k) ∙ none)
-        (omega (arith, some_missing, part_length d offset k, ap length (front_all t (part d offset k) none))))
-  ]
-]
+text_more d x t offset k uncut =
+    let grows = part_grows d x offset k in
+    let any = front_any t (part d offset k) in
+    grind (arith, grows, any, uncut, front_more, part_more, part_length, front_all)
 
 -- what holds of the bytes of a reading that was not cut
 otherwise : (P Q : Type 0) (r : Reading) (bs : List ℕ) → WhereCut r bs P Q → Q
-otherwise P Q (AllOf k) bs h = h
-otherwise P Q (PartOf k) bs h = h.1
-otherwise P Q (TextOf t k) bs h = h.1
+otherwise P Q r bs h = grind arith
 
 -- bytes behind the input do not change a reading that was answered and not cut
 reading_more : (P Q : Type 0) (d x : List ℕ) (r : Reading) (offset : ℕ) (bs : List ℕ) → (P → ⊥) → WhereCut r bs P Q
     → (read_of d r offset).answer ≡ Ok bs → read_of (d ++ x) r offset ≡ read_of d r offset
-reading_more P Q d x (AllOf k) offset bs not_cut h is = grind (arith, bytes_ok, span_more, bytes_more)
-reading_more P Q d x (PartOf k) offset bs not_cut h is = grind (arith, span_more, part_more, part_length)
-reading_more P Q d x (TextOf t k) offset bs not_cut h is = grind (arith, text_more)
+reading_more P Q d x r offset bs not_cut h is =
+    grind (arith, bytes_ok, span_more, bytes_more, part_more, part_length, text_more)
 
 -- what goes on is the same, where the readings are so whose answer it goes on from
 pub onward_more : {X Y : Type 0} (r r' : Reads X) (f g : X → Reads Y) (y : Y) → (and_then r f).answer ≡ Ok y
@@ -108,19 +90,15 @@ onward_more r r' f g y is same rest = grind arith
 -- Extension: where a plain layout has an answer, it has it over the input and any bytes behind it, with the same marks.
 pub more : {X : Type 0} (d x : List ℕ) (t : Layout X) (v : X) → Plain t → (layout_reads d t).answer ≡ Ok v
     → layout_reads (d ++ x) t ≡ layout_reads d t
-more d x (done u) v p is = refl
-more d x (refuse e) v p is = refl
 more d x (field order offset k f) v p is =
     onward_more (number_read d order offset k) (number_read (d ++ x) order offset k) _ _ v is
-    (λ n got ok. let all = number_ok d order offset k n got in
-    rw (span_more d x offset k all, number_more d x order offset k all) refl)
-    (λ n ok. more d x (f n) v (p n) ok)
+    (λ n got ok. grind (arith, number_ok, span_more, number_more)) (λ n ok. more d x (f n) v (p n) ok)
 more d x (reading r offset f) v p is =
     onward_more (read_of d r offset) (read_of (d ++ x) r offset) _ _ v is
-    (λ bs got ok. reading_more (Never (f bs)) (Plain (f bs)) d x r offset bs (λ never. never_ok d (f bs) v never ok)
-    (p bs) got)
+    (λ bs got ok. reading_more (Never (f bs)) (Plain (f bs)) d x r offset bs (λ never. never_ok d (f bs) v never ok) (p bs) got)
     (λ bs ok. more d x (f bs) v (otherwise (Never (f bs)) (Plain (f bs)) r bs (p bs)) ok)
 more d x (begin_record t) v p is = ap (after_records 1) (more d x t v p is)
+more d x _ v p is = refl
 
 -- the answer alone
 pub more_answer : {X : Type 0} (d x : List ℕ) (t : Layout X) (v : X) → Plain t → (layout_reads d t).answer ≡ Ok v

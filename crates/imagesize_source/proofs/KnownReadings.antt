@@ -192,3 +192,10 @@ module _ (n : ℕ) (spans : List Span) (bytes : List ℕ) (log : List Span) (mis
       let few = front_length t (part filled offset k) in
       fails (text_read filled t offset k) b w offset (length (text_front t (part filled offset k))) found after refl
       (omega (arith, behind, same)) at (omega (arith, sure, behind, same, long_bs)) (omega (arith, most, few, long_k, long, full, fits))
+
+-- whether the bytes that were found are cut, by how many they are
+pub cut_is : (buffer : List ℕ) (found wanted offset told : ℕ) (cut ended : Bool)
+    → wanted ≡ min (length buffer) (told - offset)
+    → found ≤ wanted → cut ≡ (leb (suc (length (take found buffer))) wanted && not ended)
+    → leb (suc found) wanted && not ended ≡ cut
+cut_is buffer found wanted offset told cut ended long few is = grind (arith, length-take)

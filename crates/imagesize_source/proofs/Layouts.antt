@@ -6,7 +6,7 @@ use Rattle.imagesize_source.specs.declared.span.Span.{Span}
 use Rattle.imagesize_source.specs.declared.halt.Halt.{Halt}
 use Rattle.imagesize_source.specs.Input.{part, span_of, span_at}
 use Rattle.imagesize_source.specs.Layout.{Layout, layout_reads, bind, whole, if_there, some_where}
-use Rattle.imagesize_source.specs.Layout.Layout.{«done», refuse, field, reading, begin_record}
+use Rattle.imagesize_source.specs.Layout.Layout.{«done», field, reading, begin_record}
 use Rattle.imagesize_source.specs.Reading.{Reads, after_records, and_then, gives, just, uncounted, go_on, map_answer, put_behind, part_read}
 use Rattle.imagesize_source.specs.State.{State, Runs}
 use Rattle.imagesize_source.proofs.Marks.{plus-assoc, plus-zero}
@@ -16,8 +16,7 @@ use Rattle.imagesize_source.proofs.Runs.{answered, part_is, runs_refused}
 pub onward-and_then : {X Y Z : Type 0} (marks : List Span) (r : Result X Halt) (f : X → Reads Y) (g : Y → Reads Z)
     (both : X → Reads Z)
     → ((x : X) → both x ≡ and_then (f x) g) → go_on marks r both ≡ and_then (go_on marks r f) g
-onward-and_then marks (Ok x) f g both is = grind (arith, append_assoc)
-onward-and_then marks (Err e) f g both is = refl
+onward-and_then marks r f g both is = grind (arith, append_assoc)
 
 -- the same of readings that begin records
 pub then_then : {X Y Z : Type 0} (r : Reads X) (f : X → Reads Y) (g : Y → Reads Z) (both : X → Reads Z)
@@ -29,8 +28,7 @@ pub on_answer : {X Y : Type 0} (P : Reads Y → Type 0) (spans : List Span) (r :
     → ((x : X) → r ≡ Ok x → P (put_behind spans (f x)))
     → ((e : Halt) → r ≡ Err e → P (just (Err e) spans))
     → P (go_on spans r f)
-on_answer P spans (Ok x) f answered refused = answered x refl
-on_answer P spans (Err e) f answered refused = refused e refl
+on_answer P spans r f answered refused = grind arith
 
 -- what goes on from the same answer
 pub then_alike : {X Y : Type 0} (r : Reads X) (f g : X → Reads Y) → ((x : X) → r.answer ≡ Ok x → f x ≡ g x)
@@ -43,11 +41,10 @@ then_gives r = grind (arith, append-nil, plus-zero)
 -- one layout behind the other: first the readings of the one, then those of the other
 pub over-bind : {X Y : Type 0} (d : List ℕ) (t : Layout X) (f : X → Layout Y)
     → layout_reads d (bind t f) ≡ and_then (layout_reads d t) (λ x. layout_reads d (f x))
-over-bind d (done x) f = refl
-over-bind d (refuse e) f = refl
 over-bind d (field order offset k g) f = onward-and_then _ _ _ _ _ (λ v. over-bind d (g v) f)
 over-bind d (reading r offset g) f = onward-and_then _ _ _ _ _ (λ bs. over-bind d (g bs) f)
 over-bind d (begin_record t) f = ap (after_records 1) (over-bind d t f)
+over-bind d _ f = refl
 
 pub whole_read : {a b : State} (d buffer : List ℕ) (offset n : ℕ) → n ≤ length buffer
     → Runs a b (Ok (take n buffer)) (part_read d offset (length buffer))
@@ -66,7 +63,7 @@ whole_stopped {a = a} {b = b} d offset k found r why is h =
 -- readings that are others' where the source is honest
 pub runs_as : {X : Type 0} {a b : State} {r : Result X Halt} {reads : Reads X} (other : Reads X) → Runs a b r reads
     → (a.held.honest ≡ true → uncounted reads ≡ uncounted other) → Runs a b r other
-runs_as {X} {a} {b} {r} other h same = grind (arith)
+runs_as {X} {a} {b} {r} other h same = grind arith
 
 -- an honest source tells the length
 pub by_told : {X : Type 0} {a b : State} {r : Result X Halt} (f : ℕ → Reads X) → Runs a b r (f a.frame.told)

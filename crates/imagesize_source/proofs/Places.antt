@@ -22,4 +22,4 @@ goes_on p bs n count there counted all =
 
 -- a place before the end
 pub position_some : (p : ℕ → Bool) (bs : List ℕ) (i : ℕ) → position_or_len p bs ≡ i → i < length bs → position p bs ≡ Some i
-position_some p bs i at there = grind (arith)
+position_some p bs i at there = grind arith

@@ -18,8 +18,7 @@ use Rattle.imagesize_source.proofs.Parts.{part_length}
 
 -- a result that nothing stopped is none of the ends of a call
 pub plain_end : {X : Type 0} (b : State) (r : Result X Halt) → is_stopped r ≡ false → IfErr r (EndedBy b)
-plain_end b (Ok x) goes_on = tt
-plain_end b (Err halt) goes_on = grind arith
+plain_end b r goes_on = grind arith
 
 pub without_fault : {X : Type 0} (r : Result X Halt) → is_stopped r ≡ false → is_faulted r ≡ false
 without_fault r goes_on = grind arith
@@ -36,8 +35,7 @@ past-none a = refl
 both : (o : Option (List Span)) (s t : List Span)
     → option_map (λ spans. spans ++ t) (option_map (λ spans. spans ++ s) o)
     ≡ option_map (λ spans. spans ++ (s ++ t)) o
-both None s t = refl
-both (Some spans) s t = ap Some (append_assoc spans s t)
+both o s t = grind (arith, append_assoc)
 
 pub total-append : (s t : List Span) → total (s ++ t) ≡ total s + total t
 total-append [] t = sym (zero-add (total t))
@@ -87,8 +85,7 @@ missed_before a b marks more h = grind (arith, past-recorded, both, append_assoc
 pub missed_first : {X Y : Type 0} (a b : State) (spans : List Span) (r : Result X Halt) (f : X → Reads Y)
     → Missed a b spans
     → Missed a b (go_on spans r f).marks
-missed_first a b spans (Ok x) f h = missed_before a b spans (f x).marks h
-missed_first a b spans (Err e) f h = h
+missed_first a b spans r f h = grind (arith, missed_before)
 
 -- the spans of the readings before are the first of the whole
 pub marks_onward : {X Y : Type 0} (spans : List Span) (r : Result Y Halt) (f : Y → Reads X)
@@ -105,12 +102,12 @@ pub ruleset steps = (past-past, past-none, total-append, append-nil, past-held, 
 -- no read was made yet
 pub reached_start : {X : Type 0} (a : State) (whole : Reads X) → Reached a a whole whole
 unfolding state_after
-reached_start a whole = grind (arith)
+reached_start a whole = grind arith
 
 -- after a result, what follows from it is left
 pub reached_by : {X Y : Type 0} {a m : State} {x : X} {r : Reads X} (f : X → Reads Y) → Runs a m (Ok x) r
     → Reached a m (and_then r f) (f x)
-reached_by {r} f h = grind (arith)
+reached_by {r} f h = grind arith
 
 module _ {X : Type 0} {a b : State} {whole rest : Reads X} (h : Reached a b whole rest) where
   -- an honest source keeps its input
@@ -231,4 +228,4 @@ number_missing {a} {b} d order offset k e h = grind arith
 pub runs_free : {X : Type 0} {a b : State} {reads : Reads X} (r : Result X Halt) → IsSound a → IsSound b → b.frame ≡ a.frame
     → b.taken ≡ a.taken → reads.answer ≡ r → b ≡ state_after a reads.marks → is_faulted r ≡ false → IfErr r (EndedBy b)
     → Runs a b r reads
-runs_free r sound sound_after same none is passed no_fault ended = grind (arith)
+runs_free r sound sound_after same none is passed no_fault ended = grind arith

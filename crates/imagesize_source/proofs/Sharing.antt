@@ -8,8 +8,8 @@ use Rattle.imagesize_source.specs.declared.span.Span.{Span}
 use Rattle.imagesize_source.specs.declared.text.Text.{Text}
 use Rattle.imagesize_source.specs.Chain.{Said, Decided, Next, Chain, Along, next_record, verdict, chain_from, Advances}
 use Rattle.imagesize_source.specs.Input.{part, span_at, span_of}
-use Rattle.imagesize_source.specs.Layout.{Layout, done, refuse, field, reading, begin_record, layout_reads}
-use Rattle.imagesize_source.specs.Reading.{Reads, Reading, AllOf, PartOf, TextOf, after_records, and_then, uncounted, go_on, put_behind, bytes_at, number_at, number_read, text_part, read_of}
+use Rattle.imagesize_source.specs.Layout.{Layout, field, reading, begin_record, layout_reads}
+use Rattle.imagesize_source.specs.Reading.{Reads, Reading, after_records, and_then, uncounted, go_on, put_behind, bytes_at, number_at, number_read, text_part, read_of}
 use Rattle.imagesize_source.specs.Sharing.{Shares}
 use Rattle.imagesize_source.proofs.Agreement.{covered-left, covered-right, covered-one}
 use Rattle.imagesize_source.proofs.ChainLaws.{chain_induction}
@@ -68,9 +68,7 @@ shared_text d e t offset k a = grind (arith, front_length, part_length, front_sa
 
 shared_reading : (d e : List ℕ) (r : Reading) (offset : ℕ) → Shares d e (read_of e r offset).marks
     → read_of d r offset ≡ read_of e r offset
-shared_reading d e (AllOf k) offset a = rw (shared_span d e offset k a, shared_bytes d e offset k a) refl
-shared_reading d e (PartOf k) offset a = rw (shared_span d e offset k a, shared_part d e offset k a) refl
-shared_reading d e (TextOf t k) offset a = grind (arith, shared_text)
+shared_reading d e r offset a = grind (arith, shared_span, shared_bytes, shared_part, shared_text)
 
 shared_number : (d e : List ℕ) (order : Endian) (offset k : ℕ) → Shares d e (span_of e offset k)
     → number_read d order offset k ≡ number_read e order offset k
@@ -90,15 +88,12 @@ shared_then {d} {e} {X} p q f g a here rest = by_answer p.answer refl a where
 -- An input that shares the marks of a layout has the same answer and the same marks.
 pub shared : {X : Type 0} (d e : List ℕ) (t : Layout X) → Shares d e (layout_reads e t).marks
     → layout_reads d t ≡ layout_reads e t
-shared d e (done x) a = refl
-shared d e (refuse x) a = refl
 shared d e (field order offset k f) a =
-    shared_then (number_read e order offset k) (number_read d order offset k) (λ v. layout_reads e (f v))
-    (λ v. layout_reads d (f v)) a (shared_number d e order offset k) (λ v is. shared d e (f v))
+    shared_then _ _ _ _ a (shared_number d e order offset k) (λ v is. shared d e (f v))
 shared d e (reading r offset f) a =
-    shared_then (read_of e r offset) (read_of d r offset) (λ bs. layout_reads e (f bs)) (λ bs. layout_reads d (f bs)) a
-    (shared_reading d e r offset) (λ bs is. shared d e (f bs))
+    shared_then _ _ _ _ a (shared_reading d e r offset) (λ bs is. shared d e (f bs))
 shared d e (begin_record t) a = ap (after_records 1) (shared d e t a)
+shared d e _ a = refl
 
 -- and so it is of a chain from some records on
 module _ {C X : Type 0} (c : Chain C X) (d e : List ℕ) (adv_d : Advances c d) (adv : Advances c e) where

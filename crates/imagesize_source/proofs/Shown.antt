@@ -75,7 +75,7 @@ shown_text held offset n t bytes buffer told shown there fits copied ended whole
 pub shown_again : (told budget front : ℕ) (held : Held) (taken place : ℕ) (a : State)
     → (shown_state told budget front held taken place).frame ≡ (shown_by a).frame
     → shown_state told budget front held taken place ≡ shown_by (rejoined a taken place)
-shown_again told budget front held taken place a same = grind (arith)
+shown_again told budget front held taken place a same = grind arith
 
 -- two sources that count are changed alike by reads
 same_after : (a h : State) (marks : List Span) → a.frame.counts ≡ true → h.frame.counts ≡ true → a.recorded ≡ None

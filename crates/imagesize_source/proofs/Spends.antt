@@ -49,27 +49,20 @@ Onto to q (begin_record t) = Onto to q t
 -- a reading leaves the bytes behind those that it leads over
 reading_spends : (d : List ℕ) (r : Reading) (offset : ℕ) (bs : List ℕ) → (read_of d r offset).answer ≡ Ok bs
     → total (read_of d r offset).marks + (length d - (offset + passed r bs)) ≤ length d - offset
-reading_spends d (AllOf k) offset bs is = omega (arith, total_there d offset k)
-reading_spends d (PartOf k) offset bs is = omega (arith, total_there d offset k)
-reading_spends d (TextOf t k) offset bs is = omega (arith, ap length (part_is is), total-span_at, text_length d t offset k, part_length)
+reading_spends d r offset bs is = grind (arith, total_there, part_is, total-span_at, text_length, part_length)
 
 -- and has no more of them than there are
 reading_left : (d : List ℕ) (r : Reading) (offset : ℕ) → total (read_of d r offset).marks ≤ length d - offset
-reading_left d (AllOf k) offset = omega (arith, total_there d offset k)
-reading_left d (PartOf k) offset = omega (arith, total_there d offset k)
-reading_left d (TextOf t k) offset = grind (arith, total_there, part_is, total-span_at, text_length, part_length)
+reading_left d r offset = grind (arith, total_there, part_is, total-span_at, text_length, part_length)
 
 onward_spends : {X Y : Type 0} (n q : ℕ) (to : Y → Option ℕ) (spans : List Span) (r : Result X Halt) (f : X → Reads Y)
     (next : X → ℕ) → total spans ≤ n - q → ((x : X) → r ≡ Ok x → total spans + (n - next x) ≤ n - q)
     → ((x : X) → r ≡ Ok x → Spends n (next x) to (f x)) → Spends n q to (go_on spans r f)
-onward_spends n q to spans (Ok x) f next few here rest = grind (arith, total-append)
-onward_spends n q to spans (Err e) f next few here rest = omega arith
+onward_spends n q to spans r f next few here rest = grind (arith, total-append)
 
 -- a layout that goes forward spends the bytes of the input
 pub spends : {X : Type 0} (d : List ℕ) (to : X → Option ℕ) (q : ℕ) (t : Layout X) → Onto to q t
     → Spends (length d) q to (layout_reads d t)
-spends d to q (done x) h = grind arith
-spends d to q (refuse e) h = omega arith
 spends d to q (field order offset k f) h =
     onward_spends (length d) q to (span_of d offset k) _ _ (λ _. offset + k)
     (omega (arith, h.0, total_there d offset k)) (λ v _. omega (arith, h.0, total_there d offset k))
@@ -79,6 +72,7 @@ spends d to q (reading r offset f) h =
     (omega (arith, h.0, reading_left d r offset)) (λ bs is. omega (arith, h.0, reading_spends d r offset bs is))
     (λ bs _. spends d to (offset + passed r bs) (f bs) (h.1 bs))
 spends d to q (begin_record t) h = spends d to q t h
+spends d to q _ h = grind arith
 
 -- readings, and others that go on from the offset where they lead
 pub spends_then : {X Y : Type 0} (n q : ℕ) (next : X → ℕ) (to : Y → Option ℕ) (r : Reads X) (f : X → Reads Y)
@@ -93,9 +87,7 @@ said_to to (Next v offset) = Some offset
 
 verdict_left : {C X : Type 0} (n : ℕ) (to : X → Option ℕ) (said : Result (Said C X) Halt) (r : Result X Halt)
     → verdict said ≡ Some r → left n to r ≡ left n (said_to to) said
-verdict_left n to (Ok (Decided x)) r is = let same : r ≡ Ok x = cc in ap (left n to) same
-verdict_left n to (Ok (Next v offset)) r is = absurd cc
-verdict_left n to (Err e) r is = let same : r ≡ Err e = cc in ap (left n to) same
+verdict_left n to said r is = grind arith
 
 -- a chain of records that each go forward spends the bytes from its first offset on
 pub chain_onto : {C X : Type 0} (c : Chain C X) (d : List ℕ) (to : X → Option ℕ) → Advances c d

@@ -122,4 +122,4 @@ module _ {C X : Type 0} (c : Chain C X) (adv : (d : List ℕ) → Advances c d)
 -- what is known of the records before, otherwise said
 pub strides_knows : {C X : Type 0} (c : Chain C X) (P Q : List C → Type 0) {a b : State} {t : Along C} {offset : ℕ}
     → ((held : List C) → P held → Q held) → Strides c P a b t offset → Strides c Q a b t offset
-strides_knows c P Q knows w = grind (arith)
+strides_knows c P Q knows w = grind arith

@@ -47,20 +47,14 @@ Laws first keeps texts (Texts reads) = TextsLaws first keeps texts reads
 -- an input that agrees on the marks has the same answer and the same marks
 pub local_way : {X : Type 0} (first : ℕ) (keeps texts : Bool) (way : Way X) → Laws first keeps texts way
     → IsLocal texts (by_way way)
-local_way first keeps texts (Fixed most layout) laws = grind (arith, local_layout, without_texts)
-local_way first keeps texts (Recorded outside each stated reads) laws = laws.local
-local_way first keeps texts (Texts reads) laws = laws.local
+local_way first keeps texts way laws = grind (arith, local_layout, without_texts)
 
 -- with its type, an answer is read from at most these bytes
 pub cost_way : {X : Type 0} (first : ℕ) (keeps texts : Bool) (way : Way X) → Laws first keeps texts way → (d : List ℕ)
     → first + total (by_way way d).marks ≤ most_by way d
-cost_way first keeps texts (Fixed most layout) laws d = grind (arith, at_most)
-cost_way first keeps texts (Recorded outside each stated reads) laws d = omega (arith, laws.cost d, laws.within d)
-cost_way first keeps texts (Texts reads) laws d = laws.within d
+cost_way first keeps texts way laws d = grind (arith, at_most)
 
 -- an answer stays, whatever bytes follow
 pub lasts_way : {X : Type 0} (first : ℕ) (keeps texts : Bool) (way : Way X) → keeps ≡ true → Laws first keeps texts way
     → AnswersLast (by_way way)
-lasts_way first keeps texts (Fixed most layout) stays laws = λ d x v is. more_answer d x layout v laws.plain is
-lasts_way first keeps texts (Recorded outside each stated reads) stays laws = laws.lasts stays
-lasts_way first keeps texts (Texts reads) stays laws = laws.lasts stays
+lasts_way first keeps texts way stays laws = grind (arith, more_answer)

@@ -33,7 +33,7 @@ pub(super) fn is_dds(header: &[u8]) -> bool
 /// How the pixels are stored, from the four-character code and the fields that it refers to. `Unknown` if the input ends
 /// before them.
 #[inline(always)]
-#[tactic(auto, using(imagesize_source::proofs::Runs::steps, imagesize_source::proofs::Runs::missed_before), unfolding(crate::specs::Dds::dds_compression))]
+#[tactic(auto, using(crate::proofs::Dds::dds_steps), unfolding(crate::specs::Dds::dds_compression))]
 pub fn detect_compression<S: Source>(source: &mut S) -> Result<DdsCompression, Halt>
     ensures { Follows (S.state source.old) (S.state source.new) result dds_compression }
 {

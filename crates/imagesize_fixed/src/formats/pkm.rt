@@ -39,7 +39,7 @@ pub fn is_pkm(header: &[u8]) -> bool
 
 /// How the pixels are stored, from the data type. `Unknown` if the input ends before it.
 #[inline(always)]
-#[tactic(auto, using(imagesize_source::proofs::Runs::steps, imagesize_source::proofs::Numbers::big_2), unfolding(crate::specs::Pkm::pkm_compression))]
+#[tactic(auto, using(crate::proofs::Pkm::pkm_steps), unfolding(crate::specs::Pkm::pkm_compression))]
 pub fn detect_compression<S: Source>(source: &mut S) -> Result<PkmCompression, Halt>
     ensures { Follows (S.state source.old) (S.state source.new) result pkm_compression }
 {

@@ -32,7 +32,7 @@ fn is_version_3(header: &[u8]) -> bool
 
 /// How the pixels are stored, from the newer header. `Unknown` for the older header.
 #[inline(always)]
-#[tactic(auto, using(imagesize_source::proofs::Runs::steps, imagesize_source::proofs::Runs::missed_before), unfolding(crate::specs::Pvrtc::pvrtc_compression))]
+#[tactic(auto, using(crate::proofs::Pvrtc::pvrtc_steps), unfolding(crate::specs::Pvrtc::pvrtc_compression))]
 pub fn detect_compression<S: Source>(source: &mut S) -> Result<PvrtcCompression, Halt>
     ensures { Follows (S.state source.old) (S.state source.new) result pvrtc_compression }
 {

@@ -223,7 +223,8 @@ impl<'a> PartsSource<'a> {
     #[inline(always)]
     fn gather_among(&self, rest: &Rest<'a>, offset: u64, buffer: &mut [u8]) -> usize
         requires fits { length buffer.old ≤ self.now.told - offset }
-        requires later { LeavesOut self.now.told self.now.spans.now self.now.bytes.now rest.now.floor rest.now.spans.now rest.now.bytes.now }
+        requires later { LeavesOut self.now.told self.now.spans.now self.now.bytes.now
+            rest.now.floor rest.now.spans.now rest.now.bytes.now }
         requires floor { rest.now.floor ≤ offset }
         ensures within { result ≤ length buffer.old }
         ensures copied { take result buffer.new ≡ part (filled_input self.now.told self.now.spans.now self.now.bytes.now) offset result }
@@ -246,7 +247,8 @@ impl<'a> PartsSource<'a> {
     // The known bytes from an offset on, up to the end of the first part of `rest` that contains it.
     #[inline(always)]
     fn known_at(&self, rest: &Rest<'a>, offset: u64) -> &'a [u8]
-        requires later { LeavesOut self.now.told self.now.spans.now self.now.bytes.now rest.now.floor rest.now.spans.now rest.now.bytes.now }
+        requires later { LeavesOut self.now.told self.now.spans.now self.now.bytes.now
+            rest.now.floor rest.now.spans.now rest.now.bytes.now }
         requires floor { rest.now.floor ≤ offset }
         ensures known { (i : ℕ) → i < length result.now
             → byte_in_parts self.now.told self.now.spans.now self.now.bytes.now (offset + i) ≡ Some (slice_index result.now i) }

@@ -9,9 +9,9 @@ use Rattle.imagesize.proofs.calls.size_opened.Goals as goal
 
 pub returns-clause-answers : goal.returns-clause-answers
 returns-clause-answers g c =
-    λ telling opens. rw c.with_error-answer.ensures (read_answers (λ d offset. size_reads c.args.kind d) (bounded_size c.args.kind) telling _ _ _
-    c.args.opened _ _ _ c.new-source.ensures.state refl opens
-    c.size-found.ensures)
+    λ telling opens. rw c.with_error-answer.ensures
+    (read_answers (λ d offset. size_reads c.args.kind d) (bounded_size c.args.kind) telling _ _ _ c.args.opened _ _ _
+    c.new-source.ensures.state refl opens c.size-found.ensures)
 
 pub returns-clause-spent : goal.returns-clause-spent
 returns-clause-spent g c = grind (arith, budget_counted, kept_plain)
@@ -29,6 +29,7 @@ pub returns-clause-offset : goal.returns-clause-offset
 returns-clause-offset g c = λ telling opens.
     leaves_at telling _ _ _ _ _ c.args.opened
     c.size-found.new.source.ledger.progress c.size-found.new.source.ledger.window.items c.left-left.result _ _ _
-    (λ d offset. size_reads c.args.kind d) (bounded_size c.args.kind) (size_ends c.args.kind) c.new-source.ensures.state opens c.size-found.ensures
-    (search rules) refl refl (λ none. ap (λ r. g.R.Told.telling r) (c.settle.ensures.stays none)) c.settle.ensures.seeks
+    (λ d offset. size_reads c.args.kind d) (bounded_size c.args.kind) (size_ends c.args.kind)
+    c.new-source.ensures.state opens c.size-found.ensures (search rules) refl refl
+    (λ none. ap (λ r. g.R.Told.telling r) (c.settle.ensures.stays none)) c.settle.ensures.seeks
     c.left-left.ensures.position c.left-left.ensures.there

@@ -25,7 +25,8 @@ pub returns-clause-memory : goal.returns-clause-memory
 returns-clause-memory c = no_memory None _ _
 
 pub returns-clause-there : goal.returns-clause-there
-returns-clause-there c = omega (arith, c.position.ensures.within, ap (λ f. f.told) c.probe-kind.ensures.runs.frame, ap length c.new-source.ensures.bytes)
+returns-clause-there c =
+    omega (arith, c.position.ensures.within, ap (λ f. f.told) c.probe-kind.ensures.runs.frame, ap length c.new-source.ensures.bytes)
 
 pub returns-clause-offset : goal.returns-clause-offset
 returns-clause-offset c = λ telling mid opens memory.

@@ -27,4 +27,5 @@ pub returns-clause-few : goal.returns-clause-few
 returns-clause-few g c = grind (arith, spans_few, front_is)
 
 pub returns-clause-lasts : goal.returns-clause-lasts
-returns-clause-lasts g c = answer_lasts c.args.«data».now _ (c.with_error.ensures ∙ stated_same _ _ _ c.record-kind.ensures.goes ∙ ap stated c.record-kind.ensures.found)
+returns-clause-lasts g c = answer_lasts c.args.«data».now _
+    (c.with_error.ensures ∙ stated_same _ _ _ c.record-kind.ensures.goes ∙ ap stated c.record-kind.ensures.found)

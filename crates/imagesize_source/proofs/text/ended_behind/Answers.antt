@@ -18,7 +18,7 @@ found_behind : {t : Text} {xs ys : List ℕ} {ended : Bool} {n : ℕ} (r : Optio
       length : IfSome r (λ k. length xs + k ≡ length (text_front t (xs ++ ys)));
       «open» : r ≡ None → is_ended t (xs ++ ys) ≡ false;
     }
-found_behind r on few ended long still = grind (arith)
+found_behind r on few ended long still = grind arith
 
 pub returns-in-Line : goal.returns-in-Line
 returns-in-Line c =

@@ -63,13 +63,15 @@ returns-in-Err-2-clause-runs g c = λ first o t on.
 pub loop-answer-preserved-in-Some : goal.loop-answer-preserved-in-Some
 loop-answer-preserved-in-Some g c =
     let known = c.loop-answer.invariant in
-    let b : State = rejoined (g.S.Source.state c.args.source.now) (c.loop-answer.held.budget - c.loop-answer.held.left) c.loop-answer.held.position in
+    let before = c.loop-answer.held in
+    let b : State = rejoined (g.S.Source.state c.args.source.now) (before.budget - before.left) before.position in
     let after = c.read_record.new.source in
     let runs = rw (c.in-Ok-Other.field-0-is, known.same) at c.in-Ok-Other.ensures.runs in
     let knows = rw c.in-Ok-Other.field-0-is at c.in-Ok-Other.ensures.keeps in
     let near = rw c.in-Ok-Other.field-0-is at c.in-Ok-Other.ensures.nears in
     let run = runs known.some.0 known.some.1 in
-    let again = shown_again after.told after.budget (g.S.Claims.kept after.of.now) (g.S.Claims.claim after.of.now) (after.budget - after.left) after.position b
+    let again = shown_again after.told after.budget (g.S.Claims.kept after.of.now) (g.S.Claims.claim after.of.now)
+    (after.budget - after.left) after.position b
     (run.frame ∙ ap (λ s. s.frame) known.shown) in
     let next : (c.loop-answer.here + c.in-Ok-Other.length < 2 ^ 64) ×
     (c.in-Some.next ≡ c.loop-answer.here + c.in-Ok-Other.length) = rw c.in-Ok-Other.length-is at c.in-Some.ensures in

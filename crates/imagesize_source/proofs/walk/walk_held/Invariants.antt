@@ -16,8 +16,8 @@ invariant-loop-answer g l =
       shows : g.S.Source.shows l.fn.source;
       counts : a.frame.counts ≡ true;
       plain : a.recorded ≡ None;
-      shown : shown_state l.held.told l.held.budget (g.S.Claims.kept l.held.of.now) (g.S.Claims.claim l.held.of.now) (l.held.budget - l.held.left) l.held.position
-          ≡ shown_by b;
+      shown : shown_state l.held.told l.held.budget (g.S.Claims.kept l.held.of.now) (g.S.Claims.claim l.held.of.now)
+          (l.held.budget - l.held.left) l.held.position ≡ shown_by b;
       more : a.taken ≤ (l.held.budget - l.held.left);
       nearer : ahead_of b l.here ≤ ahead_of a l.fn.offset;
       strides : (first : ℕ) (o : State) (t : Along _)

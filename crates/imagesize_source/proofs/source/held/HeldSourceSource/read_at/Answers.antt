@@ -19,6 +19,7 @@ returns-clause-runs g c =
     rw (paid.told, paid.budget, paid.of, taken, counted.1, ← long)
     (shown_reads s.told s.budget kept claim (s.budget - s.left) s.position c.args.offset (length buffer)
     (take (length buffer) buffer) (part_read claim.input c.args.offset (length buffer))
-    (λ honest. let is = s.shown honest in (is.1, is.2)) s.within.0 (omega (arith, s.within.1, known.ahead)) (omega (arith, long, c.if-count-eq0.false))
+    (λ honest. let is = s.shown honest in (is.1, is.2)) s.within.0 (omega (arith, s.within.1, known.ahead))
+    (omega (arith, long, c.if-count-eq0.false))
     (shown_part claim c.args.offset bytes buffer s.told known.shown known.there (omega (arith, long, known.whole))
     (c.copy_from_slice.ensures.after ∙ ap (λ k. take k bytes) (sym long))))

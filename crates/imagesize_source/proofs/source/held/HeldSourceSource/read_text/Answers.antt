@@ -19,6 +19,7 @@ returns-clause-runs g c =
     rw (paid.told, paid.budget, paid.of, taken, counted.1)
     (shown_reads s.told s.budget kept claim (s.budget - s.left) s.position c.args.offset n
     (take n buffer) (text_read claim.input c.args.text c.args.offset (length buffer))
-    (λ honest. let is = s.shown honest in (is.1, is.2)) s.within.0 (omega (arith, s.within.1, known.ahead)) (omega (arith, c.if-count-eq0.false))
+    (λ honest. let is = s.shown honest in (is.1, is.2)) s.within.0 (omega (arith, s.within.1, known.ahead))
+    (omega (arith, c.if-count-eq0.false))
     (shown_text claim c.args.offset n c.args.text bytes buffer s.told known.shown text.there text.bound text.copied
     text.ended text.whole))
