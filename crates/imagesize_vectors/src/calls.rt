@@ -87,10 +87,6 @@ static READ_AS: [ReadAs; 8] = [
     },
 ];
 
-fn read_as() -> &'static [ReadAs] {
-    &READ_AS
-}
-
 // Whether a size is the expected one, or an error has the expected text.
 fn is_answer(
     alloc: Global,
@@ -157,15 +153,15 @@ fn check_parts_as(rt: &(impl Abort + AllocGlobal), row: &ReadAs) -> Result<(), F
 
 #[test]
 fn parts_are_read_as_another_type(rt: HostRuntime) -> Result<(), Fail> {
-    for row in read_as() {
-        check_parts_as(&rt, row)?;
+    for row in READ_AS {
+        check_parts_as(&rt, &row)?;
     }
     Ok(())
 }
 
 #[test]
 fn a_type_reads_its_size_wherever_the_reader_stands(rt: HostRuntime) -> Result<(), Fail> {
-    for row in read_as() {
+    for row in READ_AS {
         check_size_as(&rt, row.bytes, row.kind, row.answer)?;
     }
     Ok(())
@@ -180,15 +176,12 @@ fn a_type_takes_what_its_size_is_read_from(rt: HostRuntime) -> Result<(), Fail> 
         kind,
         answer,
         taken,
-    } in read_as() {
+    } in READ_AS {
         let mut count = 0;
-        let mut reader = Counting {
-            reader: Cursor::new(*bytes),
-            count: &mut count,
-        };
+        let mut reader = Counting::new(Cursor::new(bytes), &mut count);
         let found = kind.reader_size(&mut reader);
-        assert!(rt; is_answer(alloc, *answer, &found)?, "{shows}");
-        assert_eq!(rt; count, *taken, "{shows}");
+        assert!(rt; is_answer(alloc, answer, &found)?, "{shows}");
+        assert_eq!(rt; count, taken, "{shows}");
     }
     Ok(())
 }

@@ -19,13 +19,18 @@ fn is_end<T>(answer: &ImageResult<T>) -> bool {
     matches!(answer, Err(ImageError::IoError(Reason::EndOfInput)))
 }
 
+// A reader of these bytes that reports a length, and whether a seek to the end goes there.
+fn claiming(bytes: &[u8], told: u64, goes_there: bool) -> Claiming<Cursor<&[u8]>> {
+    Claiming {
+        reader: Cursor::new(bytes),
+        told,
+        goes_there,
+    }
+}
+
 #[test]
 fn bytes_behind_the_told_length_are_the_end(rt: HostRuntime) -> Result<(), Fail> {
-    let claiming = || Claiming {
-        reader: Cursor::new(GIF),
-        told: 0,
-        goes_there: true,
-    };
+    let claiming = || claiming(GIF, 0, true);
     let probed = reader_probe(&mut claiming());
     assert!(rt; is_end(&probed.answer));
     assert_eq!(rt; probed.taken, 12);
@@ -38,11 +43,7 @@ fn bytes_behind_the_told_length_are_the_end(rt: HostRuntime) -> Result<(), Fail>
 
 #[test]
 fn a_call_goes_back_to_a_offset_that_is_the_told_length(rt: HostRuntime) -> Result<(), Fail> {
-    let elsewhere = || Claiming {
-        reader: Cursor::new(GIF),
-        told: 0,
-        goes_there: false,
-    };
+    let elsewhere = || claiming(GIF, 0, false);
     let probed = reader_probe(&mut elsewhere());
     assert!(rt; is_end(&probed.answer));
     assert_eq!(rt; probed.taken, 12);
@@ -55,11 +56,7 @@ fn a_call_goes_back_to_a_offset_that_is_the_told_length(rt: HostRuntime) -> Resu
 #[test]
 fn the_greatest_told_lengths_change_no_answer(rt: HostRuntime) -> Result<(), Fail> {
     for told in [1 << 63, u64::MAX] {
-        let claiming = || Claiming {
-            reader: Cursor::new(GIF),
-            told,
-            goes_there: true,
-        };
+        let claiming = || claiming(GIF, told, true);
         assert_eq!(rt; reader_type(claiming())?, ImageType::Gif);
         assert_eq!(rt; reader_size(claiming())?, GIF_SIZE);
         assert_eq!(rt; reader_probe(&mut claiming()).answer?, GIF_SIZE);
@@ -72,23 +69,12 @@ fn the_greatest_told_lengths_change_no_answer(rt: HostRuntime) -> Result<(), Fai
 fn a_read_that_gives_nothing_is_the_last(rt: HostRuntime) {
     // How many reads the type and the size make: those that give bytes, and the one that gives none.
     for (bytes, of_type, of_size) in [(b"".as_slice(), 1, 1), (b"GIF89ad\0d", 2, 3)] {
-        let claiming = || Claiming {
-            reader: Cursor::new(bytes),
-            told: 100,
-            goes_there: true,
-        };
         let mut made = (0, 0);
-        let reader = Calls {
-            reader: claiming(),
-            made: &mut made,
-        };
+        let reader = Calls::new(claiming(bytes, 100, true), &mut made);
         assert!(rt; is_end(&reader_type(reader)));
         assert_eq!(rt; made.0, of_type, "{bytes:?}");
         let mut made = (0, 0);
-        let mut reader = Calls {
-            reader: claiming(),
-            made: &mut made,
-        };
+        let mut reader = Calls::new(claiming(bytes, 100, true), &mut made);
         assert!(rt; is_end(&ImageType::Gif.reader_size(&mut reader)));
         assert_eq!(rt; made.0, of_size, "{bytes:?}");
     }
@@ -104,70 +90,38 @@ fn a_reader_behind_its_end_is_at_the_end(rt: HostRuntime) {
     assert!(rt; is_end(&reader_type(behind())));
     assert!(rt; is_end(&reader_size(behind())));
     let mut count = 0;
-    let mut reader = Counting {
-        reader: behind(),
-        count: &mut count,
-    };
+    let mut reader = Counting::new(behind(), &mut count);
     let probed = reader_probe(&mut reader);
     assert!(rt; is_end(&probed.answer));
     assert_eq!(rt; probed.taken, 0);
     assert_eq!(rt; probed.kind, None);
     assert_eq!(rt; count, 0);
     let mut made = (0, 0);
-    let reader = Calls {
-        reader: behind(),
-        made: &mut made,
-    };
+    let reader = Calls::new(behind(), &mut made);
     assert!(rt; is_end(&reader_type(reader)));
     assert_eq!(rt; made, (0, 2));
 }
 
-// An input without end, and its type.
-struct Stream {
-    head: &'static [u8],
-    part: &'static [u8],
-    kind: ImageType,
-}
-
-static STREAMS: [Stream; 5] = [
-    Stream {
-        head: b"\xFF\xD8",
-        part: b"\xFF\xE0\0\x02",
-        kind: ImageType::Jpeg,
-    },
-    Stream {
-        head: b"FORM\0\0\0\0ILBM",
-        part: b"ANNO\0\0\0\0",
-        kind: ImageType::Ilbm,
-    },
-    Stream {
-        head: b"P1",
-        part: b" ",
-        kind: ImageType::Pnm,
-    },
-    Stream {
-        head: b"#?RGBE\n",
-        part: b"\n",
-        kind: ImageType::Hdr,
-    },
+// The head of an input without end, the part that follows over and over, and the type.
+static STREAMS: [(&[u8], &[u8], ImageType); 5] = [
+    (b"\xFF\xD8", b"\xFF\xE0\0\x02", ImageType::Jpeg),
+    (b"FORM\0\0\0\0ILBM", b"ANNO\0\0\0\0", ImageType::Ilbm),
+    (b"P1", b" ", ImageType::Pnm),
+    (b"#?RGBE\n", b"\n", ImageType::Hdr),
     // A BigTIFF that claims the greatest number of entries, and whose entries have tag 0 and field type 1.
-    Stream {
-        head: b"II+\0\x08\0\0\0\x10\0\0\0\0\0\0\0\xFF\xFF\xFF\xFF\xFF\xFF\xFF\xFF",
-        part: b"\0\0\x01\0\0\0\0\0\0\0\0\0\0\0\0\0\0\0\0\0",
-        kind: ImageType::Tiff,
-    },
+    (
+        b"II+\0\x08\0\0\0\x10\0\0\0\0\0\0\0\xFF\xFF\xFF\xFF\xFF\xFF\xFF\xFF",
+        b"\0\0\x01\0\0\0\0\0\0\0\0\0\0\0\0\0\0\0\0\0",
+        ImageType::Tiff,
+    ),
 ];
 
-fn streams() -> &'static [Stream] {
-    &STREAMS
-}
-
 // The reader of an input without end, which reports a length of 100.
-fn endless(stream: &Stream) -> Claiming<Endless<'static>> {
+fn endless<'a>(head: &'a [u8], part: &'a [u8]) -> Claiming<Endless<'a>> {
     Claiming {
         reader: Endless {
-            head: stream.head,
-            part: stream.part,
+            head,
+            part,
             offset: 0,
         },
         told: 100,
@@ -185,18 +139,15 @@ fn is_spent(answer: &ImageResult<ImageSize>) -> bool {
 
 #[test]
 fn an_endless_reader_is_read_until_the_budget_is_spent(rt: HostRuntime) -> Result<(), Fail> {
-    for stream in streams() {
-        let kind = stream.kind;
-        assert_eq!(rt; reader_type(endless(stream))?, kind);
-        assert!(rt; is_spent(&reader_size(endless(stream))), "{kind:?}");
-        let probed = reader_probe(&mut endless(stream));
+    for (head, part, kind) in STREAMS {
+        let endless = || endless(head, part);
+        assert_eq!(rt; reader_type(endless())?, kind);
+        assert!(rt; is_spent(&reader_size(endless())), "{kind:?}");
+        let probed = reader_probe(&mut endless());
         assert!(rt; is_spent(&probed.answer), "{kind:?}");
         assert_eq!(rt; probed.kind, Some(kind));
         assert_eq!(rt; probed.taken, 164);
-        assert!(rt;
-            is_spent(&kind.reader_size(&mut endless(stream))),
-            "{kind:?}"
-        );
+        assert!(rt; is_spent(&kind.reader_size(&mut endless())), "{kind:?}");
     }
     Ok(())
 }
@@ -226,10 +177,9 @@ impl Seek for Grown<'_> {
 fn a_buffered_reader_that_has_grown_is_read_until_the_budget_is_spent(
     rt: HostRuntime,
 ) -> Result<(), Fail> {
-    for stream in streams() {
-        let kind = stream.kind;
+    for (head, part, kind) in STREAMS {
         let mut bytes = Vec::from_elem(rt.alloc(), 0u8, 4096)?;
-        let mut endless = endless(stream).reader;
+        let mut endless = endless(head, part).reader;
         assert!(rt; matches!(endless.read_told(bytes.as_mut_slice()), Ok(4096)));
         let inner = Grown {
             inner: Cursor::new(bytes.as_slice()),
@@ -248,20 +198,14 @@ fn a_buffered_reader_that_has_grown_is_read_until_the_budget_is_spent(
 
 #[test]
 fn an_endless_reader_gives_as_much_as_its_budget(rt: HostRuntime) {
-    for stream in streams() {
+    for (head, part, kind) in STREAMS {
         let mut count = 0;
-        let reader = Counting {
-            reader: endless(stream),
-            count: &mut count,
-        };
+        let reader = Counting::new(endless(head, part), &mut count);
         assert!(rt; is_spent(&reader_size(reader)));
-        assert_eq!(rt; count, 164, "{:?}", stream.kind);
+        assert_eq!(rt; count, 164, "{kind:?}");
         let mut count = 0;
-        let reader = Counting {
-            reader: endless(stream),
-            count: &mut count,
-        };
-        assert!(rt; matches!(reader_type(reader), Ok(kind) if kind == stream.kind));
-        assert_eq!(rt; count, 12, "{:?}", stream.kind);
+        let reader = Counting::new(endless(head, part), &mut count);
+        assert!(rt; matches!(reader_type(reader), Ok(found) if found == kind));
+        assert_eq!(rt; count, 12, "{kind:?}");
     }
 }

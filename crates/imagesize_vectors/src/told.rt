@@ -140,16 +140,10 @@ fn promises_over_telling_readers_are_met(rt: HostRuntime) -> Result<(), Fail> {
     assert!(rt; lent_size(&mut reader).is_err());
     assert!(rt; lent_size(&mut reader).is_ok());
     let mut count = 0;
-    let mut reader = Counting {
-        reader: Cursor::new(NESTED_JPEG),
-        count: &mut count,
-    };
+    let mut reader = Counting::new(Cursor::new(NESTED_JPEG), &mut count);
     assert!(rt; counted_size(ImageType::Jpeg, &mut reader).is_ok());
     assert_eq!(rt; count, 18);
-    let mut reader = Counting {
-        reader: Cursor::new(NESTED_JPEG),
-        count: &mut count,
-    };
+    let mut reader = Counting::new(Cursor::new(NESTED_JPEG), &mut count);
     assert_eq!(rt; counted_probe(&mut reader).taken, 20);
     assert_eq!(rt; count, 38);
     Ok(())

@@ -1,49 +1,24 @@
 //! Order, copies and hashes of the types, of their compressions and of sizes.
 
-use imagesize::{
-    AtcCompression, Compression, CompressionFamily, DdsCompression, ImageSize, ImageType,
-    PkmCompression, PvrtcCompression, Span,
-};
-use std::alloc::{AllocError, Global};
+use imagesize::{CompressionFamily, ImageSize, ImageType, Span};
+use std::alloc::AllocError;
 use std::cmp::Ordering;
 use std::fmt::Debug;
 use std::hash::{DefaultHasher, Hash, Hasher};
 use std::process::Abort;
 use std::test::Fail;
 
-fn atc(image: &ImageType) -> Option<AtcCompression> {
-    match image {
-        ImageType::Atc(compression) => Some(*compression),
-        _ => None,
-    }
-}
-
-fn dds(image: &ImageType) -> Option<DdsCompression> {
-    match image {
-        ImageType::Dds(compression) => Some(*compression),
-        _ => None,
-    }
-}
-
-fn heif(image: &ImageType) -> Option<Compression> {
-    match image {
-        ImageType::Heif(compression) => Some(*compression),
-        _ => None,
-    }
-}
-
-fn pkm(image: &ImageType) -> Option<PkmCompression> {
-    match image {
-        ImageType::Etc2(compression) => Some(*compression),
-        _ => None,
-    }
-}
-
-fn pvrtc(image: &ImageType) -> Option<PvrtcCompression> {
-    match image {
-        ImageType::Pvrtc(compression) => Some(*compression),
-        _ => None,
-    }
+// The compressions of all types of this variant, in their order.
+macro_rules! compressions {
+    ($alloc:expr, $variant:ident) => {
+        ImageType::all()
+            .iter()
+            .filter_map(|image| match image {
+                ImageType::$variant(compression) => Some(*compression),
+                _ => None,
+            })
+            .collect($alloc)
+    };
 }
 
 fn hash_of<T: Hash>(value: &T) -> u64 {
@@ -116,12 +91,11 @@ fn check_collected<T: Ord + Hash + Debug + Clone + Drop>(
 
 #[test]
 fn kinds_are_ordered_as_they_are_listed(rt: HostRuntime) -> Result<(), Fail> {
-    let types = ImageType::all();
-    check_collected(&rt, types.iter().filter_map(atc).collect(rt.alloc()), 4)?;
-    check_collected(&rt, types.iter().filter_map(dds).collect(rt.alloc()), 10)?;
-    check_collected(&rt, types.iter().filter_map(heif).collect(rt.alloc()), 4)?;
-    check_collected(&rt, types.iter().filter_map(pkm).collect(rt.alloc()), 9)?;
-    check_collected(&rt, types.iter().filter_map(pvrtc).collect(rt.alloc()), 10)
+    check_collected(&rt, compressions!(rt.alloc(), Atc), 4)?;
+    check_collected(&rt, compressions!(rt.alloc(), Dds), 10)?;
+    check_collected(&rt, compressions!(rt.alloc(), Heif), 4)?;
+    check_collected(&rt, compressions!(rt.alloc(), Etc2), 9)?;
+    check_collected(&rt, compressions!(rt.alloc(), Pvrtc), 10)
 }
 
 // The families of all types, each once.
@@ -151,17 +125,12 @@ static SIZES: [(usize, usize); 9] = [
     (4294967296, 4294967296),
 ];
 
-fn sizes(alloc: Global) -> Result<Vec<ImageSize>, AllocError> {
-    let mut all = Vec::new(alloc);
+#[test]
+fn sizes_are_ordered_by_their_exact_area(rt: HostRuntime) -> Result<(), Fail> {
+    let mut all = Vec::new(rt.alloc());
     for (width, height) in SIZES {
         all.push(ImageSize { width, height })?;
     }
-    Ok(all)
-}
-
-#[test]
-fn sizes_are_ordered_by_their_exact_area(rt: HostRuntime) -> Result<(), Fail> {
-    let all = sizes(rt.alloc())?;
     check_list(&rt, all.as_slice())
 }
 

@@ -41,51 +41,38 @@ pub fn check_whole(alloc: Global, row: &Row<'_>) -> Result<(), Wrong> {
     holds(is_answer(alloc, row, &buffered)?, "a buffered reader")
 }
 
-// Whether reads that give pieces of these lengths have the expected result.
-fn are_answered_by(alloc: Global, row: &Row<'_>, lengths: &[usize]) -> Result<bool, AllocError> {
-    let bytes = row.bytes.as_slice();
-    let reader = || Cutting {
-        reader: Cursor::new(bytes),
-        lengths,
-        next: 0,
-    };
-    are_answered(alloc, row, reader(), reader(), reader())
-}
-
 /// Pieces of any lengths have the expected result.
 pub fn check_pieces(alloc: Global, row: &Row<'_>) -> Result<(), Wrong> {
-    holds(are_answered_by(alloc, row, &[2])?, "pieces of 2 bytes")?;
-    holds(are_answered_by(alloc, row, &[3])?, "pieces of 3 bytes")?;
-    holds(are_answered_by(alloc, row, &[7])?, "pieces of 7 bytes")?;
-    holds(
-        are_answered_by(alloc, row, &[11, 7, 1])?,
-        "pieces of 11, 7 and 1 bytes",
-    )?;
-    holds(
-        are_answered_by(alloc, row, &[13, 2])?,
-        "pieces of 13 and 2 bytes",
-    )?;
-    let many = are_answered_by(alloc, row, &[3, 1, 4, 1, 5, 9, 2, 6])?;
-    holds(many, "pieces of many lengths")
+    for (lengths, what) in [
+        ([2].as_slice(), "pieces of 2 bytes"),
+        (&[3], "pieces of 3 bytes"),
+        (&[7], "pieces of 7 bytes"),
+        (&[11, 7, 1], "pieces of 11, 7 and 1 bytes"),
+        (&[13, 2], "pieces of 13 and 2 bytes"),
+        (&[3, 1, 4, 1, 5, 9, 2, 6], "pieces of many lengths"),
+    ] {
+        let reader = || Cutting {
+            reader: Cursor::new(row.bytes.as_slice()),
+            lengths,
+            next: 0,
+        };
+        let answered = are_answered(alloc, row, reader(), reader(), reader())?;
+        holds(answered, what)?;
+    }
+    Ok(())
 }
 
 /// A counting reader counts the bytes read, and no more of them for the type.
 pub fn check_counts(alloc: Global, row: &Row<'_>) -> Result<(), Wrong> {
     let mut whole = 0;
-    let answer = reader_size(Counting {
-        reader: Cursor::new(row.bytes.as_slice()),
-        count: &mut whole,
-    });
+    let answer = reader_size(Counting::new(Cursor::new(row.bytes.as_slice()), &mut whole));
     holds(is_answer(alloc, row, &answer)?, "a counting reader")?;
     holds(
         row.taken.is_none_or(|taken| taken == whole),
         "the count of a reader",
     )?;
     let mut of_type = 0;
-    let found = reader_type(Counting {
-        reader: Cursor::new(row.bytes.as_slice()),
-        count: &mut of_type,
-    });
+    let found = reader_type(Counting::new(Cursor::new(row.bytes.as_slice()), &mut of_type));
     holds(is_type(alloc, row, &found)?, "a counting reader's type")?;
     holds(of_type <= whole, "the count of a reader for its type")
 }

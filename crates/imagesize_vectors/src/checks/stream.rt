@@ -1,9 +1,10 @@
 //! Types and sizes of inputs whose bytes come in pieces.
 ghost use Rattle.std.specs.Prelude.{◌<◌};
 
+use super::parts::Both;
 use super::{is_answer, is_kind};
 use crate::table::{Row, Wrong, holds};
-use imagesize::{ImageResult, ImageSize, ImageType, blob_size, image_type};
+use imagesize::{ImageResult, ImageSize, blob_size, image_type};
 use imagesize_stream::StreamProbe;
 use std::alloc::{AllocError, Global};
 
@@ -11,11 +12,7 @@ use std::alloc::{AllocError, Global};
 const SMALL: usize = 200;
 
 // What a stream gives for an input in pieces of this many bytes.
-fn probe(
-    input: &[u8],
-    piece: usize,
-    total: Option<u64>,
-) -> (Option<ImageType>, ImageResult<ImageSize>)
+fn probe(input: &[u8], piece: usize, total: Option<u64>) -> Both
     requires { 0 < piece }
 {
     let mut probe = StreamProbe::new(total);
