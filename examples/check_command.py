@@ -408,7 +408,7 @@ def check_traps(program):
     """A library each of whose calls is trapped, as none should be: a line says so of each file."""
     command = pathlib.Path(program).with_name("imagesize_trapped").name
     header = (HERE.parent / "include" / "imagesize.h").read_text()
-    calls = {"imagesize_probe_parts", *re.findall(r"^(?:uint32_t|void) (imagesize_\w+)\(", header, re.M)} - {"imagesize_parts_probe"}
+    calls = set(re.findall(r"^(?:uint32_t|void) (imagesize_\w+)\(", header, re.M))
     pathlib.Path("trapped.c").write_text("".join(f"unsigned {call}(void) {{ return 255; }}\n" for call in sorted(calls)))
     compiler = shlex.split(os.environ.get("CC", "cc"))
     subprocess.run([*compiler, "-shared", "-fPIC", "-o", "trapped.so", "trapped.c"], check=True)

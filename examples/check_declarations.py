@@ -25,8 +25,8 @@ PASSED = {
     "&mut usize": ("size_t *",),
     "&mut Span": ("imagesize_span *",),
     "*mut StreamProbe": ("imagesize_stream *",),
-    "*mut PartsProbe": ("imagesize_parts *",),
-    "*const PartsProbe": ("const imagesize_parts *",),
+    "*mut PartsProbe": ("imagesize_rounds *",),
+    "*const PartsProbe": ("const imagesize_rounds *",),
 }
 # The types of a Rust binding.
 BOUND = {
@@ -41,8 +41,8 @@ BOUND = {
     "*mut usize": "size_t *",
     "*mut Span": "imagesize_span *",
     "*mut Stream": "imagesize_stream *",
-    "*mut Rounds": "imagesize_parts *",
-    "*const Rounds": "const imagesize_parts *",
+    "*mut Rounds": "imagesize_rounds *",
+    "*const Rounds": "const imagesize_rounds *",
 }
 # The C type of a result.
 RESULTS = {"": "void", " -> u32": "uint32_t"}
@@ -138,7 +138,7 @@ def main(header, sources, *bindings):
     compare("the library", exports, calls)
     check_spans(header, sources)
     check_memory(header, sources, "stream", "streams.rt", "StreamProbe")
-    check_memory(header, sources, "parts", "rounds.rt", "PartsProbe")
+    check_memory(header, sources, "rounds", "rounds.rt", "PartsProbe")
     counts = [len(calls)]
     for path in bindings:
         found = bound(path)

@@ -4,7 +4,7 @@
  *     repeat CALL TIMES FILE
  *
  *     size, probe, spans    the call of that name
- *     parts                 imagesize_probe_parts with one part, which has all bytes
+ *     parts                 imagesize_parts_probe with one part, which has all bytes
  *     many                  the same with 63 parts more, which lie past the end and have no bytes
  *     stream                a push parser that gets all bytes at once
  *     chunks, bytes         one that gets chunks of 4,096 bytes, or the first 4,096 bytes one by one
@@ -57,7 +57,7 @@ static uint32_t many(const uint8_t *bytes, size_t length, struct told *told)
     for (size_t i = 1; i < 64; i++) {
         all[i] = (imagesize_span){length, 1};
     }
-    return imagesize_probe_parts(bytes, length, all, 64, length, &told->type, &told->compression, &told->width, &told->height,
+    return imagesize_parts_probe(bytes, length, all, 64, length, &told->type, &told->compression, &told->width, &told->height,
                                  &wanted);
 }
 
@@ -101,24 +101,24 @@ static uint32_t by_bytes(const uint8_t *bytes, size_t length, struct told *told)
 }
 
 /* Passes all bytes to a push parser and to a probe over spans that have their result. count.py counts only this function. */
-__attribute__((noinline)) static uint32_t passed_again(imagesize_stream *stream, imagesize_parts *parts, const uint8_t *bytes,
+__attribute__((noinline)) static uint32_t passed_again(imagesize_stream *stream, imagesize_rounds *parts, const uint8_t *bytes,
                                                        size_t length, struct told *told)
 {
-    imagesize_parts_supply(parts, 0, bytes, length);
+    imagesize_rounds_supply(parts, 0, bytes, length);
     return imagesize_stream_push(stream, bytes, length, &told->type, &told->compression, &told->width, &told->height);
 }
 
 static uint32_t again(const uint8_t *bytes, size_t length, struct told *told)
 {
     imagesize_stream stream;
-    imagesize_parts state;
+    imagesize_rounds state;
     imagesize_span wanted;
     imagesize_stream_new(&stream, length);
     imagesize_stream_push(&stream, bytes, length, &told->type, &told->compression, &told->width, &told->height);
-    imagesize_parts_new(&state, length);
-    while (imagesize_parts_answer(&state, &told->type, &told->compression, &told->width, &told->height, &wanted) ==
+    imagesize_rounds_new(&state, length);
+    while (imagesize_rounds_answer(&state, &told->type, &told->compression, &told->width, &told->height, &wanted) ==
            IMAGESIZE_BYTES_WANTED) {
-        imagesize_parts_supply(&state, wanted.start, bytes + wanted.start, length - wanted.start);
+        imagesize_rounds_supply(&state, wanted.start, bytes + wanted.start, length - wanted.start);
     }
     return passed_again(&stream, &state, bytes, length, told);
 }

@@ -224,7 +224,7 @@ static void parts_of_any_kind(struct worker *worker, enum asked asked, size_t le
 /* A probe over spans, with numbers beside it that no call may change. */
 struct rounds {
     uint64_t before;
-    imagesize_parts parts;
+    imagesize_rounds parts;
     uint64_t after;
 };
 
@@ -232,7 +232,7 @@ struct rounds {
 static void supply(struct worker *worker, struct rounds *rounds, size_t input, size_t offset, size_t length)
 {
     memcpy(worker->bytes_end - length, worker->input_end - input + offset, length);
-    imagesize_parts_supply(&rounds->parts, offset, worker->bytes_end - length, length);
+    imagesize_rounds_supply(&rounds->parts, offset, worker->bytes_end - length, length);
 }
 
 /* Rounds that bring the first byte of each requested span, and others around it, lead to the right result. Each span begins after the
@@ -242,11 +242,11 @@ static void rounds_lead_to(struct worker *worker, size_t length, const struct an
     struct rounds rounds = {0xA5, {{0}}, 0xA5};
     uint64_t next = 0;
     memset(&rounds.parts, 0xA5, sizeof rounds.parts);
-    imagesize_parts_new(&rounds.parts, length);
+    imagesize_rounds_new(&rounds.parts, length);
     for (;;) {
         struct answer a = nothing_told, none = nothing_told;
         imagesize_span wanted = {7, 8};
-        a.status = imagesize_parts_answer(&rounds.parts, &a.type, &a.compression, &a.width, &a.height, &wanted);
+        a.status = imagesize_rounds_answer(&rounds.parts, &a.type, &a.compression, &a.width, &a.height, &wanted);
         if (a.status != IMAGESIZE_BYTES_WANTED) {
             expect(is_same(&a, right) && wanted.start == 7 && wanted.len == 8, "rounds lead to the right result");
             break;

@@ -144,7 +144,7 @@ static void past_the_length(struct memory *memory, const uint8_t *bytes, size_t 
 /* The memory of a probe over spans, between numbers that no call may change. */
 struct rounds {
     uint64_t before;
-    imagesize_parts parts;
+    imagesize_rounds parts;
     uint64_t after;
 };
 
@@ -156,7 +156,7 @@ static void supply(struct rounds *rounds, uint64_t offset, const uint8_t *bytes,
         exit(2);
     }
     memcpy(piece, bytes, length);
-    imagesize_parts_supply(&rounds->parts, offset, piece, length);
+    imagesize_rounds_supply(&rounds->parts, offset, piece, length);
     free(piece);
 }
 
@@ -166,8 +166,8 @@ static struct answer ask(const struct rounds *rounds, size_t length, uint64_t le
     struct answer a = nothing, again = nothing;
     imagesize_span span = {7, 8};
     *wanted = span;
-    a.status = imagesize_parts_answer(&rounds->parts, &a.type, &a.compression, &a.width, &a.height, wanted);
-    again.status = imagesize_parts_answer(&rounds->parts, &again.type, &again.compression, &again.width, &again.height, &span);
+    a.status = imagesize_rounds_answer(&rounds->parts, &a.type, &a.compression, &a.width, &a.height, wanted);
+    again.status = imagesize_rounds_answer(&rounds->parts, &again.type, &again.compression, &again.width, &again.height, &span);
     expect(is_same(a, again) && wanted->start == span.start && wanted->len == span.len, "a second call returns the same");
     if (a.status == IMAGESIZE_BYTES_WANTED) {
         expect(is_same(a, nothing), "a call that requests a span writes nothing else");
@@ -188,7 +188,7 @@ static void in_rounds(const uint8_t *bytes, size_t length, size_t most, int with
     struct answer right = probe(bytes, length), a;
     imagesize_span wanted, last;
     uint64_t least = 0;
-    imagesize_parts_new(&rounds.parts, length);
+    imagesize_rounds_new(&rounds.parts, length);
     while (a = ask(&rounds, length, least, &wanted), a.status == IMAGESIZE_BYTES_WANTED) {
         size_t start = (size_t)wanted.start, brought = wanted.len < most ? (size_t)wanted.len : most;
         least = wanted.start + 1;

@@ -169,7 +169,7 @@ uint32_t imagesize_type(const uint8_t *bytes, size_t length, uint32_t *type, uin
  *
  *     00 00 01 00 FC FF 80 20 00 DA 26 00 3D FF E9 FF 13 9A FF B8 0F 93 80 00
  *
- * A TGA may need its footer, which only the whole file has. imagesize_probe_parts gives the result of the whole file from a few
+ * A TGA may need its footer, which only the whole file has. imagesize_parts_probe gives the result of the whole file from a few
  * parts of it.
  *
  * Errors: those of imagesize_type, IMAGESIZE_END_OF_INPUT if the bytes end before the size, and the errors of the type's layout,
@@ -214,16 +214,13 @@ uint32_t imagesize_probe(const uint8_t *bytes, size_t length, uint32_t *type, ui
  *         length += wanted.len;
  *     }
  *
- * Each call reads the parts from the beginning. With many records, imagesize_parts_answer below is faster: it keeps its state, and
+ * Each call reads the parts from the beginning. With many records, imagesize_rounds_answer below is faster: it keeps its state, and
  * no list of parts is needed.
  *
  * If two parts give different values for one byte, the first part counts. If there are fewer bytes than the spans have, the last
  * bytes are unknown. Bytes that are left over are not read. For a total of 2^63 bytes or more the result is unspecified. The call
  * still returns, and a requested part lies within `total`.
- *
- * The library exports the call by its old name, imagesize_probe_parts, which programs may use too.
  */
-#define imagesize_parts_probe imagesize_probe_parts
 uint32_t imagesize_parts_probe(const uint8_t *bytes, size_t length, const imagesize_span *spans, size_t count, uint64_t total,
                                uint32_t *type, uint32_t *compression, uint64_t *width, uint64_t *height, imagesize_span *wanted);
 
@@ -315,48 +312,48 @@ uint32_t imagesize_stream_finish(imagesize_stream *stream, uint32_t *type, uint3
  * Type and size of an input whose bytes can be fetched by offset, as from a file or by range requests. In each round the caller fetches
  * a span and passes its bytes. It keeps neither spans nor bytes, and no round reads again what an earlier one read.
  *
- *     imagesize_parts parts;
+ *     imagesize_rounds rounds;
  *     imagesize_span wanted;
  *     uint8_t block[4096];
  *     ssize_t got;
- *     imagesize_parts_new(&parts, total);
- *     while ((status = imagesize_parts_answer(&parts, &type, &compression, &width, &height, &wanted)) == IMAGESIZE_BYTES_WANTED) {
+ *     imagesize_rounds_new(&rounds, total);
+ *     while ((status = imagesize_rounds_answer(&rounds, &type, &compression, &width, &height, &wanted)) == IMAGESIZE_BYTES_WANTED) {
  *         if ((got = pread(file, block, sizeof block, (off_t)wanted.start)) <= 0) {
  *             return GAVE_UP;
  *         }
- *         imagesize_parts_supply(&parts, wanted.start, block, (size_t)got);
+ *         imagesize_rounds_supply(&rounds, wanted.start, block, (size_t)got);
  *     }
  *
- * The state is in memory of the caller, on the stack or wherever there are IMAGESIZE_PARTS_SIZE bytes. It holds at most 1,023 bytes
+ * The state is in memory of the caller, on the stack or wherever there are IMAGESIZE_ROUNDS_SIZE bytes. It holds at most 1,023 bytes
  * of the input, and no pointer. It needs no release. imagesize_file.h reads files in this way, in blocks of 4096 bytes.
  *
- * The rules of the push parser hold for this memory too. imagesize_parts_new comes first, and one call at a time uses the memory. The
+ * The rules of the push parser hold for this memory too. imagesize_rounds_new comes first, and one call at a time uses the memory. The
  * caller does not write into it, but may copy all of it between two calls.
  */
 
 /* The size of the memory in bytes. */
-#define IMAGESIZE_PARTS_SIZE 1280
+#define IMAGESIZE_ROUNDS_SIZE 1280
 
 /* The memory of a probe over spans. Its content is the library's own. */
-typedef struct imagesize_parts {
-    uint64_t opaque[IMAGESIZE_PARTS_SIZE / 8];
-} imagesize_parts;
+typedef struct imagesize_rounds {
+    uint64_t opaque[IMAGESIZE_ROUNDS_SIZE / 8];
+} imagesize_rounds;
 
 /*
  * Begins an input of `total` bytes, whatever the memory holds. If the input turns out to be shorter, begin again with its true length.
  * A total of 2^63 bytes or more means 2^63 - 1.
  */
-void imagesize_parts_new(imagesize_parts *parts, uint64_t total);
+void imagesize_rounds_new(imagesize_rounds *parts, uint64_t total);
 
 /*
  * Passes the `length` bytes of the input from `offset` on: those of the requested span, or more of them, or fewer. Nothing is returned:
- * imagesize_parts_answer has the result.
+ * imagesize_rounds_answer has the result.
  *
  * Bytes before the requested span are ignored, and so are bytes past the end of the input. If `offset` lies after the start of the
  * requested span, or if there is a result already, nothing changes. If the byte at the start of the requested span is among them, a
  * result or a later span follows. If all bytes of the span are, a result or a span after it follows.
  */
-void imagesize_parts_supply(imagesize_parts *parts, uint64_t offset, const uint8_t *bytes, size_t length);
+void imagesize_rounds_supply(imagesize_rounds *parts, uint64_t offset, const uint8_t *bytes, size_t length);
 
 /*
  * Reads type and size from the spans that were passed, or asks for another one. The memory of the probe does not change.
@@ -368,8 +365,8 @@ void imagesize_parts_supply(imagesize_parts *parts, uint64_t offset, const uint8
  * Otherwise status, type, compression, width and height are those of imagesize_probe over the whole input, and `wanted` does not
  * change. Every later call returns and writes the same.
  */
-uint32_t imagesize_parts_answer(const imagesize_parts *parts, uint32_t *type, uint32_t *compression, uint64_t *width, uint64_t *height,
-                                imagesize_span *wanted);
+uint32_t imagesize_rounds_answer(const imagesize_rounds *parts, uint32_t *type, uint32_t *compression, uint64_t *width,
+                                 uint64_t *height, imagesize_span *wanted);
 
 /*
  * Lists the bytes that type and size depend on: a span for each read, in order, with repeats. Every other input of this length

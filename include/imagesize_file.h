@@ -87,7 +87,7 @@ typedef uint32_t imagesize_read(void *reader, uint8_t *bytes, size_t length, uin
 
 /* A probe over a file, and what was read for it: how many blocks, how many bytes in all, and where the last block ends. */
 struct imagesize_file_rounds {
-    imagesize_parts parts;
+    imagesize_rounds parts;
     size_t blocks, length;
     uint64_t end;
 };
@@ -131,7 +131,7 @@ static inline uint32_t imagesize_file_round(struct imagesize_file_rounds *rounds
         status = image->type == IMAGESIZE_PNG ? png : status;
     }
     if (status == IMAGESIZE_ANSWERED && image->type != IMAGESIZE_PNG) {
-        imagesize_parts_supply(&rounds->parts, block.start, bytes, (size_t)block.len);
+        imagesize_rounds_supply(&rounds->parts, block.start, bytes, (size_t)block.len);
         rounds->blocks++;
         rounds->length += (size_t)block.len;
         rounds->end = block.start + block.len;
@@ -150,11 +150,11 @@ static inline uint32_t imagesize_reader_probe(void *reader, imagesize_read *read
     imagesize_span wanted = {0, 0};
     uint32_t status = IMAGESIZE_ANSWERED;
     *image = none;
-    imagesize_parts_new(&rounds.parts, total);
+    imagesize_rounds_new(&rounds.parts, total);
     rounds.blocks = rounds.length = 0;
     rounds.end = 0;
     while (status == IMAGESIZE_ANSWERED) {
-        status = imagesize_parts_answer(&rounds.parts, &image->type, &image->compression, &image->width, &image->height, &wanted);
+        status = imagesize_rounds_answer(&rounds.parts, &image->type, &image->compression, &image->width, &image->height, &wanted);
         if (status != IMAGESIZE_BYTES_WANTED) {
             return status;
         }

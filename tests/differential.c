@@ -665,7 +665,7 @@ static struct answer probe_known(uint64_t total, imagesize_span *wanted)
     struct answer found = unwritten;
     const imagesize_span before = *wanted;
     counted[PROBES]++;
-    found.status = imagesize_probe_parts(known.bytes, known.length, known.spans, known.count, total, &found.type, &found.compression,
+    found.status = imagesize_parts_probe(known.bytes, known.length, known.spans, known.count, total, &found.type, &found.compression,
                                          &found.width, &found.height, wanted);
     bool is_kept = wanted->start == before.start && wanted->len == before.len;
     return found.status == IMAGESIZE_BYTES_WANTED || is_kept ? as_written(found) : (struct answer){.status = STATUSES};
@@ -740,12 +740,12 @@ static bool without_any(const struct input *of, struct answer whole, const image
 }
 
 /* The result of a probe over spans. If the call wrote a span that is not needed, the status is STATUSES. */
-static struct answer asked(const imagesize_parts *parts, imagesize_span *wanted)
+static struct answer asked(const imagesize_rounds *parts, imagesize_span *wanted)
 {
     struct answer found = unwritten;
     const imagesize_span before = *wanted;
     counted[PROBES]++;
-    found.status = imagesize_parts_answer(parts, &found.type, &found.compression, &found.width, &found.height, wanted);
+    found.status = imagesize_rounds_answer(parts, &found.type, &found.compression, &found.width, &found.height, wanted);
     bool is_kept = wanted->start == before.start && wanted->len == before.len;
     return found.status == IMAGESIZE_BYTES_WANTED || is_kept ? as_written(found) : (struct answer){.status = STATUSES};
 }
@@ -755,15 +755,15 @@ static struct answer asked(const imagesize_parts *parts, imagesize_span *wanted)
  * result depends on end. */
 static bool by_rounds(const struct input *of, struct answer whole, uint64_t around, uint64_t most, uint64_t last)
 {
-    imagesize_parts parts;
+    imagesize_rounds parts;
     imagesize_span wanted = {0, 0};
     uint64_t next = 0;
     counted[ROUNDS]++;
-    imagesize_parts_new(&parts, of->length);
+    imagesize_rounds_new(&parts, of->length);
     for (;;) {
         struct answer found = asked(&parts, &wanted);
         if (found.status != IMAGESIZE_BYTES_WANTED) {
-            imagesize_parts_supply(&parts, 0, of->bytes, of->length);
+            imagesize_rounds_supply(&parts, 0, of->bytes, of->length);
             return same(whole, found) && same(whole, asked(&parts, &wanted));
         }
         if (!within(wanted, of->length) || wanted.start < next || wanted.start >= last) {
@@ -771,13 +771,13 @@ static bool by_rounds(const struct input *of, struct answer whole, uint64_t arou
         }
         next = wanted.start + 1;
         if (once_in(4)) {
-            imagesize_parts_supply(&parts, next, of->bytes + next, of->length - next);
+            imagesize_rounds_supply(&parts, next, of->bytes + next, of->length - next);
         }
         uint64_t before = wanted.start < around ? wanted.start : around, behind = of->length - wanted.start - wanted.len;
         wanted.start -= before;
         wanted.len += before + (behind < around ? behind : around);
         wanted.len = wanted.len < most ? wanted.len : most;
-        imagesize_parts_supply(&parts, wanted.start, of->bytes + wanted.start, wanted.len);
+        imagesize_rounds_supply(&parts, wanted.start, of->bytes + wanted.start, wanted.len);
     }
 }
 

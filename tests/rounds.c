@@ -30,14 +30,14 @@ struct found {
 /* Rounds that bring at least so many bytes each, as far as the input has them. */
 static void by_rounds(const struct input *input, size_t least, struct found *found)
 {
-    imagesize_parts parts;
+    imagesize_rounds parts;
     imagesize_span wanted;
-    imagesize_parts_new(&parts, input->length);
-    while ((found->status = imagesize_parts_answer(&parts, &found->type, &found->compression, &found->width, &found->height, &wanted))
+    imagesize_rounds_new(&parts, input->length);
+    while ((found->status = imagesize_rounds_answer(&parts, &found->type, &found->compression, &found->width, &found->height, &wanted))
            == IMAGESIZE_BYTES_WANTED) {
         size_t start = (size_t)wanted.start, length = wanted.len > least ? (size_t)wanted.len : least;
         length = length < input->length - start ? length : input->length - start;
-        imagesize_parts_supply(&parts, start, input->bytes + start, length);
+        imagesize_rounds_supply(&parts, start, input->bytes + start, length);
         found->rounds++;
         found->brought += length;
     }

@@ -104,7 +104,7 @@ export class Library {
 
   // Makes the state in the memory that of an input of `total` bytes.
   #begin(total) {
-    this.#calls.imagesize_parts_new(this.#pointer(AT.lent), BigInt(total));
+    this.#calls.imagesize_rounds_new(this.#pointer(AT.lent), BigInt(total));
   }
 
   // Passes bytes to the state in the memory.
@@ -113,7 +113,7 @@ export class Library {
     for (let at = 0; at < bytes.length; at += PIECE) {
       const piece = bytes.subarray(at, at + PIECE);
       this.#bytes.set(piece, this.#base + AT.lent + STATE_SIZE);
-      this.#calls.imagesize_parts_supply(state, BigInt(start + at), buffer, BigInt(piece.length));
+      this.#calls.imagesize_rounds_supply(state, BigInt(start + at), buffer, BigInt(piece.length));
     }
   }
 
@@ -121,7 +121,7 @@ export class Library {
   #answer() {
     this.#putNumber(AT.type, 0);
     const { type, compression, width, height, wanted } = this.#answers;
-    const status = this.#calls.imagesize_parts_answer(this.#pointer(AT.lent), type, compression, width, height, wanted);
+    const status = this.#calls.imagesize_rounds_answer(this.#pointer(AT.lent), type, compression, width, height, wanted);
     return status === BYTES_WANTED ? { wanted: this.#span(AT.wanted) } : this.#told(status);
   }
 

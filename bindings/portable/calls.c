@@ -13,7 +13,7 @@
 #define WANTED (FRAME + 24)
 #define COUNT (FRAME + 40)
 
-#if IMAGESIZE_STREAM_SIZE != IMAGESIZE_PARTS_SIZE
+#if IMAGESIZE_STREAM_SIZE != IMAGESIZE_ROUNDS_SIZE
 #error "both states have the same size"
 #endif
 
@@ -174,7 +174,7 @@ uint32_t imagesize_parts_probe(const uint8_t *bytes, size_t length, const images
     if (MARK(in.w2c_memory)) {
         return IMAGESIZE_TRAPPED;
     }
-    status = MODULE(imagesize_probe_parts)(&in, BYTES, length, ITEMS, count, total, TYPE, COMPRESSION, WIDTH, HEIGHT, WANTED);
+    status = MODULE(imagesize_parts_probe)(&in, BYTES, length, ITEMS, count, total, TYPE, COMPRESSION, WIDTH, HEIGHT, WANTED);
     tell_type(&in, type, compression);
     tell_size(&in, status, width, height);
     tell_wanted(&in, status, wanted);
@@ -258,7 +258,7 @@ uint32_t imagesize_stream_finish(imagesize_stream *stream, uint32_t *type, uint3
     return status;
 }
 
-void imagesize_parts_new(imagesize_parts *parts, uint64_t total)
+void imagesize_rounds_new(imagesize_rounds *parts, uint64_t total)
 {
     instance in;
     begin(&in, NULL, 0);
@@ -267,10 +267,10 @@ void imagesize_parts_new(imagesize_parts *parts, uint64_t total)
         return;
     }
     with_buffer(&in, parts, sizeof *parts, 0);
-    MODULE(imagesize_parts_new)(&in, STATE, total);
+    MODULE(imagesize_rounds_new)(&in, STATE, total);
 }
 
-void imagesize_parts_supply(imagesize_parts *parts, uint64_t offset, const uint8_t *bytes, size_t length)
+void imagesize_rounds_supply(imagesize_rounds *parts, uint64_t offset, const uint8_t *bytes, size_t length)
 {
     instance in;
     begin(&in, bytes, length);
@@ -279,10 +279,10 @@ void imagesize_parts_supply(imagesize_parts *parts, uint64_t offset, const uint8
         return;
     }
     with_state(&in, parts, parts);
-    MODULE(imagesize_parts_supply)(&in, STATE, offset, BYTES, length);
+    MODULE(imagesize_rounds_supply)(&in, STATE, offset, BYTES, length);
 }
 
-uint32_t imagesize_parts_answer(const imagesize_parts *parts, uint32_t *type, uint32_t *compression, uint64_t *width, uint64_t *height,
+uint32_t imagesize_rounds_answer(const imagesize_rounds *parts, uint32_t *type, uint32_t *compression, uint64_t *width, uint64_t *height,
                                 imagesize_span *wanted)
 {
     instance in;
@@ -292,7 +292,7 @@ uint32_t imagesize_parts_answer(const imagesize_parts *parts, uint32_t *type, ui
         return IMAGESIZE_TRAPPED;
     }
     with_state(&in, parts, NULL);
-    status = MODULE(imagesize_parts_answer)(&in, READ_STATE, TYPE, COMPRESSION, WIDTH, HEIGHT, WANTED);
+    status = MODULE(imagesize_rounds_answer)(&in, READ_STATE, TYPE, COMPRESSION, WIDTH, HEIGHT, WANTED);
     tell_type(&in, type, compression);
     tell_size(&in, status, width, height);
     tell_wanted(&in, status, wanted);

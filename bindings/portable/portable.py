@@ -341,7 +341,6 @@ def main(source, out, *options):
     text, header = pathlib.Path(source).read_text(), pathlib.Path(source).with_suffix(".h").read_text()
     functions, exports = parts_of(text)
     wanted = re.findall(r"^(?:uint32_t|void) (imagesize_\w+)\(", HEADER.read_text(), re.M)
-    wanted = ["imagesize_probe_parts" if name == "imagesize_parts_probe" else name for name in wanted]
     if missing := [name for name in wanted if name not in exports]:
         stop(f"the module has no {', '.join(missing)}")
     depth = depths(functions)

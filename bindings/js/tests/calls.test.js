@@ -107,9 +107,9 @@ const [STREAM_SIZE, PARTS_SIZE] = ['STREAM', 'PARTS']
 
 // The buffers that a call of the library is passed: where each begins, how many bytes it has, and how it is aligned.
 const BUFFERS = {
-  imagesize_parts_new: ([parts]) => [[parts, PARTS_SIZE, 8]],
-  imagesize_parts_supply: ([parts, , bytes, length]) => [[parts, PARTS_SIZE, 8], [bytes, length, 1]],
-  imagesize_parts_answer: ([parts, type, compression, width, height, wanted]) => [
+  imagesize_rounds_new: ([parts]) => [[parts, PARTS_SIZE, 8]],
+  imagesize_rounds_supply: ([parts, , bytes, length]) => [[parts, PARTS_SIZE, 8], [bytes, length, 1]],
+  imagesize_rounds_answer: ([parts, type, compression, width, height, wanted]) => [
     [parts, PARTS_SIZE, 8], [type, 4, 4], [compression, 4, 4], [width, 8, 8], [height, 8, 8], [wanted, 16, 8],
   ],
   imagesize_png_parts_size: ([bytes, length, parts, count, , width, height, wanted]) => [
@@ -173,9 +173,9 @@ test('an array is passed by blocks that grow, and after bytes that do not matter
   const passed = [];
   const noted = (...numbers) => {
     passed.push([Number(numbers[1]), Number(numbers[3])]);
-    return exports.imagesize_parts_supply(...numbers);
+    return exports.imagesize_rounds_supply(...numbers);
   };
-  const library = new Library(compiled, { exports: { ...exports, imagesize_parts_supply: noted } });
+  const library = new Library(compiled, { exports: { ...exports, imagesize_rounds_supply: noted } });
   assert.equal(library.probe(jpegBehind(1000, 200)).image.width, 7);
   assert.deepEqual(passed.map(([, length]) => length).slice(0, 6), [4096, 8192, 16_384, 32_768, 65_536, 65_536]);
   passed.length = 0;

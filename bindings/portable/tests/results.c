@@ -176,19 +176,19 @@ static void by_parts(const uint8_t *bytes, size_t length, enum how how)
 /* Rounds that bring a requested span, or a block around it. */
 static void by_rounds(const uint8_t *bytes, size_t length)
 {
-    imagesize_parts parts;
+    imagesize_rounds parts;
     uint64_t around = below(2) ? 0 : below(64);
-    imagesize_parts_new(&parts, length);
+    imagesize_rounds_new(&parts, length);
     for (int round = 0; round < 4 * FEW; round++) {
         struct result found = unwritten;
-        found.status = imagesize_parts_answer(&parts, &found.type, &found.compression, &found.width, &found.height, &found.wanted);
+        found.status = imagesize_rounds_answer(&parts, &found.type, &found.compression, &found.width, &found.height, &found.wanted);
         add_result(&found);
         if (found.status != IMAGESIZE_BYTES_WANTED) {
             return;
         }
         uint64_t start = found.wanted.start < around ? 0 : found.wanted.start - around, end = found.wanted.start + found.wanted.len + around;
         end = end < length ? end : length;
-        imagesize_parts_supply(&parts, start, bytes + start, (size_t)(end - start));
+        imagesize_rounds_supply(&parts, start, bytes + start, (size_t)(end - start));
     }
 }
 

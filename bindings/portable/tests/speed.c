@@ -57,14 +57,14 @@ static uint32_t parts(const uint8_t *bytes, size_t length, struct found *found)
 
 static uint32_t rounds(const uint8_t *bytes, size_t length, struct found *found)
 {
-    imagesize_parts state;
+    imagesize_rounds state;
     imagesize_span wanted = {0, 0};
     uint32_t status;
-    imagesize_parts_new(&state, length);
-    while ((status = imagesize_parts_answer(&state, &found->type, &found->compression, &found->width, &found->height, &wanted))
+    imagesize_rounds_new(&state, length);
+    while ((status = imagesize_rounds_answer(&state, &found->type, &found->compression, &found->width, &found->height, &wanted))
            == IMAGESIZE_BYTES_WANTED) {
         size_t start = (size_t)wanted.start, left = length - start;
-        imagesize_parts_supply(&state, start, bytes + start, left < BLOCK ? left : BLOCK);
+        imagesize_rounds_supply(&state, start, bytes + start, left < BLOCK ? left : BLOCK);
     }
     return status;
 }

@@ -165,14 +165,14 @@ class Parameters(unittest.TestCase):
 
     def test_those_of_the_calls(self):
         known = portable.parameters_of({name: name for name in (
-            "imagesize_type imagesize_size imagesize_probe imagesize_probe_parts imagesize_parts_type imagesize_parts_size imagesize_stream_new "
-            "imagesize_stream_push imagesize_stream_finish imagesize_parts_new imagesize_parts_supply imagesize_parts_answer imagesize_spans "
+            "imagesize_type imagesize_size imagesize_probe imagesize_parts_probe imagesize_parts_type imagesize_parts_size imagesize_stream_new "
+            "imagesize_stream_push imagesize_stream_finish imagesize_rounds_new imagesize_rounds_supply imagesize_rounds_answer imagesize_spans "
             "imagesize_png_matches imagesize_png_size imagesize_png_parts_size imagesize_type_name imagesize_compression_name "
             "imagesize_container_format imagesize_status_text imagesize_compression_family imagesize_is_block_compressed "
             "imagesize_is_multi_compression_container").split()})
         self.assertEqual(known["imagesize_size"], [None, None, Region(frozenset({"stack"}), -8, 56), Region(frozenset({"stack"}), -16, 48)])
         self.assertEqual(known["imagesize_stream_push"][0], Region(frozenset({"state"}), 0, 1280))
-        self.assertEqual(known["imagesize_parts_answer"][0], Region(frozenset({"read"}), 0, 1280))
+        self.assertEqual(known["imagesize_rounds_answer"][0], Region(frozenset({"read"}), 0, 1280))
         self.assertEqual(known["imagesize_type_name"], [None, None, None, None, Region(frozenset({"stack"}), -40, 24)])
         self.assertEqual(known["imagesize_spans"][2], None)
 

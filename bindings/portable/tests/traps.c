@@ -24,7 +24,7 @@ int main(void)
     static const uint8_t gif[] = "GIF89a\x64\0\x64\0\0";
     imagesize_span spans[8] = {{7, 7}}, wanted = {7, 7}, all = {0, sizeof gif};
     imagesize_stream stream;
-    imagesize_parts parts;
+    imagesize_rounds parts;
     uint32_t type = 7, compression = 7;
     uint64_t width = 7, height = 7;
     size_t count = 7;
@@ -39,9 +39,9 @@ int main(void)
         expect(imagesize_stream_push(&stream, gif, sizeof gif, &type, &compression, &width, &height) == IMAGESIZE_TRAPPED, "a push is trapped");
         expect(imagesize_stream_push(&stream, gif, 0, &type, &compression, &width, &height) == IMAGESIZE_TRAPPED, "a later push too");
         expect(imagesize_stream_finish(&stream, &type, &compression, &width, &height) == IMAGESIZE_TRAPPED, "and the end");
-        imagesize_parts_new(&parts, sizeof gif);
-        imagesize_parts_supply(&parts, 0, gif, sizeof gif);
-        expect(imagesize_parts_answer(&parts, &type, &compression, &width, &height, &wanted) == IMAGESIZE_TRAPPED, "rounds are trapped");
+        imagesize_rounds_new(&parts, sizeof gif);
+        imagesize_rounds_supply(&parts, 0, gif, sizeof gif);
+        expect(imagesize_rounds_answer(&parts, &type, &compression, &width, &height, &wanted) == IMAGESIZE_TRAPPED, "rounds are trapped");
     }
     expect(type == 7 && compression == 7 && width == 7 && height == 7 && count == 7 && wanted.start == 7 && spans[0].start == 7,
            "no result is written");

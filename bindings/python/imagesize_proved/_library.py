@@ -34,18 +34,18 @@ _WANTED = 30
 _SIGNATURE = b"\x89PNG\r\n\x1a\n"
 _PNG_FRONT = 24  # the size of a PNG depends on no byte after these
 
-_State = ctypes.c_uint64 * (1280 // 8)  # imagesize_stream and imagesize_parts of imagesize.h
+_State = ctypes.c_uint64 * (1280 // 8)  # imagesize_stream and imagesize_rounds of imagesize.h
 
 _CALLS = (
     "imagesize_type",
     "imagesize_probe",
-    "imagesize_probe_parts",
+    "imagesize_parts_probe",
     "imagesize_parts_type",
     "imagesize_spans",
     "imagesize_png_parts_size",
-    "imagesize_parts_new",
-    "imagesize_parts_supply",
-    "imagesize_parts_answer",
+    "imagesize_rounds_new",
+    "imagesize_rounds_supply",
+    "imagesize_rounds_answer",
     "imagesize_stream_new",
     "imagesize_stream_push",
     "imagesize_stream_finish",
@@ -84,12 +84,12 @@ _probe = _LIBRARY.imagesize_probe
 _parts_type = _LIBRARY.imagesize_parts_type
 _spans = _LIBRARY.imagesize_spans
 _png = _LIBRARY.imagesize_png_parts_size
-_parts_supply = _LIBRARY.imagesize_parts_supply
+_parts_supply = _LIBRARY.imagesize_rounds_supply
 _stream_new = _LIBRARY.imagesize_stream_new
 _QUICK = ctypes.PyDLL(_LIBRARY._name)  # for calls over few bytes, which are over before another thread would run
-_probe_few = _QUICK.imagesize_probe_parts
-_parts_new = _QUICK.imagesize_parts_new
-_parts_answer = _QUICK.imagesize_parts_answer
+_probe_few = _QUICK.imagesize_parts_probe
+_parts_new = _QUICK.imagesize_rounds_new
+_parts_answer = _QUICK.imagesize_rounds_answer
 _stream_push = _QUICK.imagesize_stream_push
 _stream_finish = _QUICK.imagesize_stream_finish
 

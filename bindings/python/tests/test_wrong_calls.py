@@ -226,7 +226,7 @@ class Buffers(unittest.TestCase):
     def test_rounds(self) -> None:
         """The state of a probe over spans is as long and as aligned as the header says. Each block is passed once."""
         header = (PACKAGE.parent.parent / "include" / "imagesize.h").read_text()
-        (size,) = map(int, re.findall(r"^#define IMAGESIZE_PARTS_SIZE (\d+)", header, re.MULTILINE))
+        (size,) = map(int, re.findall(r"^#define IMAGESIZE_ROUNDS_SIZE (\d+)", header, re.MULTILINE))
         image = b"\xff\xd8" + (b"\xff\xe0\xff\xff" + bytes(65533)) * 2 + b"\xff\xc0\0\x11\x08\0\x05\0\x07" + bytes(8)
         with tempfile.NamedTemporaryFile() as file:
             file.write(image)

@@ -58,7 +58,7 @@ extern "C" {
         compression: *mut u32,
     ) -> u32;
     fn imagesize_size(bytes: *const u8, length: usize, width: *mut u64, height: *mut u64) -> u32;
-    fn imagesize_probe_parts(
+    fn imagesize_parts_probe(
         bytes: *const u8,
         length: usize,
         spans: *const Span,
@@ -108,9 +108,9 @@ extern "C" {
         height: *mut u64,
         wanted: *mut Span,
     ) -> u32;
-    fn imagesize_parts_new(parts: *mut Rounds, total: u64);
-    fn imagesize_parts_supply(parts: *mut Rounds, offset: u64, bytes: *const u8, length: usize);
-    fn imagesize_parts_answer(
+    fn imagesize_rounds_new(parts: *mut Rounds, total: u64);
+    fn imagesize_rounds_supply(parts: *mut Rounds, offset: u64, bytes: *const u8, length: usize);
+    fn imagesize_rounds_answer(
         parts: *const Rounds,
         kind: *mut u32,
         compression: *mut u32,
@@ -274,14 +274,14 @@ impl Rounds {
             opaque: MaybeUninit::uninit(),
         };
         // SAFETY: the pointer comes from memory of the header's size, which nothing else holds. It may hold anything.
-        unsafe { imagesize_parts_new(&mut rounds, total) };
+        unsafe { imagesize_rounds_new(&mut rounds, total) };
         rounds
     }
 
     /// Passes the bytes from an offset on.
     pub(crate) fn supply(&mut self, offset: u64, bytes: &[u8]) {
         // SAFETY: the pointers come from memory that `new` wrote and that nothing else holds, and from a slice of this length.
-        unsafe { imagesize_parts_supply(self, offset, bytes.as_ptr(), bytes.len()) };
+        unsafe { imagesize_rounds_supply(self, offset, bytes.as_ptr(), bytes.len()) };
     }
 
     /// The result of the input, or the span that is requested next.
@@ -290,7 +290,7 @@ impl Rounds {
         let mut wanted = Span::default();
         // SAFETY: the pointers come from memory that `new` wrote, and from numbers and a span that nothing else holds.
         told.status = unsafe {
-            imagesize_parts_answer(
+            imagesize_rounds_answer(
                 self,
                 &mut told.kind,
                 &mut told.compression,
@@ -400,7 +400,7 @@ pub(crate) fn probe_parts(bytes: &[u8], spans: &[Span], total: u64) -> Parts {
     let mut wanted = Span::default();
     // SAFETY: the pointers come from two slices of these lengths, and from numbers and a span that nothing else holds.
     told.status = unsafe {
-        imagesize_probe_parts(
+        imagesize_parts_probe(
             bytes.as_ptr(),
             bytes.len(),
             spans.as_ptr(),

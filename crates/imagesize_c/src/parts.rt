@@ -13,7 +13,7 @@ use imagesize::{PartsAnswer, Span, parts_probe};
 /// Reads type and size of the image in an input from the parts that are known, or requests another part.
 #[unsafe(no_mangle)]
 #[tactic(auto, using(crate::proofs::Statuses::never_wanted, crate::proofs::Statuses::unstopped))]
-pub extern "C" fn imagesize_probe_parts(
+pub extern "C" fn imagesize_parts_probe(
     bytes: &[u8],
     spans: &[Span],
     total: u64,

@@ -24,7 +24,7 @@ const _: () = prove!(align_of::<PartsProbe>() <= 8);
 
 /// Begins an input of `total` bytes in the caller's memory, whatever the memory holds.
 #[unsafe(no_mangle)]
-pub unsafe extern "C" fn imagesize_parts_new(parts: *mut PartsProbe, total: u64)
+pub unsafe extern "C" fn imagesize_rounds_new(parts: *mut PartsProbe, total: u64)
     requires* { sem 𝓛 (room_at the_row parts) }
     ensures* { ∃ₛ (λ (after : PartsProbe). sem 𝓛 (lies_at the_row full_share parts after) ∗ ⌜ Opens after total ⌝) }
 {
@@ -33,7 +33,7 @@ pub unsafe extern "C" fn imagesize_parts_new(parts: *mut PartsProbe, total: u64)
 
 /// Passes the bytes from an offset on: those of the requested span, or more of them, or fewer.
 #[unsafe(no_mangle)]
-pub unsafe extern "C" fn imagesize_parts_supply(parts: *mut PartsProbe, offset: u64, bytes: &[u8])
+pub unsafe extern "C" fn imagesize_rounds_supply(parts: *mut PartsProbe, offset: u64, bytes: &[u8])
     ghost held: { PartsProbe }
     requires* { sem 𝓛 (lies_at the_row full_share parts held) }
     ensures* { ∃ₛ (λ (after : PartsProbe). sem 𝓛 (lies_at the_row full_share parts after) ∗ ⌜ TakesPart held after offset bytes.now ⌝) }
@@ -43,7 +43,7 @@ pub unsafe extern "C" fn imagesize_parts_supply(parts: *mut PartsProbe, offset: 
 
 /// Reads type and size from the spans that were passed, or requests another span. The memory does not change.
 #[unsafe(no_mangle)]
-pub unsafe extern "C" fn imagesize_parts_answer(
+pub unsafe extern "C" fn imagesize_rounds_answer(
     parts: *const PartsProbe,
     number: &mut u32,
     compression: &mut u32,

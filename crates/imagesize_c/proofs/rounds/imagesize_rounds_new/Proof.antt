@@ -1,20 +1,20 @@
--- `imagesize_parts_new` meets its contract: what `begin` returns is written into the memory behind the pointer.
+-- `imagesize_rounds_new` meets its contract: what `begin` returns is written into the memory behind the pointer.
 use Rattle.imagesize_c.proofs.Walks.{[], ◌∷◌, refl, w64, proved, full_share, id⊢, sep, ftrue, vunit, vint, fact, tables, WpFn, sem, ‵, raw, ◌⊛◌, some, later, prop, ◌$◌, ◌∵◌, !, qed, done, move, keep, drop, use2, use1, split, join, feq_i, pick, await, regoal, suffices, frame, group, show, enter, of_opd, stop, unit_lit, no_more, and_then, assigns, init, returns, alloc_all, pass_all, free_all, look_at, get, through, sets, lands_as, u64, yes, Is, shows, part_at, part_in, Ptr, ptr_val, RawPtr, block_ptr, lies_at, room_at, in_a_block, rawptr_vals, rawptr_Tells, uint_vals, uint_Tells, plain, nothing, heard, peeks, calls_at, lasts, triple_of, framed, Stays, walk_of, says, stay_dropped, Goes-dropped, ends_at}
 use Rattle.imagesize_stream.specs.contracts.parts.PartsProbe.{the_row as R}
 use Rattle.imagesize_stream.proofs.parts.PartsProbe.TheLaws.{the_row_laws}
 use Rattle.imagesize_stream.specs.declared.parts.PartsProbe.{PartsProbe}
 use Rattle.imagesize_c.specs.Rounds.{Opens}
-use Rattle.imagesize_c.specs.contracts.rounds.imagesize_parts_new as f
-use Rattle.imagesize_c.proofs.rounds.imagesize_parts_new.Statement.{statement}
-use Rattle.imagesize_c.proofs.rounds.imagesize_parts_new.Code as code
+use Rattle.imagesize_c.specs.contracts.rounds.imagesize_rounds_new as f
+use Rattle.imagesize_c.proofs.rounds.imagesize_rounds_new.Statement.{statement}
+use Rattle.imagesize_c.proofs.rounds.imagesize_rounds_new.Code as code
 use Rattle.imagesize_c.specs.contracts.rounds.begin as g
 use Rattle.imagesize_c.proofs.rounds.begin.Met.{met}
 
 abbrev stayed : Stays f.ended.signature.params f.ended.kept
 stayed = (stay_dropped _ yes, (stay_dropped _ yes, tt))
 
-pub imagesize_parts_new_spec : {M : Type 1} → statement M
-imagesize_parts_new_spec 𝓤 𝓛 𝓜 𝓡 wired =
+pub imagesize_rounds_new_spec : {M : Type 1} → statement M
+imagesize_rounds_new_spec 𝓤 𝓛 𝓜 𝓡 wired =
     let c = f.clauses 𝓛 𝓜.mem 𝓡.returns in let W = walk_of 𝓛 f.ended stayed c in let 𝓣 = tables 𝓤 𝓛.H 𝓜 𝓡 𝓡.env in
     proved 𝓛 f.ended stayed c 𝓜 𝓡 (
       Goes-dropped 𝓛 0 (plain (λ _. RawPtr)) yes (λ κs x w. refl),

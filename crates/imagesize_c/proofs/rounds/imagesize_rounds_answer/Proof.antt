@@ -1,4 +1,4 @@
--- `imagesize_parts_answer` meets its contract: the memory behind the pointer is lent, as shared, for a lifetime made for the call
+-- `imagesize_rounds_answer` meets its contract: the memory behind the pointer is lent, as shared, for a lifetime made for the call
 -- of `answer_by`, and comes back once that is over. All other parameters are passed on as they are.
 use Rattle.std.specs.Prelude.{◌⊎◌, ◌<◌, ◌≤◌}
 use Rattle.imagesize_c.proofs.Walks.{◌≡◌, ℕ, true, false, List, [], ◌∷◌, refl, w32, Bor, proved, full_share, id⊢, flft, flent, named, Val, vptr, fact, tables, WpFn, ‵, raw, ◌⊛◌, some, later, prop, ◌$◌, ◌∵◌, !, qed, done, move, keep, drop, use1, use2, split, join, fsplit, pick, await, regoal, suffices, frame, group, lft_new, lft_end, lent_back, enter, addr, stop, no_more, and_then, returns, alloc_all, pass_all, free_all, look_at, get, through, sets, lands_as, u32, u64, yes, Is, shows, lends_shr, part_at, uint_Lawful, Ptr, ptr_val, RawPtr, block_ptr, lies_at, in_a_block, rawptr_vals, rawptr_Tells, MutRef, mut_vals, mut_Tells, ShrRef, plain, nothing, peeks, calls_at, lasts, triple_of, framed, Stays, walk_of, stay_dropped, Goes-dropped, gave_ref, Goes-gave_ref, ends_at, RattleType, owns, alive, ⊑_static, Incl-refl}
@@ -15,9 +15,9 @@ use Rattle.imagesize_pieces.specs.Stream.{AllBelow}
 use Rattle.imagesize_c.specs.Rounds.{EndsEarly, TellsNext}
 use Rattle.imagesize_c.specs.Status.{is_answered, is_stop_status, is_wanted, status_of}
 use Rattle.imagesize_c.specs.Told.{TellsSize, TellsType}
-use Rattle.imagesize_c.specs.contracts.rounds.imagesize_parts_answer as f
-use Rattle.imagesize_c.proofs.rounds.imagesize_parts_answer.Statement.{statement}
-use Rattle.imagesize_c.proofs.rounds.imagesize_parts_answer.Code as code
+use Rattle.imagesize_c.specs.contracts.rounds.imagesize_rounds_answer as f
+use Rattle.imagesize_c.proofs.rounds.imagesize_rounds_answer.Statement.{statement}
+use Rattle.imagesize_c.proofs.rounds.imagesize_rounds_answer.Code as code
 use Rattle.imagesize_c.specs.contracts.rounds.answer_by as g
 use Rattle.imagesize_c.proofs.rounds.answer_by.Met.{met}
 
@@ -36,8 +36,8 @@ stayed = (
   ),
 )
 
-pub imagesize_parts_answer_spec : {M : Type 1} → statement M
-imagesize_parts_answer_spec 𝓤 𝓛 𝓜 𝓡 wired =
+pub imagesize_rounds_answer_spec : {M : Type 1} → statement M
+imagesize_rounds_answer_spec 𝓤 𝓛 𝓜 𝓡 wired =
     let c = f.clauses 𝓛 𝓜.mem 𝓡.returns in let W = walk_of 𝓛 f.ended stayed c in let 𝓣 = tables 𝓤 𝓛.H 𝓜 𝓡 𝓡.env in
     proved 𝓛 f.ended stayed c 𝓜 𝓡 (
       Goes-dropped 𝓛 5 (plain (λ _. RawPtr)) yes (λ κs x w. refl),

@@ -1,20 +1,20 @@
--- `imagesize_parts_supply` meets its contract: the memory behind the pointer is lent for a lifetime made for the call of
+-- `imagesize_rounds_supply` meets its contract: the memory behind the pointer is lent for a lifetime made for the call of
 -- `supply_to`, and comes back once that is over. All other parameters are passed on as they are.
 use Rattle.imagesize_c.proofs.Walks.{ℕ, List, [], ◌∷◌, length, refl, ap, w64, MutBor, proved, full_share, id⊢, sep, flft, flent, named, Val, vunit, vint, vptr, fact, tables, WpFn, sem, ‵, raw, ◌⊛◌, some, later, prop, ◌$◌, ◌∵◌, !, qed, done, move, keep, use1, use2, use3, split, join, fsplit, feq_i, feq_l, pick, await, regoal, suffices, frame, group, show, Body, lft_new, lft_end, enter, of_opd, unit_lit, addr, stop, no_more, and_then, returns, alloc_all, pass_all, free_all, look_at, get, through, sets, lands_as, u8, u64, unit, yes, lends_ref, ref_back, mem, part_at, Ptr, ptr_val, RawPtr, block_ptr, lies_at, in_a_block, rawptr_vals, rawptr_Tells, uint_vals, uint_Tells, MutRef, plain, ShrSlice, slice_val, shr_slice_vals, shr_slice_Tells, nothing, heard, only, calls_at, lasts, triple_of, framed, Stays, walk_of, says, stay_dropped, Goes-dropped, ends_at, RattleType, owns, alive}
 use Rattle.imagesize_stream.specs.contracts.parts.PartsProbe.{the_row as R}
 use Rattle.imagesize_stream.specs.declared.parts.PartsProbe.{PartsProbe}
 use Rattle.imagesize_c.specs.Rounds.{TakesPart}
-use Rattle.imagesize_c.specs.contracts.rounds.imagesize_parts_supply as f
-use Rattle.imagesize_c.proofs.rounds.imagesize_parts_supply.Statement.{statement}
-use Rattle.imagesize_c.proofs.rounds.imagesize_parts_supply.Code as code
+use Rattle.imagesize_c.specs.contracts.rounds.imagesize_rounds_supply as f
+use Rattle.imagesize_c.proofs.rounds.imagesize_rounds_supply.Statement.{statement}
+use Rattle.imagesize_c.proofs.rounds.imagesize_rounds_supply.Code as code
 use Rattle.imagesize_c.specs.contracts.rounds.supply_to as g
 use Rattle.imagesize_c.proofs.rounds.supply_to.Met.{met}
 
 abbrev stayed : Stays f.ended.signature.params f.ended.kept
 stayed = (stay_dropped _ yes, (stay_dropped _ yes, (stay_dropped _ yes, tt)))
 
-pub imagesize_parts_supply_spec : {M : Type 1} → statement M
-imagesize_parts_supply_spec 𝓤 𝓛 𝓜 𝓡 wired =
+pub imagesize_rounds_supply_spec : {M : Type 1} → statement M
+imagesize_rounds_supply_spec 𝓤 𝓛 𝓜 𝓡 wired =
     let c = f.clauses 𝓛 𝓜.mem 𝓡.returns in let W = walk_of 𝓛 f.ended stayed c in let 𝓣 = tables 𝓤 𝓛.H 𝓜 𝓡 𝓡.env in
     proved 𝓛 f.ended stayed c 𝓜 𝓡 (
       Goes-dropped 𝓛 1 (plain (λ _. RawPtr)) yes (λ κs x w. refl),
