@@ -1,5 +1,5 @@
 -- Texts: bytes up to a byte that ends them.
-use Rattle.std.specs.Prelude.{ℕ, ◌+◌, Bool, not, ◌&&◌, List, ◌++◌, take, drop, ◌==◌}
+use Rattle.std.specs.Prelude.{ℕ, ◌+◌, Bool, not, List, ◌++◌, take, drop, ◌==◌}
 use Rattle.std.specs.Char.{is_ascii_whitespace}
 use Rattle.std.specs.List.{list_any, position_or_len}
 use Rattle.imagesize_source.specs.declared.text.Text.{Text}
@@ -26,11 +26,6 @@ text_front t bs = take (space_before t bs) bs ++ front_through (delimits t) (dro
 -- whether one of the bytes ends the text
 unfoldable pub is_ended : Text → List ℕ → Bool
 is_ended t bs = list_any (delimits t) (drop (space_before t bs) bs)
-
--- whether a byte ends the text; `begun` says whether a byte other than white space came before
-abbrev pub ends : Text → Bool → ℕ → Bool
-ends (Line delimiter) begun b = b == delimiter
-ends Word begun b = begun && is_ascii_whitespace b
 
 -- whether one of the bytes is no white space
 abbrev pub has_begun : List ℕ → Bool

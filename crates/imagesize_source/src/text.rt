@@ -2,7 +2,7 @@
 ghost use Rattle.std.specs.Prelude.{◌≡◌, ◌+◌, ◌++◌, ◌≤◌, not, true, false, None, length, take, drop, IfSome, IsTrue};
 ghost use Rattle.std.specs.List.{list_any, position, position_or_len};
 ghost use Rattle.std.specs.Char.{is_ascii_whitespace};
-ghost use Rattle.imagesize_source.specs.Text.{ends, front_through, has_begun, is_ended, text_front};
+ghost use Rattle.imagesize_source.specs.Text.{front_through, has_begun, is_ended, text_front};
 
 use crate::part::eight_at;
 use crate::search::first_of;
@@ -167,14 +167,4 @@ fn first_white(bytes: &[u8]) -> Option<usize>
     ensures { result ≡ position is_ascii_whitespace bytes.now }
 {
     bytes.iter().position(|byte| byte.is_ascii_whitespace())
-}
-
-/// Whether a byte ends the text. `begun` says whether a byte other than white space came before it.
-pub fn is_end(text: Text, begun: bool, byte: u8) -> bool
-    ensures { result ≡ ends text begun byte }
-{
-    match text {
-        Text::Line { delimiter } => byte == delimiter,
-        Text::Word => begun && byte.is_ascii_whitespace(),
-    }
 }
