@@ -102,15 +102,15 @@ test('which bytes are read next', () => {
 });
 
 const header = readFileSync(new URL('../../../include/imagesize.h', import.meta.url), 'utf8');
-const [STREAM_SIZE, PARTS_SIZE] = ['STREAM', 'PARTS']
+const [STREAM_SIZE, ROUNDS_SIZE] = ['STREAM', 'ROUNDS']
   .map((name) => Number(new RegExp(`^#define IMAGESIZE_${name}_SIZE (\\d+)`, 'm').exec(header)[1]));
 
 // The buffers that a call of the library is passed: where each begins, how many bytes it has, and how it is aligned.
 const BUFFERS = {
-  imagesize_rounds_new: ([parts]) => [[parts, PARTS_SIZE, 8]],
-  imagesize_rounds_supply: ([parts, , bytes, length]) => [[parts, PARTS_SIZE, 8], [bytes, length, 1]],
+  imagesize_rounds_new: ([parts]) => [[parts, ROUNDS_SIZE, 8]],
+  imagesize_rounds_supply: ([parts, , bytes, length]) => [[parts, ROUNDS_SIZE, 8], [bytes, length, 1]],
   imagesize_rounds_answer: ([parts, type, compression, width, height, wanted]) => [
-    [parts, PARTS_SIZE, 8], [type, 4, 4], [compression, 4, 4], [width, 8, 8], [height, 8, 8], [wanted, 16, 8],
+    [parts, ROUNDS_SIZE, 8], [type, 4, 4], [compression, 4, 4], [width, 8, 8], [height, 8, 8], [wanted, 16, 8],
   ],
   imagesize_png_parts_size: ([bytes, length, parts, count, , width, height, wanted]) => [
     [bytes, length, 1], [parts, 16 * count, 8], [width, 8, 8], [height, 8, 8], [wanted, 16, 8],
@@ -140,7 +140,7 @@ test('what the library is passed is aligned, apart, and within its memory', () =
   const wrapped = Object.fromEntries(Object.keys(BUFFERS).map((name) => [name, noted(name)]));
   const library = new Library(compiled, { exports: { ...exports, ...wrapped } });
   const rounds = library.roundsOf(200_000);
-  assert.equal(rounds.length, PARTS_SIZE);
+  assert.equal(rounds.length, ROUNDS_SIZE);
   assert.deepEqual(library.supply(rounds, 0, gif.subarray(0, 5)), { wanted: { start: 5, len: 13 } });
   const [[, total], [, offset, , given]] = passed.splice(0);
   assert.deepEqual([total, offset, given], [200_000, 0, 5]);

@@ -18,7 +18,7 @@ const TEXT_CAPACITY: usize = 128;
 
 /// The sizes in bytes of the memory of a push parser and of a probe over spans, as the header has them.
 pub(crate) const STREAM_SIZE: usize = 1280;
-pub(crate) const PARTS_SIZE: usize = 1280;
+pub(crate) const ROUNDS_SIZE: usize = 1280;
 
 /// No input has more bytes. It is also the length of an input whose length is not known.
 pub(crate) const LONGEST: u64 = i64::MAX as u64;
@@ -47,7 +47,7 @@ pub(crate) struct Stream {
 /// The memory of a probe over spans, which the library alone reads and writes.
 #[repr(C)]
 pub(crate) struct Rounds {
-    opaque: MaybeUninit<[u64; PARTS_SIZE / 8]>,
+    opaque: MaybeUninit<[u64; ROUNDS_SIZE / 8]>,
 }
 
 extern "C" {

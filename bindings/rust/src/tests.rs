@@ -114,12 +114,12 @@ fn statuses_are_those_of_the_header() {
 
 #[test]
 fn the_memory_of_a_probe_has_the_size_of_the_header() {
-    for (name, size) in [("STREAM", sys::STREAM_SIZE), ("PARTS", sys::PARTS_SIZE)] {
+    for (name, size) in [("STREAM", sys::STREAM_SIZE), ("ROUNDS", sys::ROUNDS_SIZE)] {
         let define = format!("#define IMAGESIZE_{name}_SIZE {size}");
         assert!(header_text().lines().any(|line| line == define), "{define}");
     }
     assert_eq!(std::mem::size_of::<sys::Stream>(), sys::STREAM_SIZE);
-    assert_eq!(std::mem::size_of::<sys::Rounds>(), sys::PARTS_SIZE);
+    assert_eq!(std::mem::size_of::<sys::Rounds>(), sys::ROUNDS_SIZE);
     let aligned = std::mem::align_of::<u64>();
     assert_eq!(std::mem::align_of::<sys::Stream>(), aligned);
     assert_eq!(std::mem::align_of::<sys::Rounds>(), aligned);
