@@ -82,11 +82,11 @@ pub(super) fn read_held_text<R: Told>(
     }
 }
 
-/// Reads what the reader holds of the rest of a text from an offset on, of which the buffer has the first `count` bytes. Returns
-/// how many bytes of the text it has then.
+/// Reads what the reader holds of the rest of a text. The text begins at an offset, and the buffer has its first `count` bytes.
+/// Returns how many of its bytes the buffer has then.
 ///
 /// A text often goes on in the next block of a buffered reader. This saves a read for each of its bytes there.
-#[inline(never)]
+#[inline(always)]
 pub(super) fn read_held_rest<R: Told>(
     reader: &R,
     ledger: &mut Ledger,

@@ -7,7 +7,7 @@ ghost use Rattle.imagesize_io.specs.Telling.{account};
 
 use super::Ledger;
 use super::held::{HeldText, read_held_rest, read_held_text};
-use super::windowed::read_on;
+use super::windowed::read_called;
 use crate::Told;
 use imagesize_source::text::ended_behind;
 use imagesize_source::{Halt, Text};
@@ -30,8 +30,8 @@ pub(super) fn read_text<R: Told>(
     }
 }
 
-// Reads the rest of a text of which the buffer has the first `count` bytes: a byte, then all that the reader holds of it after that,
-// and so on. Returns how many bytes the text has. Not inlined, since a buffered reader holds most texts.
+// Reads the rest of a text whose first `count` bytes the buffer has: a byte, then all that the reader holds of it after that, and
+// so on. Returns how many bytes the text has. Not inlined, since a buffered reader holds most texts.
 #[inline(never)]
 fn read_rest<R: Told>(
     reader: &mut R,
@@ -48,7 +48,7 @@ fn read_rest<R: Told>(
 {
     while count < buffer.len() {
         let next = offset.saturating_add(count as u64);
-        if read_on(reader, ledger, next, &mut buffer[count..count + 1])? == 0 {
+        if read_called(reader, ledger, next, &mut buffer[count..count + 1])? == 0 {
             return Ok(count);
         }
         let read = &buffer[..count + 1];

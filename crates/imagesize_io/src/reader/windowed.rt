@@ -87,6 +87,20 @@ pub(super) fn read_on<R: Told>(
     if read_held(reader, ledger, offset, buffer) {
         return Ok(buffer.len());
     }
+    read_called(reader, ledger, offset, buffer)
+}
+
+// Reads from an offset on, where the reader holds no byte.
+#[inline(always)]
+pub(super) fn read_called<R: Told>(
+    reader: &mut R,
+    ledger: &mut Ledger,
+    offset: u64,
+    buffer: &mut [u8],
+) -> Result<usize, Halt>
+    ensures { ReadsOn reader.old reader.new ledger.old ledger.new (account R.telling R.count R.failure reader.old)
+        (account R.telling R.count R.failure reader.new) offset buffer.new result }
+{
     if ledger.progress.told < offset {
         return read_beyond(reader, ledger, offset, buffer);
     }
