@@ -20,14 +20,9 @@ pub const NAMES: [&str; 6] = [
     "strangers",
 ];
 
-/// Runs so many turns of a job on the inputs of a seed, and adds the results to the digest.
-pub fn run(
-    alloc: Global,
-    name: &str,
-    seed: u64,
-    turns: u64,
-    digest: &mut Digest,
-) -> Result<(), AllocError> {
+/// Runs so many turns of a job on the inputs of a seed, and returns the digest of the results.
+pub fn run(alloc: Global, name: &str, seed: u64, turns: u64) -> Result<Digest, AllocError> {
+    let mut digest = Digest::new();
     let mut random = Random::new(seed);
     let mut images = match name {
         "documents" => documents(alloc, &mut random)?,
@@ -38,13 +33,13 @@ pub fn run(
     let mut stamp = random.next();
     for turn in 0..turns {
         for image in &mut images {
-            run_on(alloc, name, image, &mut stamp, digest)?;
+            run_on(alloc, name, image, &mut stamp, &mut digest)?;
             if name == "gallery" && turn % 4 == 0 {
-                slices::probe_buffered(alloc, changed(image, &mut stamp), digest)?;
+                slices::probe_buffered(alloc, changed(image, &mut stamp), &mut digest)?;
             }
         }
     }
-    Ok(())
+    Ok(digest)
 }
 
 // One turn of a job on one input.

@@ -6,8 +6,10 @@ mod readers;
 mod slices;
 
 use crate::results::Results;
+use Call::{Reader, Slice};
 use imagesize::{ImageType, Span, size};
-use readers::{ReaderCall, Wrapped};
+use readers::ReaderCall;
+use readers::Wrapped::{self, Buffer, Cursor, File};
 use slices::SliceCall;
 use std::alloc::Global;
 use std::io;
@@ -42,41 +44,23 @@ pub enum Call {
 
 /// The names of the calls.
 pub const CALLS: [(&str, Call); 35] = [
-    ("type", Call::Slice(SliceCall::Type)),
-    ("size", Call::Slice(SliceCall::Size)),
-    ("spans", Call::Slice(SliceCall::Spans)),
-    ("count", Call::Slice(SliceCall::Count)),
-    ("trace", Call::Slice(SliceCall::Trace)),
-    (
-        "reader_type",
-        Call::Reader(ReaderCall::Type, Wrapped::Cursor),
-    ),
-    (
-        "reader_type_buffered",
-        Call::Reader(ReaderCall::Type, Wrapped::Buffer),
-    ),
-    ("reader", Call::Reader(ReaderCall::Size, Wrapped::Cursor)),
-    ("buffered", Call::Reader(ReaderCall::Size, Wrapped::Buffer)),
-    ("file", Call::Reader(ReaderCall::Size, Wrapped::File)),
+    ("type", Slice(SliceCall::Type)),
+    ("size", Slice(SliceCall::Size)),
+    ("spans", Slice(SliceCall::Spans)),
+    ("count", Slice(SliceCall::Count)),
+    ("trace", Slice(SliceCall::Trace)),
+    ("reader_type", Reader(ReaderCall::Type, Cursor)),
+    ("reader_type_buffered", Reader(ReaderCall::Type, Buffer)),
+    ("reader", Reader(ReaderCall::Size, Cursor)),
+    ("buffered", Reader(ReaderCall::Size, Buffer)),
+    ("file", Reader(ReaderCall::Size, File)),
     ("path", Call::Path),
-    ("probe", Call::Reader(ReaderCall::Probe, Wrapped::Cursor)),
-    (
-        "probe_buffered",
-        Call::Reader(ReaderCall::Probe, Wrapped::Buffer),
-    ),
-    (
-        "by_type",
-        Call::Reader(ReaderCall::SizeByType, Wrapped::Cursor),
-    ),
-    (
-        "by_type_buffered",
-        Call::Reader(ReaderCall::SizeByType, Wrapped::Buffer),
-    ),
-    ("admit", Call::Reader(ReaderCall::Admit, Wrapped::Cursor)),
-    (
-        "admit_buffered",
-        Call::Reader(ReaderCall::Admit, Wrapped::Buffer),
-    ),
+    ("probe", Reader(ReaderCall::Probe, Cursor)),
+    ("probe_buffered", Reader(ReaderCall::Probe, Buffer)),
+    ("by_type", Reader(ReaderCall::SizeByType, Cursor)),
+    ("by_type_buffered", Reader(ReaderCall::SizeByType, Buffer)),
+    ("admit", Reader(ReaderCall::Admit, Cursor)),
+    ("admit_buffered", Reader(ReaderCall::Admit, Buffer)),
     ("stream", Call::Stream(usize::MAX)),
     ("stream_4096", Call::Stream(4_096)),
     ("stream_1400", Call::Stream(1_400)),
@@ -92,11 +76,8 @@ pub const CALLS: [(&str, Call); 35] = [
     ("parts_list", Call::PartsList),
     ("parts_type", Call::PartsType),
     ("parts_by_type", Call::PartsByType),
-    ("png", Call::Slice(SliceCall::PngSize)),
-    (
-        "png_reader",
-        Call::Reader(ReaderCall::PngSize, Wrapped::Cursor),
-    ),
+    ("png", Slice(SliceCall::PngSize)),
+    ("png_reader", Reader(ReaderCall::PngSize, Cursor)),
     ("png_parts", Call::PngParts),
 ];
 
@@ -137,8 +118,8 @@ pub fn make<F: Files + AllocGlobal, R: Results>(
 ) -> io::Result<()> {
     let data = input.data;
     match call {
-        Call::Slice(call) => slices::make(rt.alloc(), call, data, &mut buffers.spans, results)?,
-        Call::Reader(call, wrapped) => readers::make(rt, call, wrapped, input, results)?,
+        Slice(call) => slices::make(rt.alloc(), call, data, &mut buffers.spans, results)?,
+        Reader(call, wrapped) => readers::make(rt, call, wrapped, input, results)?,
         Call::Path => add_size_of_file(rt, input.file, results),
         Call::Stream(length) => chunks::push(data, length, results),
         Call::Rounds => parts::rounds(data, usize::MAX, results),

@@ -23,7 +23,11 @@ fn main(rt: HostRuntime) -> io::Result<()> {
     for _ in 0..turns {
         add_sizes(&rt, &names, &mut digest);
     }
-    let (value, sizes, errors) = (digest.value(), digest.sizes(), digest.errors());
+    let Digest {
+        value,
+        sizes,
+        errors,
+    } = digest;
     println!(rt; "files {value:016x}, {sizes} sizes, {errors} errors")
 }
 

@@ -17,13 +17,11 @@ pub extern "C" fn imagesize_compression_family(
 ) -> u32
     ensures { TellsOf (λ image. family_number (family_of image)) (type_numbered number compression) family.old family.new result }
 {
-    match type_numbered(number, compression) {
-        Some(image) => {
-            *family = family_number(image.compression_family());
-            ANSWERED
-        }
-        None => UNKNOWN_TYPE,
-    }
+    let Some(image) = type_numbered(number, compression) else {
+        return UNKNOWN_TYPE;
+    };
+    *family = family_number(image.compression_family());
+    ANSWERED
 }
 
 /// Whether a type is a texture in one of the block compressions: 1 if it is, and else 0.
@@ -36,13 +34,11 @@ pub extern "C" fn imagesize_is_block_compressed(
 ) -> u32
     ensures { TellsOf (λ image. from_bool (is_block (family_of image))) (type_numbered number compression) answer.old answer.new result }
 {
-    match type_numbered(number, compression) {
-        Some(image) => {
-            *answer = u32::from(image.is_block_compressed());
-            ANSWERED
-        }
-        None => UNKNOWN_TYPE,
-    }
+    let Some(image) = type_numbered(number, compression) else {
+        return UNKNOWN_TYPE;
+    };
+    *answer = u32::from(image.is_block_compressed());
+    ANSWERED
 }
 
 /// Whether a type's container can hold textures of several families: 1 if it can, and else 0.
@@ -54,11 +50,9 @@ pub extern "C" fn imagesize_is_multi_compression_container(
 ) -> u32
     ensures { TellsOf (λ image. from_bool (is_multi_container image)) (type_numbered number compression) answer.old answer.new result }
 {
-    match type_numbered(number, compression) {
-        Some(image) => {
-            *answer = u32::from(image.is_multi_compression_container());
-            ANSWERED
-        }
-        None => UNKNOWN_TYPE,
-    }
+    let Some(image) = type_numbered(number, compression) else {
+        return UNKNOWN_TYPE;
+    };
+    *answer = u32::from(image.is_multi_compression_container());
+    ANSWERED
 }

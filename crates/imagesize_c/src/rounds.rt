@@ -81,7 +81,8 @@ pub unsafe extern "C" fn imagesize_rounds_answer(
     ensures unstopped { is_stop_status result ≡ false }
 
     // The status and what is written are the result of the probe, or the span that it requests.
-    ensures told { TellsNext (next_of held) result number.old number.new compression.old compression.new width.old width.new height.old height.new wanted.old wanted.new }
+    ensures told { TellsNext (next_of held) result number.old number.new compression.old compression.new
+        width.old width.new height.old height.new wanted.old wanted.new }
     ensures* stays { sem 𝓛 (lies_at the_row full_share parts held) }
 {
     answer_by(&*parts, number, compression, width, height, wanted)
@@ -126,7 +127,8 @@ fn answer_by(
     ensures sides { is_answered result ≡ false → (width.new ≡ width.old) × (height.new ≡ height.old) }
     ensures enough { is_wanted result ≡ false → wanted.new ≡ wanted.old }
     ensures unstopped { is_stop_status result ≡ false }
-    ensures told { TellsNext (next_of parts.now) result number.old number.new compression.old compression.new width.old width.new height.old height.new wanted.old wanted.new }
+    ensures told { TellsNext (next_of parts.now) result number.old number.new compression.old compression.new
+        width.old width.new height.old height.new wanted.old wanted.new }
 {
     match parts.answer() {
         PartsAnswer::Found((kind, answer)) => {

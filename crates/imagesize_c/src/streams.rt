@@ -65,7 +65,8 @@ pub unsafe extern "C" fn imagesize_stream_push(
 
     // The bytes came. The status and what is written are the result of the push parser, which keeps it.
     ensures* goes_on { ∃ₛ (λ (after : StreamProbe). sem 𝓛 (lies_at the_row full_share stream after) ∗ ⌜ GoesOn held after bytes.now
-        × TellsProbed (answer_of after) result number.old number.new compression.old compression.new width.old width.new height.old height.new ⌝) }
+        × TellsProbed (answer_of after) result number.old number.new compression.old compression.new
+        width.old width.new height.old height.new ⌝) }
 {
     push_on(&mut *stream, bytes, number, compression, width, height)
 }
@@ -130,7 +131,8 @@ fn push_on(
     ensures sides { is_answered result ≡ false → (width.new ≡ width.old) × (height.new ≡ height.old) }
     ensures unstopped { is_stop_status result ≡ false }
     ensures goes_on { GoesOn stream.old stream.new bytes.now }
-    ensures told { TellsProbed (answer_of stream.new) result number.old number.new compression.old compression.new width.old width.new height.old height.new }
+    ensures told { TellsProbed (answer_of stream.new) result number.old number.new compression.old compression.new
+        width.old width.new height.old height.new }
 {
     match stream.push(bytes) {
         Some((kind, size)) => {

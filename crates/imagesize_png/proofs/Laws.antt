@@ -154,8 +154,9 @@ rises _ _ taken k same few = absurd cc
 
 -- and how far a count rose
 pub png_counts : (telling mid : Option Telling) (count after : Option ℕ) (home : ℕ) (opened : Opened) (a b : State)
-    (r : Result ImageSize Halt) → a ≡ start_state mid count home opened.told → is_some b.failed ≡ true → Opens telling mid (Ok opened)
-    → Runs a b r (png_reads a.held.input opened.offset) → since_of b.frame.backing ≡ drift after b.taken → CountsWithin telling count after png_of
+    (r : Result ImageSize Halt) → a ≡ start_state mid count home opened.told → is_some b.failed ≡ true
+    → Opens telling mid (Ok opened) → Runs a b r (png_reads a.held.input opened.offset)
+    → since_of b.frame.backing ≡ drift after b.taken → CountsWithin telling count after png_of
 png_counts None mid count after home opened a b r start told opens h counted = tt
 png_counts (Some t) mid count after home opened a b r start told opens h counted = λ honest.
     let takes = opened_takes (Some t) mid count home opened b r png_reads told opens

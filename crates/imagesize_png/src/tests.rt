@@ -59,17 +59,22 @@ fn is_fault(answer: &ImageResult<ImageSize>) -> bool {
     matches!(answer, Err(ImageError::IoError(Reason::Fault(_))))
 }
 
+// The size in a slice, in a reader in memory, and in one that gives a byte per read.
+fn sizes(bytes: &[u8]) -> [ImageResult<ImageSize>; 3] {
+    [
+        blob_size(bytes),
+        reader_size(&mut Cursor::new(bytes)),
+        reader_size(&mut Cutting::one_byte(Cursor::new(bytes))),
+    ]
+}
+
 #[test]
 fn the_sides_stand_in_the_image_header(rt: HostRuntime) -> Result<(), Fail> {
     for (bytes, width, height) in SIZED {
         assert!(rt; is_png(bytes));
-        assert_eq!(rt; blob_size(bytes)?, ImageSize { width, height });
-        assert_eq!(rt;
-            reader_size(&mut Cursor::new(bytes))?,
-            ImageSize { width, height }
-        );
-        let mut reader = Cutting::one_byte(Cursor::new(bytes));
-        assert_eq!(rt; reader_size(&mut reader)?, ImageSize { width, height });
+        for size in sizes(bytes) {
+            assert_eq!(rt; size?, ImageSize { width, height });
+        }
     }
     Ok(())
 }
@@ -78,10 +83,7 @@ fn the_sides_stand_in_the_image_header(rt: HostRuntime) -> Result<(), Fail> {
 fn other_bytes_are_no_png(rt: HostRuntime) {
     for bytes in OTHERS {
         assert!(rt; !is_png(bytes));
-        assert!(rt; is_unsupported(&blob_size(bytes)));
-        assert!(rt; is_unsupported(&reader_size(&mut Cursor::new(bytes))));
-        let mut reader = Cutting::one_byte(Cursor::new(bytes));
-        assert!(rt; is_unsupported(&reader_size(&mut reader)));
+        assert!(rt; sizes(bytes).iter().all(is_unsupported));
     }
 }
 
@@ -90,10 +92,7 @@ fn what_is_cut_ends(rt: HostRuntime) {
     for length in 0..PNG.len() {
         let cut = &PNG[..length];
         assert_eq!(rt; is_png(cut), length >= 8);
-        assert!(rt; is_end(&blob_size(cut)));
-        assert!(rt; is_end(&reader_size(&mut Cursor::new(cut))));
-        let mut reader = Cutting::one_byte(Cursor::new(cut));
-        assert!(rt; is_end(&reader_size(&mut reader)));
+        assert!(rt; sizes(cut).iter().all(is_end));
     }
 }
 
@@ -102,10 +101,7 @@ fn a_reader_gives_no_more_than_24_bytes(rt: HostRuntime) -> Result<(), Fail> {
     let mut long = [0u8; 4096];
     long[..24].copy_from_slice(PNG);
     let mut count = 0;
-    let mut reader = Counting {
-        reader: Cursor::new(long.as_slice()),
-        count: &mut count,
-    };
+    let mut reader = Counting::new(Cursor::new(long.as_slice()), &mut count);
     assert_eq!(rt; reader_size(&mut reader)?.height, 480);
     assert!(rt; count <= 24);
     Ok(())

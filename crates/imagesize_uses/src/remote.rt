@@ -74,7 +74,8 @@ pub fn probe_remote<R: Remote>(remote: &mut R) -> Result<Probed, Interrupted>
     ensures stops { Stops (R.last remote.new) result }
 
     // There are at most as many fetches as the spans of the trace cover bytes, each byte counted once.
-    ensures few { R.fetches remote.new ≤ R.fetches remote.old + offsets (length (R.input remote.old)) (meaning (R.input remote.old) 0).marks }
+    ensures few { R.fetches remote.new ≤ R.fetches remote.old
+        + offsets (length (R.input remote.old)) (meaning (R.input remote.old) 0).marks }
 
     // Unless the format stores its size in texts, there are at most as many fetches as the trace has spans.
     ensures rounds { texts_of (R.input remote.old) ≡ false

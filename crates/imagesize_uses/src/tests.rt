@@ -25,6 +25,12 @@ const LONG_JPEG: &[u8] = b"\xFF\xD8\
     \xFF\xE0\0\x02\xFF\xE0\0\x02\xFF\xE0\0\x02\xFF\xE0\0\x02\xFF\xE0\0\x02\xFF\xE0\0\x02\
     \xFF\xC0\0\x11\x08\0\x05\0\x07";
 
+// The size of that JPEG.
+const JPEG_SIZE: ImageSize = ImageSize {
+    width: 7,
+    height: 5,
+};
+
 // A size of equal sides.
 fn square(side: usize) -> ImageSize {
     ImageSize {
@@ -47,7 +53,7 @@ fn a_limited_gate_takes_no_more(rt: HostRuntime) {
     let admission = admit_within(&mut Cursor::new(GIF), 12, 10_000);
     assert!(rt; matches!(admission.verdict, Ok(size) if size == square(100)));
     let admission = admit_within(&mut Cursor::new(LONG_JPEG), LONG_JPEG.len() as u64, 35);
-    assert!(rt; matches!(admission.verdict, Ok(size) if size == ImageSize { width: 7, height: 5 }));
+    assert!(rt; matches!(admission.verdict, Ok(size) if size == JPEG_SIZE));
     let mut limited = Limited {
         reader: &mut Cursor::new(GIF),
         left: 11,
@@ -73,43 +79,21 @@ fn an_upload_gate_ends_once_the_size_is_known(rt: HostRuntime) {
 fn an_upload_gate_decides_at_the_end(rt: HostRuntime) {
     let mut gate = UploadGate::new(None, 10_000);
     assert!(rt; gate.feed(&GIF[..11]).is_none());
-    assert!(rt;
-        matches!(
-            gate.finish(),
-            Err(Rejection::NoSize(ImageError::IoError(Reason::EndOfInput)))
-        )
-    );
+    let Err(Rejection::NoSize(error)) = gate.finish() else {
+        panic!(rt; "a size");
+    };
+    assert!(rt; matches!(error, ImageError::IoError(Reason::EndOfInput)));
 }
 
 #[test]
 fn an_upload_in_chunks_has_its_verdict(rt: HostRuntime) {
     let (first, second) = LONG_JPEG.split_at(70);
     let verdict = admit_chunks(&[first, second], None, 35);
-    assert!(rt;
-        matches!(
-            verdict,
-            Ok(ImageSize {
-                width: 7,
-                height: 5
-            })
-        )
-    );
+    assert!(rt; matches!(verdict, Ok(size) if size == JPEG_SIZE));
     let verdict = admit_chunks(&[first, b"", second], Some(LONG_JPEG.len() as u64), 34);
-    assert!(rt;
-        matches!(
-            verdict,
-            Err(Rejection::TooLarge(ImageSize {
-                width: 7,
-                height: 5
-            }))
-        )
-    );
-    assert!(rt;
-        matches!(
-            admit_chunks(&[first, second], Some(70), 35),
-            Err(Rejection::NoSize(_))
-        )
-    );
+    assert!(rt; matches!(verdict, Err(Rejection::TooLarge(size)) if size == JPEG_SIZE));
+    let verdict = admit_chunks(&[first, second], Some(70), 35);
+    assert!(rt; matches!(verdict, Err(Rejection::NoSize(_))));
 }
 
 #[test]
@@ -179,10 +163,9 @@ fn ilbm_of_chunks<A: Allocator>(alloc: A) -> Result<Vec<u8, A>, AllocError> {
 fn a_remote_input_is_fetched_until_it_is_known(rt: HostRuntime) {
     let mut remote = Held::new(LONG_JPEG, usize::MAX, u64::MAX);
     let probed = probe_remote(&mut remote);
-    assert!(rt;
-        matches!(probed, Ok(probed) if probed.kind == Some(ImageType::Jpeg)
-        && matches!(probed.answer, Ok(ImageSize { width: 7, height: 5 })))
-    );
+    let probed = probed.ok().expect(&rt, "a result");
+    assert_eq!(rt; probed.kind, Some(ImageType::Jpeg));
+    assert!(rt; matches!(probed.answer, Ok(size) if size == JPEG_SIZE));
 }
 
 #[test]
@@ -190,9 +173,8 @@ fn a_remote_input_takes_a_fetch_for_each_record(rt: HostRuntime) -> Result<(), F
     let bytes = ilbm_of_chunks(rt.alloc())?;
     let mut remote = Held::new(&bytes, 1_024, u64::MAX);
     let probed = probe_remote(&mut remote);
-    assert!(rt;
-        matches!(probed, Ok(probed) if matches!(probed.answer, Ok(ImageSize { width: 7, height: 5 })))
-    );
+    let probed = probed.ok().expect(&rt, "a result");
+    assert!(rt; matches!(probed.answer, Ok(size) if size == JPEG_SIZE));
     // one for the type, one for the head of each chunk, and one for each side
     assert_eq!(rt; remote.fetches(), 1 + 1_001 + 2);
     Ok(())

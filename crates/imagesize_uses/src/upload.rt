@@ -59,7 +59,8 @@ impl UploadGate {
         ensures keeps { IfSome (verdict_of self.old) (λ verdict. verdict_of self.new ≡ Some verdict) }
 
         // For each list of bytes that came before:
-        ensures goes_on { (front : List ℕ) → Fed self.old front → Fed self.new (front ++ take (byte_limit self.old - length front) chunk.now) }
+        ensures goes_on { (front : List ℕ) → Fed self.old front
+            → Fed self.new (front ++ take (byte_limit self.old - length front) chunk.now) }
 
         // A verdict is that on every input that begins with these bytes and is no longer than expected.
         ensures says { (front : List ℕ) → Fed self.old front → IfSome result (λ verdict. (d : List ℕ)

@@ -9,17 +9,13 @@ use imagesize_uses::upload::UploadGate;
 /// The verdict of a gate, from chunks of at most so many bytes.
 pub fn gate(bytes: &[u8], most: usize, digest: &mut Digest) {
     let mut gate = UploadGate::new(Some(bytes.len() as u64), 50_000_000);
-    let mut verdict = None;
     for chunk in bytes.chunks(most.max(1)) {
-        verdict = gate.feed(chunk);
-        if verdict.is_some() {
-            break;
+        if let Some(verdict) = gate.feed(chunk) {
+            add_verdict(&verdict, digest);
+            return;
         }
     }
-    match verdict {
-        Some(verdict) => add_verdict(&verdict, digest),
-        None => add_verdict(&gate.finish(), digest),
-    }
+    add_verdict(&gate.finish(), digest);
 }
 
 // Adds a verdict.
@@ -34,17 +30,12 @@ fn add_verdict(verdict: &Result<ImageSize, Rejection>, digest: &mut Digest) {
 /// Type and size of an input of unknown length, from chunks of at most so many bytes.
 pub fn push(bytes: &[u8], most: usize, digest: &mut Digest) {
     let mut probe = StreamProbe::new(None);
-    let mut found = None;
     for chunk in bytes.chunks(most.max(1)) {
-        found = probe.push(chunk);
-        if found.is_some() {
-            break;
+        if let Some((kind, answer)) = probe.push(chunk) {
+            digest.add_found(kind, &answer);
+            return;
         }
     }
-    let (kind, answer) = match found {
-        Some(found) => found,
-        None => probe.finish(),
-    };
-    digest.add_kind(kind);
-    digest.add_answer(&answer);
+    let (kind, answer) = probe.finish();
+    digest.add_found(kind, &answer);
 }

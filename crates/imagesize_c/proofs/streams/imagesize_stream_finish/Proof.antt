@@ -15,45 +15,28 @@ use Rattle.imagesize_c.specs.contracts.streams.finish as g
 use Rattle.imagesize_c.proofs.streams.finish.Met.{met}
 
 abbrev stayed : Stays f.ended.signature.params f.ended.kept
-stayed = (
-  stay_dropped _ yes,
-  (
-    gave_ref (0 ∷ []) tt (plain (λ _. u32)),
-    (
-      gave_ref (1 ∷ []) tt (plain (λ _. u32)),
-      (gave_ref (2 ∷ []) tt (plain (λ _. u64)), (gave_ref (3 ∷ []) tt (plain (λ _. u64)), tt)),
-    ),
-  ),
-)
+stayed =
+    let number = gave_ref {n = 4} (0 ∷ []) tt (plain (λ _. u32)) in
+    let compression = gave_ref {n = 4} (1 ∷ []) tt (plain (λ _. u32)) in
+    let width = gave_ref {n = 4} (2 ∷ []) tt (plain (λ _. u64)) in
+    let height = gave_ref {n = 4} (3 ∷ []) tt (plain (λ _. u64)) in
+    (stay_dropped _ yes, (number, (compression, (width, (height, tt)))))
 
 pub imagesize_stream_finish_spec : {M : Type 1} → statement M
 imagesize_stream_finish_spec 𝓤 𝓛 𝓜 𝓡 wired =
     let c = f.clauses 𝓛 𝓜.mem 𝓡.returns in let W = walk_of 𝓛 f.ended stayed c in let 𝓣 = tables 𝓤 𝓛.H 𝓜 𝓡 𝓡.env in
-    proved 𝓛 f.ended stayed c 𝓜 𝓡 (
-      Goes-dropped 𝓛 4 (plain (λ _. RawPtr)) yes (λ κs x w. refl),
-      (
-        Goes-gave_ref 𝓛 4 0 tt (plain (λ _. u32)),
-        (
-          Goes-gave_ref 𝓛 4 1 tt (plain (λ _. u32)),
-          (
-            Goes-gave_ref 𝓛 4 2 tt (plain (λ _. u64)),
-            (Goes-gave_ref 𝓛 4 3 tt (plain (λ _. u64)), tt),
-          ),
-        ),
-      ),
-    )
+    let pointer = Goes-dropped 𝓛 4 (plain (λ _. RawPtr)) yes (λ κs x w. refl) in
+    let number = Goes-gave_ref 𝓛 4 0 tt (plain (λ _. u32)) in
+    let compression = Goes-gave_ref 𝓛 4 1 tt (plain (λ _. u32)) in
+    let width = Goes-gave_ref 𝓛 4 2 tt (plain (λ _. u64)) in
+    let height = Goes-gave_ref 𝓛 4 3 tt (plain (λ _. u64)) in
+    proved 𝓛 f.ended stayed c 𝓜 𝓡 (pointer, (number, (compression, (width, (height, tt)))))
     f.Key.name code.function (code.unfolded 𝓤 𝓛.H 𝓜 𝓡 wired)
     (λ κs. (rawptr_vals, (mut_vals, (mut_vals, (mut_vals, (mut_vals, tt))))))
-    (λ κs. (
-      rawptr_Tells,
-      (
-        mut_Tells (named 0) κs.0 u32,
-        (
-          mut_Tells (named 1) κs.1.0 u32,
-          (mut_Tells (named 2) κs.1.1.0 u64, (mut_Tells (named 3) κs.1.1.1.0 u64, tt)),
-        ),
-      ),
-    )) (λ κs qs bounds a held are.
+    (λ κs.
+    let number = mut_Tells (named 0) κs.0 u32 in let compression = mut_Tells (named 1) κs.1.0 u32 in
+    let width = mut_Tells (named 2) κs.1.1.0 u64 in let height = mut_Tells (named 3) κs.1.1.1.0 u64 in
+    (rawptr_Tells, (number, (compression, (width, (height, tt)))))) (λ κs qs bounds a held are.
     let number = a.1.0 in let compression = a.1.1.0 in let width = a.1.1.1.0 in let height = a.1.1.1.1.0 in
     let vss : List Val × (List Val × (List Val × (List Val × Unit {0}))) =
     (mut_vals number, (mut_vals compression, (mut_vals width, (mut_vals height, tt)))) in

@@ -17,57 +17,30 @@ use Rattle.imagesize_c.specs.contracts.streams.push_on as g
 use Rattle.imagesize_c.proofs.streams.push_on.Met.{met}
 
 abbrev stayed : Stays f.ended.signature.params f.ended.kept
-stayed = (
-  stay_dropped _ yes,
-  (
-    stay_dropped _ yes,
-    (
-      gave_ref (1 ∷ []) tt (plain (λ _. u32)),
-      (
-        gave_ref (2 ∷ []) tt (plain (λ _. u32)),
-        (
-          gave_ref (3 ∷ []) tt (plain (λ _. u64)),
-          (gave_ref (4 ∷ []) tt (plain (λ _. u64)), tt),
-        ),
-      ),
-    ),
-  ),
-)
+stayed =
+    let number = gave_ref {n = 5} (1 ∷ []) tt (plain (λ _. u32)) in
+    let compression = gave_ref {n = 5} (2 ∷ []) tt (plain (λ _. u32)) in
+    let width = gave_ref {n = 5} (3 ∷ []) tt (plain (λ _. u64)) in
+    let height = gave_ref {n = 5} (4 ∷ []) tt (plain (λ _. u64)) in
+    (stay_dropped _ yes, (stay_dropped _ yes, (number, (compression, (width, (height, tt))))))
 
 pub imagesize_stream_push_spec : {M : Type 1} → statement M
 imagesize_stream_push_spec 𝓤 𝓛 𝓜 𝓡 wired =
     let c = f.clauses 𝓛 𝓜.mem 𝓡.returns in let W = walk_of 𝓛 f.ended stayed c in let 𝓣 = tables 𝓤 𝓛.H 𝓜 𝓡 𝓡.env in
-    proved 𝓛 f.ended stayed c 𝓜 𝓡 (
-      Goes-dropped 𝓛 5 (plain (λ _. RawPtr)) yes (λ κs x w. refl),
-      (
-        Goes-dropped 𝓛 5 (plain (λ κs. ShrSlice (named 0) κs.0 u8)) yes (λ κs x w. refl),
-        (
-          Goes-gave_ref 𝓛 5 1 tt (plain (λ _. u32)),
-          (
-            Goes-gave_ref 𝓛 5 2 tt (plain (λ _. u32)),
-            (Goes-gave_ref 𝓛 5 3 tt (plain (λ _. u64)), (Goes-gave_ref 𝓛 5 4 tt (plain (λ _. u64)), tt)),
-          ),
-        ),
-      ),
-    )
+    let pointer = Goes-dropped 𝓛 5 (plain (λ _. RawPtr)) yes (λ κs x w. refl) in
+    let chunk = Goes-dropped 𝓛 5 (plain (λ κs. ShrSlice (named 0) κs.0 u8)) yes (λ κs x w. refl) in
+    let number = Goes-gave_ref 𝓛 5 1 tt (plain (λ _. u32)) in
+    let compression = Goes-gave_ref 𝓛 5 2 tt (plain (λ _. u32)) in
+    let width = Goes-gave_ref 𝓛 5 3 tt (plain (λ _. u64)) in
+    let height = Goes-gave_ref 𝓛 5 4 tt (plain (λ _. u64)) in
+    proved 𝓛 f.ended stayed c 𝓜 𝓡 (pointer, (chunk, (number, (compression, (width, (height, tt))))))
     f.Key.name code.function (code.unfolded 𝓤 𝓛.H 𝓜 𝓡 wired)
     (λ κs. (rawptr_vals, (shr_slice_vals, (mut_vals, (mut_vals, (mut_vals, (mut_vals, tt)))))))
-    (λ κs. (
-      rawptr_Tells,
-      (
-        shr_slice_Tells (named 0) κs.0 u8,
-        (
-          mut_Tells (named 1) κs.1.0 u32,
-          (
-            mut_Tells (named 2) κs.1.1.0 u32,
-            (
-              mut_Tells (named 3) κs.1.1.1.0 u64,
-              (mut_Tells (named 4) κs.1.1.1.1.0 u64, tt),
-            ),
-          ),
-        ),
-      ),
-    )) (λ κs qs bounds a held are.
+    (λ κs.
+    let chunk = shr_slice_Tells (named 0) κs.0 u8 in let number = mut_Tells (named 1) κs.1.0 u32 in
+    let compression = mut_Tells (named 2) κs.1.1.0 u32 in let width = mut_Tells (named 3) κs.1.1.1.0 u64 in
+    let height = mut_Tells (named 4) κs.1.1.1.1.0 u64 in
+    (rawptr_Tells, (chunk, (number, (compression, (width, (height, tt))))))) (λ κs qs bounds a held are.
     let chunk = a.1.0 in let number = a.1.1.0 in let compression = a.1.1.1.0 in let width = a.1.1.1.1.0 in
     let height = a.1.1.1.1.1.0 in
     let vss : List Val × (List Val × (List Val × (List Val × (List Val × Unit {0})))) = (
