@@ -68,10 +68,9 @@ def plain(text):
 
 
 def declared(header):
-    """The functions that the header declares, with result and parameters. A name that is a macro for another is replaced by it."""
-    others = dict(re.findall(r"#define (imagesize_\w+) (imagesize_\w+)", header))
+    """The functions that the header declares, with result and parameters."""
     found = re.findall(r"(uint32_t|void) (\w+)\(([^)]*)\);", header)
-    functions = {others.get(name, name): [result, *map(str.strip, listed.split(","))] for result, name, listed in found}
+    functions = {name: [result, *map(str.strip, listed.split(","))] for result, name, listed in found}
     assert len(found) == len(functions) == header.count(");"), "a function is declared twice, or in a form that is not read"
     return functions
 

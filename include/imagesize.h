@@ -64,7 +64,7 @@ enum imagesize_status {
     IMAGESIZE_BUFFER_TOO_SMALL = 27, /* the result has more items than the buffer */
     IMAGESIZE_UNKNOWN_TYPE = 28, /* no type has these numbers */
     IMAGESIZE_UNKNOWN_STATUS = 29, /* no status has this number */
-    IMAGESIZE_BYTES_WANTED = 30 /* more bytes of the input are needed; only calls over parts and imagesize_stream_push return it */
+    IMAGESIZE_BYTES_WANTED = 30 /* more bytes of the input are needed; only calls over parts, of rounds and of streams return it */
 };
 
 /* The types of images. Each comment begins with the usual name, and ends with the MIME type, if there is one, and the extension. */

@@ -283,7 +283,7 @@ void imagesize_rounds_supply(imagesize_rounds *parts, uint64_t offset, const uin
 }
 
 uint32_t imagesize_rounds_answer(const imagesize_rounds *parts, uint32_t *type, uint32_t *compression, uint64_t *width, uint64_t *height,
-                                imagesize_span *wanted)
+                                 imagesize_span *wanted)
 {
     instance in;
     uint32_t status;

@@ -84,12 +84,12 @@ _probe = _LIBRARY.imagesize_probe
 _parts_type = _LIBRARY.imagesize_parts_type
 _spans = _LIBRARY.imagesize_spans
 _png = _LIBRARY.imagesize_png_parts_size
-_parts_supply = _LIBRARY.imagesize_rounds_supply
+_rounds_supply = _LIBRARY.imagesize_rounds_supply
 _stream_new = _LIBRARY.imagesize_stream_new
 _QUICK = ctypes.PyDLL(_LIBRARY._name)  # for calls over few bytes, which are over before another thread would run
 _probe_few = _QUICK.imagesize_parts_probe
-_parts_new = _QUICK.imagesize_rounds_new
-_parts_answer = _QUICK.imagesize_rounds_answer
+_rounds_new = _QUICK.imagesize_rounds_new
+_rounds_answer = _QUICK.imagesize_rounds_answer
 _stream_push = _QUICK.imagesize_stream_push
 _stream_finish = _QUICK.imagesize_stream_finish
 
@@ -225,16 +225,16 @@ class Rounds:
 
     def __init__(self, total: int) -> None:
         self.state = _State()
-        _parts_new(self.state, ctypes.c_uint64(total))
+        _rounds_new(self.state, ctypes.c_uint64(total))
 
     def supply(self, start: int, data: bytes) -> None:
         """Passes the bytes from an offset on."""
-        _parts_supply(self.state, ctypes.c_uint64(start), data, ctypes.c_size_t(len(data)))
+        _rounds_supply(self.state, ctypes.c_uint64(start), data, ctypes.c_size_t(len(data)))
 
     def answer(self) -> Told:
         """Type and size of the image. The status is `BYTES_WANTED` if another span is needed."""
         buffer = _buffer(0, 0)
-        told = _parts_answer(self.state, *buffer.told), buffer.read()
+        told = _rounds_answer(self.state, *buffer.told), buffer.read()
         _BUFFERS.append(buffer)
         return told
 

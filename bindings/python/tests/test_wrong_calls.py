@@ -235,7 +235,7 @@ class Buffers(unittest.TestCase):
             for form in forms:
                 begun, supplied, answered = (
                     self.passed(call, lambda: self.assertEqual(imagesize.probe(form).size, (7, 5)))
-                    for call in ("_parts_new", "_parts_supply", "_parts_answer")
+                    for call in ("_rounds_new", "_rounds_supply", "_rounds_answer")
                 )
                 self.assertEqual([total for _, total in begun], [len(image)])
                 blocks = [(0, 4096), (65536, 4096), (131072, len(image) - 131072)]

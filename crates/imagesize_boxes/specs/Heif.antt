@@ -149,7 +149,10 @@ property_or_answer held offset (Some property) = done (Next property (offset + p
 
 -- the properties from an offset on, in a box of `all` bytes (ISO/IEC 23008-12, 9.3)
 abbrev pub properties : ℕ → ℕ → Chain Property ImageSize
-properties all offset = record { first = offset; said = λ held q. bind (property_at (all - sum_by skipped_bytes held) q) (property_or_answer held q) }
+properties all offset = record {
+  first = offset;
+  said = λ held q. bind (property_at (all - sum_by skipped_bytes held) q) (property_or_answer held q);
+}
 
 -- `iprp` contains `ipco`, which holds the properties (ISO/IEC 23008-12, 9.3)
 abbrev pub heif_in_iprp : FoundBox → List ℕ → Reads ImageSize

@@ -56,7 +56,8 @@ width_by ratio height =
 -- after the height: a ratio, or 0 and then the width itself
 abbrev pub width_side : Bool → Side → Fields Side
 width_side small height = bits height.end 3 (λ ratio.
-    if ratio == 0 then side_fields small (height.end + 3) else found (record { length = width_by ratio height.length; end = height.end + 3 }))
+    if ratio == 0 then side_fields small (height.end + 3)
+    else found (record { length = width_by ratio height.length; end = height.end + 3 }))
 
 -- After the size (ImageMetadata): everything is default, or extra fields begin with the orientation. An orientation
 -- of 5 to 8, stored less one, exchanges the width and the height.
@@ -70,7 +71,8 @@ abbrev pub jxl_header : Fields ImageSize
 jxl_header = bits 16 1 (λ small.
     bind_fields (side_fields (small == 1) 17) (λ height.
     bind_fields (width_side (small == 1) height) (λ width.
-    bind_fields (exchanges_sides width.end) (λ exchanged. found (exchange_if exchanged (record { width = width.length; height = height.length }))))))
+    bind_fields (exchanges_sides width.end)
+    (λ exchanged. found (exchange_if exchanged (record { width = width.length; height = height.length }))))))
 
 -- the size from the first bytes of a codestream
 unfoldable pub jxl_size : List ℕ → Result ImageSize Halt

@@ -18,7 +18,7 @@ pub const UNKNOWN_TYPE: u32 = 28;
 /// No status has the number that was passed.
 pub const UNKNOWN_STATUS: u32 = 29;
 
-/// A call over parts of an input needs another part.
+/// The call needs more bytes of the input.
 pub const BYTES_WANTED: u32 = 30;
 
 /// The status of an error.

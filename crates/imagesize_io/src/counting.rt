@@ -64,7 +64,8 @@ impl<'a> CountingSource<'a> {
     fn pays(&mut self, offset: u64, count: usize) -> bool
         requires there { 0 < count → offset + count ≤ length self.old.bytes.now }
         ensures bytes { self.new.bytes.now ≡ self.old.bytes.now }
-        ensures paid { result ≡ true → IsPaid self.old.front self.old.left self.old.position self.new.front self.new.left self.new.position offset count }
+        ensures paid { result ≡ true
+            → IsPaid self.old.front self.old.left self.old.position self.new.front self.new.left self.new.position offset count }
         ensures spent { result ≡ false → IsSpent self.old.front self.old.left self.new.left offset count }
     {
         if offset <= self.front {

@@ -76,7 +76,7 @@ impl<R: Read + Seek + Drop> FileReader<R> {
         }
     }
 
-    /// The block, for the reader of another file. This one is closed.
+    /// Closes the file, and returns the block for the reader of the next one.
     pub fn into_block(self) -> Block {
         self.block
     }

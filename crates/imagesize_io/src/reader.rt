@@ -220,7 +220,8 @@ pub fn open<R: Told>(reader: &mut R, origin: Origin) -> ImageResult<Opened>
 #[inline(always)]
 pub fn settle<R: Told>(reader: &mut R, left: Option<u64>)
     ensures stays { left ≡ None → reader.new ≡ reader.old }
-    ensures seeks { IfSome left (λ position. (r : Result ℕ Error) × SeekTells (R.telling reader.old) (R.telling reader.new) (SeekFrom.Start position) r) }
+    ensures seeks { IfSome left (λ position. (r : Result ℕ Error)
+        × SeekTells (R.telling reader.old) (R.telling reader.new) (SeekFrom.Start position) r) }
     ensures counts { R.count reader.new ≡ R.count reader.old }
 {
     if let Some(position) = left {

@@ -182,8 +182,8 @@ impl<R: Read + Seek + Drop> Told for BufReader<R> {
 #[inline(always)]
 fn read_buffered<R: Read>(reader: &mut BufReader<R>, buffer: &mut [u8]) -> Option<usize>
     ensures bound { IfSome result (λ n. n ≤ length buffer.new) }
-    ensures reads { IfSome result (λ n. ReadConsumes {E = Stop} (reader_remaining R.remaining reader.old) (reader_remaining R.remaining reader.new)
-        (Ok n) buffer.new) }
+    ensures reads { IfSome result (λ n. ReadConsumes {E = Stop} (reader_remaining R.remaining reader.old)
+        (reader_remaining R.remaining reader.new) (Ok n) buffer.new) }
     ensures stays { result ≡ None → reader.new ≡ reader.old }
 {
     let count = buffer.len();

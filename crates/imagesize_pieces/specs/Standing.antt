@@ -10,5 +10,6 @@ use Rattle.imagesize_pieces.specs.declared.stand.Stand.{Stand}
 abbrev pub Stands : {C X : Type 0} → ℕ → (List C → ℕ → Layout (Said C X)) → (List C → ℕ → Type 0) → Stand → List ℕ → (List ℕ → Reads X)
     → List ℕ → Type 0
 Stands first said keeps stand buffer whole front =
-    Streams first said (λ held. keeps held stand.offset) stand.start stand.offset stand.told stand.passed (take (stand.passed - stand.start) buffer)
+    Streams first said (λ held. keeps held stand.offset) stand.start stand.offset stand.told stand.passed
+    (take (stand.passed - stand.start) buffer)
     whole front

@@ -21,7 +21,8 @@ abbrev pub Reach : {X : Type 0} → ℕ → ℕ → Layout X → Type 0
 Reach low high (done x) = Unit {0}
 Reach low high (refuse e) = Unit {0}
 Reach low high (field order offset n f) = (low ≤ offset) × (offset + n ≤ high) × ((v : ℕ) → Reach low high (f v))
-Reach low high (reading r offset f) = (low ≤ offset) × (offset + most r ≤ high) × ((bs : List ℕ) → length bs ≤ most r → Reach low high (f bs))
+Reach low high (reading r offset f) =
+    (low ≤ offset) × (offset + most r ≤ high) × ((bs : List ℕ) → length bs ≤ most r → Reach low high (f bs))
 Reach low high (begin_record t) = Reach low high t
 
 -- each offset of the spans is below n

@@ -216,7 +216,8 @@ impl<'a> StreamSource<'a> {
     fn gather_at(&mut self, offset: u64, buffer: &mut [u8]) -> Option<usize>
         ensures bound { IfSome result (λ n. n ≤ length buffer.new) }
         ensures there { IfSome result (λ n. n ≤ self.old.told - offset) }
-        ensures runs { Runs (stream_state self.old.told self.old.start self.old.kept.now self.old.chunk.now self.old.log.spans self.old.missed)
+        ensures runs { Runs
+            (stream_state self.old.told self.old.start self.old.kept.now self.old.chunk.now self.old.log.spans self.old.missed)
             (stream_state self.new.told self.new.start self.new.kept.now self.new.chunk.now self.new.log.spans self.new.missed)
             (map_answer (λ n. take n buffer.new) (ok_or result Halt.Failed))
             (part_read (stream_input self.old.told self.old.start self.old.kept.now self.old.chunk.now) offset (length buffer.new)) }
@@ -239,7 +240,8 @@ impl<'a> StreamSource<'a> {
         requires { is_ended text (take (length buffer.old) (run_at self.old.start self.old.kept.now self.old.chunk.now offset)) ≡ false }
         ensures bound { IfSome result (λ n. n ≤ length buffer.new) }
         ensures there { IfSome result (λ n. n ≤ self.old.told - offset) }
-        ensures runs { Runs (stream_state self.old.told self.old.start self.old.kept.now self.old.chunk.now self.old.log.spans self.old.missed)
+        ensures runs { Runs
+            (stream_state self.old.told self.old.start self.old.kept.now self.old.chunk.now self.old.log.spans self.old.missed)
             (stream_state self.new.told self.new.start self.new.kept.now self.new.chunk.now self.new.log.spans self.new.missed)
             (map_answer (λ n. take n buffer.new) (ok_or result Halt.Failed))
             (text_read (stream_input self.old.told self.old.start self.old.kept.now self.old.chunk.now) text offset (length buffer.new)) }
@@ -289,7 +291,8 @@ impl<'a> StreamSource<'a> {
             ≡ false }
         requires short { length known.now < min most (self.old.told - offset) }
         requires open { is_ended text known.now ≡ false }
-        ensures { Runs {X = List ℕ} (stream_state self.old.told self.old.start self.old.kept.now self.old.chunk.now self.old.log.spans self.old.missed)
+        ensures { Runs {X = List ℕ}
+            (stream_state self.old.told self.old.start self.old.kept.now self.old.chunk.now self.old.log.spans self.old.missed)
             (stream_state self.new.told self.new.start self.new.kept.now self.new.chunk.now self.new.log.spans self.new.missed)
             (Err Halt.Failed)
             (text_read (stream_input self.old.told self.old.start self.old.kept.now self.old.chunk.now) text offset most) }

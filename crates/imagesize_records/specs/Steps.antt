@@ -55,7 +55,10 @@ names_of long = if long then 256 else 32
 -- The record after a word of a portable bitmap. A comment may end with its first word. The first other word is the
 -- width.
 abbrev pub word_leads : WordRead → Awaited
-word_leads w = if is_comment w.text then (if w.ended_by == 0x0A then Word else Comment) else if is_blank w.text then Word else Height (number_text w.text)
+word_leads w =
+    if is_comment w.text then (if w.ended_by == 0x0A then Word else Comment)
+    else if is_blank w.text then Word
+    else Height (number_text w.text)
 
 abbrev pub word_step : ℕ → WordRead → Layout (Said Awaited ImageSize)
 word_step offset w = done (Next (word_leads w) (offset + w.taken))
@@ -109,8 +112,10 @@ step (Height width) offset = word offset (height_step width)
 step (Icon count seen largest) offset =
     bind (icon_in count seen largest offset) (after (λ size. Icon count (seen + 1) (later_largest largest size)) decides)
 step (Directory header) offset = field header.order offset (count_bytes header.version)
-    (λ count. done (Next (Entry (record { header = header; count = count; seen = 0; width = None; height = None })) (offset + count_bytes header.version)))
-step (Entry l) offset = bind (entry_behind l.header l.count l.seen l.width l.height offset) (after (λ entry. Entry (listed_with l entry)) decides)
+    (λ count. done (Next (Entry (record { header = header; count = count; seen = 0; width = None; height = None }))
+    (offset + count_bytes header.version)))
+step (Entry l) offset =
+    bind (entry_behind l.header l.count l.seen l.width l.height offset) (after (λ entry. Entry (listed_with l entry)) decides)
 step Meta offset = bind (searched_box (codes "meta") offset) (after (λ _. Meta) (meta_leads offset))
 step Iprp offset = bind (searched_box (codes "iprp") offset) (after (λ _. Iprp) (iprp_leads offset))
 step Ipco offset = bind (searched_box (codes "ipco") offset) (after (λ _. Ipco) (ipco_leads offset))

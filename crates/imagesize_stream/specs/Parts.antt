@@ -22,7 +22,8 @@ MayBe parts d = MayBeAt parts.probe.stage parts.probe.kind parts.probe.stand par
 abbrev pub total_of : PartsProbe → ℕ
 total_of parts = told_of parts.probe
 
-abbrev pub found_or_next : Option (Option ImageType × Result ImageSize ImageError) → Stand → PartsAnswer (Option ImageType × Result ImageSize ImageError)
+abbrev pub found_or_next : Option (Option ImageType × Result ImageSize ImageError) → Stand
+    → PartsAnswer (Option ImageType × Result ImageSize ImageError)
 found_or_next (Some found) stand = Found found
 found_or_next None stand = Wanted (record { start = stand.passed; len = stand.end - stand.passed })
 

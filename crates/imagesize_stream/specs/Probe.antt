@@ -39,7 +39,8 @@ TypedBy (Done size) kind front told = Unit {0}
 abbrev pub CameBy : Stage → Option ImageType → ℕ → ℕ → ℕ → ℕ → List ℕ → List ℕ → Type 0
 CameBy First kind start offset passed told buffer front = (take passed buffer ≡ front) × TypeSays front told kind
 CameBy (Records next) kind start offset passed told buffer front =
-    TypeIs front told kind × Streams 0 awaited_said (λ held. Awaits (texts_by kind) next held offset) start offset told passed (take (passed - start) buffer)
+    TypeIs front told kind
+    × Streams 0 awaited_said (λ held. Awaits (texts_by kind) next held offset) start offset told passed (take (passed - start) buffer)
     (λ d. meaning_reads d 0) front
 CameBy (Footer size) kind start offset passed told buffer front =
     (passed ≡ length front) × (take 18 buffer ≡ drop (length front - 18) front) × TypeSays front told kind

@@ -14,7 +14,8 @@ pub fn probe_two(
     first: &[u8],
     second: &[u8],
 ) -> (Option<ImageType>, ImageResult<ImageSize>)
-    ensures kind { result.0 ≡ result_ok (kind_of (take (min (unwrap_or total (2 ^ 63 - 1)) (2 ^ 63 - 1)) (first.now ++ second.now)) 0).answer }
+    ensures kind { result.0
+        ≡ result_ok (kind_of (take (min (unwrap_or total (2 ^ 63 - 1)) (2 ^ 63 - 1)) (first.now ++ second.now)) 0).answer }
     ensures size { result.1 ≡ (meaning (take (min (unwrap_or total (2 ^ 63 - 1)) (2 ^ 63 - 1)) (first.now ++ second.now)) 0).answer }
 {
     let mut probe = StreamProbe::new(total);

@@ -36,7 +36,8 @@ use imagesize_types::size::ImageSize;
 #[derive(Drop)]
 pub struct PartsProbe {
     probe: StreamProbe,
-    ghost next: { IsNext probe.stage probe.stand } by { next_prop probe.stage probe.stand.start probe.stand.passed probe.stand.end probe.stand.told },
+    ghost next: { IsNext probe.stage probe.stand } by { next_prop probe.stage probe.stand.start probe.stand.passed probe.stand.end
+        probe.stand.told },
 }
 
 impl PartsProbe {

@@ -79,8 +79,8 @@ type Made = (u32, u32);
 
 // An input, the offset of its first byte, its type, and what is made for the type, for type and size, and for the size alone.
 //
-// A call asks for the offset and for the length once each, and one that detects the type goes back to the offset once. Each
-// read then seeks if the reader is at another offset, and reads once, unless the window has the bytes.
+// A call asks for the offset and for the length once each. One that detects the type goes back to the offset once. Each read then
+// seeks if the reader is at another offset, and reads once, unless the window has the bytes.
 static MADE: [(&[u8], u64, ImageType, Made, Made, Made); 5] = [
     (GIF, 0, ImageType::Gif, (1, 3), (1, 3), (2, 3)),
     (GIF_BEHIND, 4, ImageType::Gif, (1, 3), (3, 4), (2, 3)),

@@ -141,7 +141,8 @@ side_with tag side entry = if entry.tag == tag then entry.value else side
 -- what an entry says after entries that give this width and this height
 abbrev pub entry_says : Header → Option ℕ → Option ℕ → ℕ → Entry → Layout (Said Entry ImageSize)
 entry_says header width height offset entry =
-    done (size_or_next (size_if_known (side_with 0x100 width entry) (side_with 0x101 height entry)) entry (offset + entry_bytes header.version))
+    done (size_or_next (size_if_known (side_with 0x100 width entry) (side_with 0x101 height entry)) entry
+    (offset + entry_bytes header.version))
 
 -- the record after `seen` entries, which give this width and this height
 abbrev pub entry_behind : Header → ℕ → ℕ → Option ℕ → Option ℕ → ℕ → Layout (Said Entry ImageSize)

@@ -224,8 +224,8 @@ pub(super) fn read_from<R: Told>(
     offset: u64,
     buffer: &mut [u8],
 ) -> Result<usize, Halt>
-    ensures reads { ReadsFrom progress.old progress.new (stand (R.telling reader.old) progress.old) (stand (R.telling reader.new) progress.new)
-        (account R.telling R.count R.failure reader.old)
+    ensures reads { ReadsFrom progress.old progress.new (stand (R.telling reader.old) progress.old)
+        (stand (R.telling reader.new) progress.new) (account R.telling R.count R.failure reader.old)
         (account R.telling R.count R.failure reader.new) offset buffer.new result }
     ensures offset { IfOk result (λ n. offset ≤ progress.old.told → progress.new.offset ≡ min (offset + n) (2 ^ 64 - 1)) }
 {

@@ -116,7 +116,7 @@ pub(super) fn read_held_rest<R: Told>(
     }
 }
 
-// Copies held bytes from an offset on into the buffer, as far as they fit, and returns how many.
+// Reads held bytes from an offset on: copies them as far as they fit, keeps the first ones, and counts them. Returns how many.
 #[inline(always)]
 fn read_part(ledger: &mut Ledger, offset: u64, bytes: &[u8], buffer: &mut [u8]) -> usize
     requires { ledger.old.progress.taken + length bytes.now ≤ ledger.old.progress.budget }

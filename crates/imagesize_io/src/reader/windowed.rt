@@ -65,8 +65,8 @@ fn read_across<R: Told>(
     offset: u64,
     buffer: &mut [u8],
 ) -> Result<usize, Halt>
-    ensures reads { ReadsFrom progress.old progress.new (stand (R.telling reader.old) progress.old) (stand (R.telling reader.new) progress.new)
-        (account R.telling R.count R.failure reader.old)
+    ensures reads { ReadsFrom progress.old progress.new (stand (R.telling reader.old) progress.old)
+        (stand (R.telling reader.new) progress.new) (account R.telling R.count R.failure reader.old)
         (account R.telling R.count R.failure reader.new) offset buffer.new result }
     ensures offset { IfOk result (λ n. offset ≤ progress.old.told → progress.new.offset ≡ min (offset + n) (2 ^ 64 - 1)) }
 {
@@ -90,7 +90,7 @@ pub(super) fn read_on<R: Told>(
     read_called(reader, ledger, offset, buffer)
 }
 
-// Reads from an offset on, where the reader holds no byte.
+/// Reads from an offset on, without a look at the bytes that the reader holds.
 #[inline(always)]
 pub(super) fn read_called<R: Told>(
     reader: &mut R,

@@ -93,8 +93,8 @@ impl<'a, S: Claims> HeldSource<'a, S> {
         }
     }
 
-    // The bytes from an offset on. `None` if they begin after it, or end before it. Texts are read by it: by the one test of `whole`, a
-    // long line costs more.
+    // The bytes from an offset on. `None` if they begin after it, or end before it. Texts are read by it. With the one test of `whole`,
+    // a long line would cost more.
     #[inline(always)]
     fn from(&self, offset: u64) -> Option<&'a [u8]>
         ensures ahead { IfSome result (λ _. self.now.start ≤ offset) }
