@@ -5,12 +5,9 @@ use imagesize::{ImageError, ImageResult, ImageSize, ImageType, Span};
 /// A digest of the numbers that were added so far.
 #[derive(Drop)]
 pub struct Digest {
-    /// The digest as a number.
-    pub value: u64,
-    /// How many sizes were added.
-    pub sizes: u64,
-    /// How many errors were added.
-    pub errors: u64,
+    value: u64,
+    sizes: u64,
+    errors: u64,
 }
 
 impl Digest {
@@ -21,6 +18,21 @@ impl Digest {
             sizes: 0,
             errors: 0,
         }
+    }
+
+    /// The digest as a number.
+    pub fn value(&self) -> u64 {
+        self.value
+    }
+
+    /// How many sizes were added.
+    pub fn sizes(&self) -> u64 {
+        self.sizes
+    }
+
+    /// How many errors were added.
+    pub fn errors(&self) -> u64 {
+        self.errors
     }
 
     /// Adds a number.
@@ -43,12 +55,6 @@ impl Digest {
                 self.add(number_of(error));
             }
         }
-    }
-
-    /// Adds a type, if there is one, and a size or an error.
-    pub fn add_found(&mut self, kind: Option<ImageType>, answer: &ImageResult<ImageSize>) {
-        self.add_kind(kind);
-        self.add_answer(answer);
     }
 
     /// Adds a type, if there is one.

@@ -266,43 +266,48 @@ pub fn tiff(alloc: Global, random: &mut Random) -> Result<Image, AllocError> {
     Ok(image)
 }
 
-// An image with these bytes before its stamp and after it, and with noise for its pixels.
-fn stamped(
-    alloc: Global,
-    random: &mut Random,
-    before: &[u8],
-    after: &[u8],
-) -> Result<Image, AllocError> {
+/// A WebP in one of its three forms.
+pub fn webp(alloc: Global, random: &mut Random) -> Result<Image, AllocError> {
     let mut image = Image::new(alloc);
-    image.add(before)?;
-    image.add_stamp()?;
-    image.add(after)?;
+    image.add(b"RIFF\xF8\x0F\0\0WEBPVP8")?;
+    match random.between(0, 3) {
+        0 => {
+            image.add(b" \xE8\x0F\0\0\x30\x01\0\x9D\x01\x2A")?;
+            image.add(&[0x7C])?;
+            image.add_stamp()?;
+        }
+        1 => {
+            image.add(b"L\xE8\x0F\0\0\x2F")?;
+            image.add_stamp()?;
+        }
+        _ => {
+            image.add(b"X\x0A\0\0\0\x10\0\0\0")?;
+            image.add_stamp()?;
+            image.add(&[4, 0])?;
+        }
+    }
     image.add_noise(random, 2_000)?;
     Ok(image)
 }
 
-/// A WebP in one of its three forms.
-pub fn webp(alloc: Global, random: &mut Random) -> Result<Image, AllocError> {
-    let (before, after): (&[u8], &[u8]) = match random.between(0, 3) {
-        0 => (
-            b"RIFF\xF8\x0F\0\0WEBPVP8 \xE8\x0F\0\0\x30\x01\0\x9D\x01\x2A\x7C",
-            b"",
-        ),
-        1 => (b"RIFF\xF8\x0F\0\0WEBPVP8L\xE8\x0F\0\0\x2F", b""),
-        _ => (b"RIFF\xF8\x0F\0\0WEBPVP8X\x0A\0\0\0\x10\0\0\0", &[4, 0]),
-    };
-    stamped(alloc, random, before, after)
-}
-
 /// A GIF.
 pub fn gif(alloc: Global, random: &mut Random) -> Result<Image, AllocError> {
-    stamped(alloc, random, b"GIF89a", b"\xF7\0\0")
+    let mut image = Image::new(alloc);
+    image.add(b"GIF89a")?;
+    image.add_stamp()?;
+    image.add(b"\xF7\0\0")?;
+    image.add_noise(random, 2_000)?;
+    Ok(image)
 }
 
 /// A PSD.
 pub fn psd(alloc: Global, random: &mut Random) -> Result<Image, AllocError> {
-    let before = b"8BPS\0\x01\0\0\0\0\0\0\0\x03";
-    stamped(alloc, random, before, b"\0\0\x07\x80\0\x08\0\x03")
+    let mut image = Image::new(alloc);
+    image.add(b"8BPS\0\x01\0\0\0\0\0\0\0\x03")?;
+    image.add_stamp()?;
+    image.add(b"\0\0\x07\x80\0\x08\0\x03")?;
+    image.add_noise(random, 2_000)?;
+    Ok(image)
 }
 
 /// An icon of one to ten images.
@@ -323,18 +328,25 @@ pub fn icon(alloc: Global, random: &mut Random, entries: u32) -> Result<Image, A
 
 /// A BMP.
 pub fn bmp(alloc: Global, random: &mut Random) -> Result<Image, AllocError> {
-    let before = b"BM\x36\x10\x0E\0\0\0\0\0\x36\0\0\0\x28\0\0\0";
-    stamped(alloc, random, before, b"\xE0\x01\0\0\x01\0\x18\0")
+    let mut image = Image::new(alloc);
+    image.add(b"BM\x36\x10\x0E\0\0\0\0\0\x36\0\0\0\x28\0\0\0")?;
+    image.add_stamp()?;
+    image.add(b"\xE0\x01\0\0\x01\0\x18\0")?;
+    image.add_noise(random, 2_000)?;
+    Ok(image)
 }
 
 /// A PNG, which is no type of this library, or a page of text.
 pub fn other(alloc: Global, random: &mut Random) -> Result<Image, AllocError> {
-    let before: &[u8] = if random.between(0, 2) == 0 {
-        b"\x89PNG\r\n\x1A\n\0\0\0\rIHDR"
+    let mut image = Image::new(alloc);
+    if random.between(0, 2) == 0 {
+        image.add(b"\x89PNG\r\n\x1A\n\0\0\0\rIHDR")?;
     } else {
-        b"<!doctype html>\n<html>\n<head><title>"
-    };
-    stamped(alloc, random, before, b"")
+        image.add(b"<!doctype html>\n<html>\n<head><title>")?;
+    }
+    image.add_stamp()?;
+    image.add_noise(random, 2_000)?;
+    Ok(image)
 }
 
 /// A portable pixmap, with a comment as image editors write it, or without one.
@@ -406,60 +418,76 @@ fn add_attribute(
 
 /// A texture in a container with its sides at fixed offsets. `which` chooses the container.
 pub fn texture(alloc: Global, random: &mut Random, which: u32) -> Result<Image, AllocError> {
-    let (before, after): (&[u8], &[u8]) = match which % 10 {
-        0 => return dds(alloc, random, true),
-        1 => return dds(alloc, random, false),
-        2 => (
-            b"\xABKTX 20\xBB\r\n\x1A\n\x91\0\0\0\x01\0\0\0",
-            b"\0\x02\0\0",
-        ),
-        3 => return pvr(alloc, random),
-        4 => (b"PKM 20\0\x01\x02\0\x01\0", b""),
-        5 => (b"PKM 20\x16\x0A\x02\0\x01\0", b""),
-        6 => (b"\x13\xAB\xA1\x5C\x06\x06\x01", b"\0\x02\x01\0\0"),
-        7 => (b"VTF\0\x07\0\0\0\x02\0\0\0\x50\0\0\0", b""),
-        8 => (b"\0\0\x02\0\0\0\0\0\0\0\0\0", b"\x20\x08"),
-        _ => return tga_with_footer(alloc, random),
-    };
-    stamped(alloc, random, before, after)
-}
-
-// A DDS with the header of DX10, or of DXT5.
-fn dds(alloc: Global, random: &mut Random, is_dx10: bool) -> Result<Image, AllocError> {
     let mut image = Image::new(alloc);
-    image.add(b"DDS |\0\0\0\x07\x10\0\0")?;
-    image.add_stamp()?;
-    image.add(b"\0\x04\0\0")?;
-    image.add_noise(random, 64)?;
-    if is_dx10 {
-        image.add(b"DX10")?;
-        image.add_noise(random, 40)?;
-        image.add_u32_le(random.between(95, 100))?;
-    } else {
-        image.add(b"DXT5")?;
+    match which % 10 {
+        0 => {
+            image.add(b"DDS |\0\0\0\x07\x10\0\0")?;
+            image.add_stamp()?;
+            image.add(b"\0\x04\0\0")?;
+            image.add_noise(random, 64)?;
+            image.add(b"DX10")?;
+            image.add_noise(random, 40)?;
+            image.add_u32_le(random.between(95, 100))?;
+        }
+        1 => {
+            image.add(b"DDS |\0\0\0\x07\x10\0\0")?;
+            image.add_stamp()?;
+            image.add(b"\0\x04\0\0")?;
+            image.add_noise(random, 64)?;
+            image.add(b"DXT5")?;
+        }
+        2 => {
+            image.add(b"\xABKTX 20\xBB\r\n\x1A\n\x91\0\0\0\x01\0\0\0")?;
+            image.add_stamp()?;
+            image.add(b"\0\x02\0\0")?;
+        }
+        3 => {
+            image.add(b"PVR\x03\0\0\0\0")?;
+            image.add_u32_le(random.between(0, 30))?;
+            image.add(b"\0\0\0\0\0\0\0\0\0\0\0\0")?;
+            image.add_stamp()?;
+            image.add(b"\0\x02\0\0")?;
+        }
+        4 => {
+            image.add(b"PKM 20\0\x01\x02\0\x01\0")?;
+            image.add_stamp()?;
+        }
+        5 => {
+            image.add(b"PKM 20\x16\x0A\x02\0\x01\0")?;
+            image.add_stamp()?;
+        }
+        6 => {
+            image.add(b"\x13\xAB\xA1\x5C\x06\x06\x01")?;
+            image.add_stamp()?;
+            image.add(b"\0\x02\x01\0\0")?;
+        }
+        7 => {
+            image.add(b"VTF\0\x07\0\0\0\x02\0\0\0\x50\0\0\0")?;
+            image.add_stamp()?;
+        }
+        8 => {
+            image.add(b"\0\0\x02\0\0\0\0\0\0\0\0\0")?;
+            image.add_stamp()?;
+            image.add(b"\x20\x08")?;
+        }
+        _ => {
+            image.add(b"\0\0\x0A\0\0\0\0\0\0\0\0\0")?;
+            image.add_stamp()?;
+            image.add(b"\x18\0")?;
+            image.add_noise(random, 2_000)?;
+            return image.with_footer();
+        }
     }
     image.add_noise(random, 2_000)?;
     Ok(image)
 }
 
-// A PVR.
-fn pvr(alloc: Global, random: &mut Random) -> Result<Image, AllocError> {
-    let mut image = Image::new(alloc);
-    image.add(b"PVR\x03\0\0\0\0")?;
-    image.add_u32_le(random.between(0, 30))?;
-    image.add(&[0; 12])?;
-    image.add_stamp()?;
-    image.add(b"\0\x02\0\0")?;
-    image.add_noise(random, 2_000)?;
-    Ok(image)
-}
-
-// A TGA that ends with its footer.
-fn tga_with_footer(alloc: Global, random: &mut Random) -> Result<Image, AllocError> {
-    let before = b"\0\0\x0A\0\0\0\0\0\0\0\0\0";
-    let mut image = stamped(alloc, random, before, b"\x18\0")?;
-    image.add(b"\0\0\0\0\0\0\0\0TRUEVISION-XFILE.\0")?;
-    Ok(image)
+impl Image {
+    // The same with the footer of a TGA.
+    fn with_footer(mut self) -> Result<Image, AllocError> {
+        self.add(b"\0\0\0\0\0\0\0\0TRUEVISION-XFILE.\0")?;
+        Ok(self)
+    }
 }
 
 /// An input of a stranger: `records` of the smallest records that a format has, and no size. `which` chooses the format.

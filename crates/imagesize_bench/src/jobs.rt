@@ -20,9 +20,14 @@ pub const NAMES: [&str; 6] = [
     "strangers",
 ];
 
-/// Runs so many turns of a job on the inputs of a seed, and returns the digest of the results.
-pub fn run(alloc: Global, name: &str, seed: u64, turns: u64) -> Result<Digest, AllocError> {
-    let mut digest = Digest::new();
+/// Runs so many turns of a job on the inputs of a seed, and adds the results to the digest.
+pub fn run(
+    alloc: Global,
+    name: &str,
+    seed: u64,
+    turns: u64,
+    digest: &mut Digest,
+) -> Result<(), AllocError> {
     let mut random = Random::new(seed);
     let mut images = match name {
         "documents" => documents(alloc, &mut random)?,
@@ -33,13 +38,13 @@ pub fn run(alloc: Global, name: &str, seed: u64, turns: u64) -> Result<Digest, A
     let mut stamp = random.next();
     for turn in 0..turns {
         for image in &mut images {
-            run_on(alloc, name, image, &mut stamp, &mut digest)?;
+            run_on(alloc, name, image, &mut stamp, digest)?;
             if name == "gallery" && turn % 4 == 0 {
-                slices::probe_buffered(alloc, changed(image, &mut stamp), &mut digest)?;
+                slices::probe_buffered(alloc, changed(image, &mut stamp), digest)?;
             }
         }
     }
-    Ok(digest)
+    Ok(())
 }
 
 // One turn of a job on one input.

@@ -11,6 +11,7 @@ mod jobs;
 mod random;
 
 use crate::digest::Digest;
+use std::alloc::{AllocError, Global};
 use std::{env, io};
 
 fn main(rt: HostRuntime) -> io::Result<()> {
@@ -23,11 +24,8 @@ fn main(rt: HostRuntime) -> io::Result<()> {
     let turns = number(words.next().as_ref());
     for name in jobs::NAMES {
         if job.as_str() == name || job.as_str() == "all" {
-            let Digest {
-                value,
-                sizes,
-                errors,
-            } = jobs::run(rt.alloc(), name, seed, turns)?;
+            let digest = run(rt.alloc(), name, seed, turns)?;
+            let (value, sizes, errors) = (digest.value(), digest.sizes(), digest.errors());
             println!(rt; "{name} {value:016x}, {sizes} sizes, {errors} errors")?;
         }
     }
@@ -40,4 +38,11 @@ fn number(word: Option<&String>) -> u64 {
         Some(word) => word.as_str().parse::<u64>().unwrap_or(0),
         None => 0,
     }
+}
+
+// The digest of a job's results.
+fn run(alloc: Global, name: &str, seed: u64, turns: u64) -> Result<Digest, AllocError> {
+    let mut digest = Digest::new();
+    jobs::run(alloc, name, seed, turns, &mut digest)?;
+    Ok(digest)
 }

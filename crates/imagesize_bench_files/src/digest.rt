@@ -5,12 +5,9 @@ use imagesize::{ImageError, ImageResult, ImageSize};
 /// A digest of the results that were added so far, and their numbers.
 #[derive(Drop)]
 pub struct Digest {
-    /// The digest as a number.
-    pub value: u64,
-    /// How many sizes were added.
-    pub sizes: u64,
-    /// How many errors were added.
-    pub errors: u64,
+    value: u64,
+    sizes: u64,
+    errors: u64,
 }
 
 impl Digest {
@@ -21,6 +18,21 @@ impl Digest {
             sizes: 0,
             errors: 0,
         }
+    }
+
+    /// The digest as a number.
+    pub fn value(&self) -> u64 {
+        self.value
+    }
+
+    /// How many sizes were added.
+    pub fn sizes(&self) -> u64 {
+        self.sizes
+    }
+
+    /// How many errors were added.
+    pub fn errors(&self) -> u64 {
+        self.errors
     }
 
     /// Adds a size or an error.

@@ -23,11 +23,7 @@ fn main(rt: HostRuntime) -> io::Result<()> {
     for _ in 0..turns {
         add_sizes(&rt, &names, &mut digest);
     }
-    let Digest {
-        value,
-        sizes,
-        errors,
-    } = digest;
+    let (value, sizes, errors) = (digest.value(), digest.sizes(), digest.errors());
     println!(rt; "files {value:016x}, {sizes} sizes, {errors} errors")
 }
 

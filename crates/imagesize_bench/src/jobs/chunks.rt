@@ -9,13 +9,17 @@ use imagesize_uses::upload::UploadGate;
 /// The verdict of a gate, from chunks of at most so many bytes.
 pub fn gate(bytes: &[u8], most: usize, digest: &mut Digest) {
     let mut gate = UploadGate::new(Some(bytes.len() as u64), 50_000_000);
+    let mut verdict = None;
     for chunk in bytes.chunks(most.max(1)) {
-        if let Some(verdict) = gate.feed(chunk) {
-            add_verdict(&verdict, digest);
-            return;
+        verdict = gate.feed(chunk);
+        if verdict.is_some() {
+            break;
         }
     }
-    add_verdict(&gate.finish(), digest);
+    match verdict {
+        Some(verdict) => add_verdict(&verdict, digest),
+        None => add_verdict(&gate.finish(), digest),
+    }
 }
 
 // Adds a verdict.
@@ -30,12 +34,17 @@ fn add_verdict(verdict: &Result<ImageSize, Rejection>, digest: &mut Digest) {
 /// Type and size of an input of unknown length, from chunks of at most so many bytes.
 pub fn push(bytes: &[u8], most: usize, digest: &mut Digest) {
     let mut probe = StreamProbe::new(None);
+    let mut found = None;
     for chunk in bytes.chunks(most.max(1)) {
-        if let Some((kind, answer)) = probe.push(chunk) {
-            digest.add_found(kind, &answer);
-            return;
+        found = probe.push(chunk);
+        if found.is_some() {
+            break;
         }
     }
-    let (kind, answer) = probe.finish();
-    digest.add_found(kind, &answer);
+    let (kind, answer) = match found {
+        Some(found) => found,
+        None => probe.finish(),
+    };
+    digest.add_kind(kind);
+    digest.add_answer(&answer);
 }

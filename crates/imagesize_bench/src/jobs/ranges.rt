@@ -9,7 +9,8 @@ use imagesize_uses::remote::{Held, probe_remote};
 pub fn remote(bytes: &[u8], digest: &mut Digest) {
     let mut held = Held::new(bytes, bytes.len(), u64::MAX);
     if let Ok(probed) = probe_remote(&mut held) {
-        digest.add_found(probed.kind, &probed.answer);
+        digest.add_kind(probed.kind);
+        digest.add_answer(&probed.answer);
     }
     digest.add(held.fetches());
 }
@@ -20,7 +21,8 @@ pub fn blocks(bytes: &[u8], block: usize, digest: &mut Digest) {
     for _ in 0..=bytes.len() {
         match probe.answer() {
             PartsAnswer::Found((kind, answer)) => {
-                digest.add_found(kind, &answer);
+                digest.add_kind(kind);
+                digest.add_answer(&answer);
                 return;
             }
             PartsAnswer::Wanted(span) => {
@@ -40,7 +42,8 @@ pub fn front(bytes: &[u8], most: usize, digest: &mut Digest) {
     }];
     match parts_probe(front, &spans, bytes.len() as u64) {
         PartsAnswer::Found((kind, answer)) => {
-            digest.add_found(kind, &answer);
+            digest.add_kind(kind);
+            digest.add_answer(&answer);
         }
         PartsAnswer::Wanted(span) => digest.add_spans(&[span]),
     }

@@ -23,7 +23,8 @@ pub fn probe_buffered(alloc: Global, bytes: &[u8], digest: &mut Digest) -> Resul
         return Err(AllocError);
     };
     let probed = reader_probe(&mut reader);
-    digest.add_found(probed.kind, &probed.answer);
+    digest.add_kind(probed.kind);
+    digest.add_answer(&probed.answer);
     digest.add(probed.taken);
     Ok(())
 }
@@ -47,7 +48,8 @@ fn add_queries(kind: ImageType, digest: &mut Digest) {
 /// The spans that type and size depend on, in new memory.
 pub fn trace(alloc: Global, bytes: &[u8], digest: &mut Digest) -> Result<(), AllocError> {
     let trace = blob_trace(alloc, bytes)?;
-    digest.add_found(trace.kind, &trace.answer);
+    digest.add_kind(trace.kind);
+    digest.add_answer(&trace.answer);
     digest.add_spans(&trace.spans);
     Ok(())
 }
