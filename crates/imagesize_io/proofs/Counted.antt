@@ -1,5 +1,5 @@
 -- What a read of bytes in memory does to their count.
-use Rattle.std.proofs.Common.{◌≡◌, ℕ, ◌+◌, ◌^◌, ◌<◌, ◌≤◌, List, length, take, Option, None, Result, Ok, Err, refl, sym, ap, ◌∙◌, arith}
+use Rattle.std.proofs.Common.{◌≡◌, ℕ, ◌+◌, ◌^◌, ◌<◌, ◌≤◌, List, length, take, Option, None, Result, Ok, Err, IfOk, IfErr, refl, sym, ap, ◌∙◌, arith}
 use Rattle.std.specs.Prelude.{option_map}
 use Rattle.std.specs.declared.io.Error.{Error}
 use Rattle.std.specs.declared.io.traits.SeekFrom.TheVariants.{Start}
@@ -12,13 +12,14 @@ use Rattle.imagesize_io.specs.Telling.{SeekTells, Telling, at_offset}
 use Rattle.imagesize_io.specs.declared.reader.Opened.{Opened}
 use Rattle.imagesize_source.proofs.Counts.{total-span_at}
 use Rattle.imagesize_source.specs.Input.{span_at}
-use Rattle.imagesize_source.specs.Reading.{Reads, text_part, text_read}
+use Rattle.imagesize_source.specs.Reading.{Reads, map_answer, text_part, text_read}
 use Rattle.imagesize_source.specs.State.{Runs}
+use Rattle.imagesize_source.specs.declared.halt.Halt.{Halt}
 use Rattle.imagesize_source.specs.declared.halt.Halt.TheVariants.{Spent}
 use Rattle.imagesize_source.specs.declared.text.Text.{Text}
 
 -- a read whose bytes were counted
-pub paid_runs : (d got : List ℕ) (reads : Reads (List ℕ)) (front left place front' left' place' offset n : ℕ) → length d < 2 ^ 63
+paid_runs : (d got : List ℕ) (reads : Reads (List ℕ)) (front left place front' left' place' offset n : ℕ) → length d < 2 ^ 63
     → left ≤ length d + 64 → reads.answer ≡ Ok got → reads.marks ≡ span_at offset n
     → IsPaid front left place front' left' place' offset n
     → Runs (counting_state d front left place) (counting_state d front' left' place') (Ok got) reads
@@ -26,10 +27,21 @@ paid_runs d got reads front left place front' left' place' offset n short within
     let past = past-span (counting_state d front left place) offset n (refl, refl) in grind (arith, total-span_at)
 
 -- a read that the budget does not have
-pub spent_runs : (d : List ℕ) (reads : Reads (List ℕ)) (front left place front' left' place' offset n : ℕ) → length d < 2 ^ 63
+spent_runs : (d : List ℕ) (reads : Reads (List ℕ)) (front left place front' left' place' offset n : ℕ) → length d < 2 ^ 63
     → left ≤ length d + 64 → reads.marks ≡ span_at offset n → IsSpent front left left' offset n
     → Runs {X = List ℕ} (counting_state d front left place) (counting_state d front' left' place') (Err Spent) reads
 spent_runs d reads front left place front' left' place' offset n short within marks spent = grind (arith, total-span_at)
+
+-- a read of which the bytes were counted, if the budget has them
+pub counted : (d buffer : List ℕ) (reads : Reads (List ℕ)) (r : Result ℕ Halt) (front left place front' left' place' offset n : ℕ)
+    → length d < 2 ^ 63 → left ≤ length d + 64 → reads.answer ≡ Ok (take n buffer) → reads.marks ≡ span_at offset n
+    → IfOk r (λ k. (k ≡ n) × IsPaid front left place front' left' place' offset n)
+    → IfErr r (λ halt. (halt ≡ Spent) × IsSpent front left left' offset n)
+    → Runs (counting_state d front left place) (counting_state d front' left' place') (map_answer (λ k. take k buffer) r) reads
+counted d buffer reads (Ok k) front left place front' left' place' offset n short within is marks paid spent =
+    rw paid.0 (paid_runs d (take n buffer) reads front left place front' left' place' offset n short within is marks paid.1)
+counted d buffer reads (Err halt) front left place front' left' place' offset n short within is marks paid spent =
+    rw spent.0 (spent_runs d reads front left place front' left' place' offset n short within marks spent.1)
 
 -- the span of a text
 pub text_marks : (d buffer : List ℕ) (t : Text) (offset n : ℕ) → take n buffer ≡ text_part d t offset (length buffer)

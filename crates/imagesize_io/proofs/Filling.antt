@@ -7,14 +7,14 @@ use borrow.Rule.Slice.PartMut.{put_mid}
 use Rattle.imagesize_source.specs.declared.halt.Halt.{Halt}
 use Rattle.imagesize_io.specs.declared.progress.Progress.{Progress}
 use Rattle.imagesize_source.specs.Input.{part}
-use Rattle.imagesize_io.specs.Standing.{Standing, advance_standing, behind, stand, ReadsOnce, Fills, KeepsCounts, drift}
+use Rattle.imagesize_io.specs.Standing.{Standing, behind, stand, ReadsOnce, Fills, KeepsCounts, drift}
 use Rattle.imagesize_io.specs.Telling.{Account}
 
 -- so many bytes of the buffer are the next of the bytes that the reader stood at first
 abbrev pub Filled : Option Standing → Option Standing → ℕ → List ℕ → Type 0
 Filled None now filled buffer = Unit {0}
 Filled (Some s) now filled buffer =
-    (now ≡ Some (advance_standing s filled)) × (take filled buffer ≡ part s.bytes s.offset filled) ×
+    (now ≡ Some (record s { offset = s.offset + filled })) × (take filled buffer ≡ part s.bytes s.offset filled) ×
     (filled ≤ length s.bytes - s.offset)
 
 -- the reads so far

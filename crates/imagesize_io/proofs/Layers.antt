@@ -96,10 +96,10 @@ module _ {old new : Ledger} {a b : Account} {offset at : ℕ} {whole more : List
         bound = fits;
         pays = λ some far.
             (read.pays (omega (arith, far, copy.behind)) (omega (arith, some, far, copy.behind, copy.small)), limit);
-        keeps = read.keeps;
+        keeps = read.keeps.counts;
         runs = λ home.
-            let frame = same_frame a b home old.progress new.progress read.keeps read.since read.behind in
-            part_runs old new a b home offset m whole fits frame read.keeps.taken (λ s k.
+            let frame = same_frame a b home old.progress new.progress read.keeps.counts read.keeps.since read.keeps.behind in
+            part_runs old new a b home offset m whole fits frame read.keeps.counts.taken (λ s k.
             let w : List ℕ = old.window.items in
             let gives = rw k.at.is at read.stand in
             let grows = grown w new.window.items s.bytes (take n more) offset at m n copy.small k.fits copy.behind sum gives.1
@@ -116,12 +116,12 @@ module _ {old new : Ledger} {a b : Account} {offset at : ℕ} {whole more : List
   stops_behind {halt} read = record {
     bound = tt;
     pays = tt;
-    keeps = read.keeps;
+    keeps = read.keeps.counts;
     runs = λ home.
         let sound = reader_sound a home old.progress old.window.items in
         let sound_after = reader_sound b home new.progress new.window.items in
         let known = claims a.telling old.progress old.window.items in
-        let frame = same_frame a b home old.progress new.progress read.keeps read.since read.behind in
+        let frame = same_frame a b home old.progress new.progress read.keeps.counts read.keeps.since read.keeps.behind in
         grind (arith, total_there, kept_fault);
   }
 

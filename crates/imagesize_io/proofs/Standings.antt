@@ -5,9 +5,8 @@ use Rattle.std.specs.Prelude.{IsSomeAnd}
 use Rattle.imagesize_source.specs.declared.halt.Halt.{Halt}
 use Rattle.imagesize_io.specs.declared.progress.Progress.{Progress}
 use Rattle.imagesize_source.specs.Input.{part}
-use Rattle.std.specs.declared.io.Error.{Error}
 use Rattle.imagesize_io.specs.Telling.{Account, Telling}
-use Rattle.imagesize_io.specs.Standing.{Standing, behind, behind_of, drift, steady, stand, Fills, GivesAll, GoesTo, GivesFrom, KeepsCounts, ReadsFrom, Tries}
+use Rattle.imagesize_io.specs.Standing.{Standing, behind, steady, stand, Fills, GivesAll, GoesTo, GivesFrom, Keeps, ReadsFrom, Tries}
 
 -- what the numbers say about a reader that stands somewhere
 pub record StandsAt (telling : Option Telling) (p : Progress) (s : Standing) : Type 0 where
@@ -38,9 +37,8 @@ reached first mid last offset at now old new b buffer r goes on here gives withi
 -- A read from an offset on goes there, and reads on until the buffer is full.
 module _ {old mid : Progress} {a m b : Account} {offset : ℕ} {there : Bool} {buffer : List ℕ}
     (goes : GoesTo (stand a.telling old) (stand m.telling mid) offset mid.offset (Ok there)) (on : there ≡ true)
-    (asked : mid.offset ≡ offset) (taken : mid.taken ≡ old.taken) (since : drift m.count mid.taken ≡ drift a.count old.taken)
-    (same : behind m.telling mid ≡ behind a.telling old) (calm : mid.fault ≡ old.fault) (place : mid.position ≡ old.position)
-    (keeps : KeepsCounts old mid) where
+    (asked : mid.offset ≡ offset) (taken : mid.taken ≡ old.taken) (place : mid.position ≡ old.position)
+    (keeps : Keeps old mid a m (Ok there)) where
   pub fills_there : {new : Progress} {n : ℕ} (q : ℕ)
       → Fills mid new (stand m.telling mid) (stand b.telling new) m b buffer (Ok n)
       → (0 < n → q ≡ new.offset) → (n ≡ 0 → q ≡ new.position)
@@ -56,12 +54,16 @@ module _ {old mid : Progress} {a m b : Account} {offset : ℕ} {there : Bool} {b
       there buffer (Err e) goes on (λ t is. (stands_at b.telling new t is).offset) h.stand (rw taken at h.within) in grind (arith, all)
 
 -- the tries of a read so far
-pub record Retried (first now : Option Telling) (count count' : Option ℕ) (old new : ℕ)
-    (fault fault' : Option Error) : Type 0 where
-  pub behind : (told : ℕ) → behind_of told new fault' now ≡ behind_of told old fault first
-  pub calm : fault' ≡ fault
-  pub steady : steady now new ≡ steady first old
+pub record Retried (first now : Option Telling) (count count' : Option ℕ) (old new : Progress) : Type 0 where
+  pub told : new.told ≡ old.told
+  pub budget : new.budget ≡ old.budget
+  pub taken : new.taken ≡ old.taken
+  pub offset : new.offset ≡ old.offset
+  pub position : new.position ≡ old.position
+  pub behind : behind now new ≡ behind first old
+  pub calm : new.fault ≡ old.fault
+  pub steady : steady now new.retries ≡ steady first old.retries
   pub counts : count' ≡ count
-  pub tried : old ≤ new
-  pub limit : old ≤ 64 → new ≤ 64
-  pub tries : Tries first old now new
+  pub tried : old.retries ≤ new.retries
+  pub limit : old.retries ≤ 64 → new.retries ≤ 64
+  pub tries : Tries first old.retries now new.retries

@@ -1,7 +1,7 @@
 -- Reads of a text, one after another, are one read of it, and no byte after it is read.
-use Rattle.std.proofs.Common.{◌≡◌, ◌≢◌, ℕ, zero, suc, ◌+◌, ◌-◌, ◌^◌, ◌<◌, ◌≤◌, min, Bool, true, false, List, [], ◌∷◌, ◌++◌, length, take, drop, Result, Ok, Err, IfErr, None, refl, sym, ap, ◌∙◌, subst, arith, add-zero}
+use Rattle.std.proofs.Common.{◌≡◌, ◌≢◌, ℕ, ◌+◌, ◌-◌, ◌^◌, ◌<◌, ◌≤◌, min, Bool, true, false, List, [], ◌∷◌, ◌++◌, length, take, drop, Result, Ok, Err, IfErr, None, refl, sym, ap, ◌∙◌, subst, arith}
 use Rattle.std.proofs.lemmas.Bool.Decides.{nat_tests}
-use Rattle.std.proofs.lemmas.List.{length-append, length-drop, length-take, take-append-drop, take-append-le, take_all, take_at}
+use Rattle.std.proofs.lemmas.List.{append-nil, length-append, length-drop, length-take, take-append-drop, take-append-le, take_all, take_at}
 use Rattle.std.proofs.Math.Seq.{take-append-add}
 use Rattle.imagesize_source.specs.declared.halt.Halt.{Halt}
 use Rattle.imagesize_source.specs.declared.text.Text.{Text}
@@ -16,7 +16,7 @@ use Rattle.imagesize_source.proofs.Parts.{part_front, part_length, part_none}
 use Rattle.imagesize_source.proofs.Runs.{part_is, past-past, runs_then, total-append}
 use Rattle.imagesize_source.proofs.Texts.{at_once, begins, cut, ended_is, front_all, front_any, front_front, front_is, front_more, front_take, goes_behind}
 use Rattle.imagesize_io.specs.declared.reader.Ledger.{Ledger}
-use Rattle.imagesize_io.specs.declared.reader.held.HeldText.TheVariants.{Part}
+use Rattle.imagesize_io.specs.declared.reader.held.HeldText.TheVariants.{Whole, Part}
 use Rattle.imagesize_io.specs.Held.{IsWhole}
 use Rattle.imagesize_io.specs.ReaderState.{ReadsAt, ReadsText, reader_state}
 use Rattle.imagesize_io.specs.Rest.{GoesOn, ReadsMore, ReadsRest}
@@ -76,12 +76,6 @@ open_none t = ended_is t []
 pub nothing_read : {l : Ledger} {a : Account} (offset : ℕ) → ReadsAt l l a a offset [] (Ok 0)
 nothing_read offset = reads_none [] (omega arith) (λ some. absurd (omega (arith, some))) (omega arith) (λ s k. part_none _ offset)
 
--- held bytes, if there are any
-pub held_if : {old new : Ledger} {a : Account} {offset n : ℕ} (buffer : List ℕ) → (n ≡ 0 → new ≡ old)
-    → (0 < n → ReadsAt old new a a offset (take n buffer) (Ok n)) → ReadsAt old new a a offset (take n buffer) (Ok n)
-held_if {offset = offset} {n = zero} buffer none reads = rw (none refl) (nothing_read offset)
-held_if {n = suc n} buffer none reads = reads (omega arith)
-
 -- a text that some bytes do not end has a byte after them, where there is one
 cut_some : (p : ℕ → Bool) (begun : Bool) (bs : List ℕ) → min 1 (length bs) ≤ length (cut p begun bs)
 cut_some p begun [] = omega arith
@@ -93,10 +87,11 @@ front_some t xs ys none =
     let on = goes_behind (delimits t) (at_once t) xs ys (sym (ended_is t xs) ∙ none) in
     omega (arith, ap length (front_is t (xs ++ ys) ∙ on.1), length-append xs (cut (delimits t) begun ys), cut_some (delimits t) begun ys)
 
--- a whole text has a byte
-pub whole_some : (t : Text) (bs : List ℕ) → IsWhole t bs → 0 < length bs
-whole_some t [] whole = absurd (omega (arith, front_some t [] (0 ∷ []) (open_none t), ap length (whole (0 ∷ []))))
-whole_some t (b ∷ bs) whole = omega arith
+-- a text that ends in the bytes after its first ones has one of them
+pub ends_some : (t : Text) (xs ys : List ℕ) (n : ℕ) → is_ended t xs ≡ false → is_ended t (xs ++ ys) ≡ true
+    → length xs + n ≡ length (text_front t (xs ++ ys)) → 0 < n
+ends_some t xs [] n none ended long = absurd (let same = ap (is_ended t) (append-nil xs) in cc)
+ends_some t xs (y ∷ ys) n none ended long = omega (arith, front_some t xs (y ∷ ys) none, long)
 
 -- the bytes up to the end of a text are a whole text
 pub whole_front : (t : Text) (xs ys : List ℕ) (n : ℕ) → is_ended t (xs ++ ys) ≡ true → length xs + n ≡ length (text_front t (xs ++ ys))
@@ -280,15 +275,19 @@ none_read {l} {a} {offset} {count} buffer fits =
     let long : length (take count buffer) ≡ count = omega (arith, length-take count buffer, fits) in
     record { bound = fits; onward = omega (arith, long); reads = λ before c done. rw long at done }
 
--- held bytes, if there are any
-pub held_more : {old new : Ledger} {a : Account} {offset here count n : ℕ} {first : List ℕ} (rest post : List ℕ)
-    → length first ≡ count → n ≤ length rest → offset < 2 ^ 64 → here ≡ min (offset + count) (2 ^ 64 - 1)
-    → (n ≡ 0 → new ≡ old) → (0 < n → ReadsAt old new a a here (take n rest) (Ok n))
-    → GoesOn old new a a offset first (first ++ (rest ++ post)) (count + n)
-held_more {old} {a = a} {offset} {count = count} {n = zero} {first} rest post long fits short here_is none reads =
-    let same : take count (first ++ (rest ++ post)) ≡ first = take_at first (rest ++ post) count long in
-    rw (none refl, add-zero count) (rw same at (none_read {l = old} {a = a} {offset = offset} {count = count} (first ++ (rest ++ post)) (omega (arith, length-append first (rest ++ post), long))))
-held_more {n = suc n} rest post long fits short here_is none reads = more_read rest post long fits short here_is (omega arith) (reads (omega arith))
+-- a whole text that is held
+pub held_whole : {old new : Ledger} {a b : Account} {t : Text} {offset n : ℕ} (buffer : List ℕ)
+    → ReadsMore old new a b t offset [] buffer (Whole n) → ReadsText old new a b t offset buffer (Ok n)
+held_whole {a = a} {offset = offset} buffer held =
+    text_whole buffer held.0.bound (held.0.reads _ a (nothing_read offset)) held.1
+
+-- the first bytes of a text that are held, and then its rest
+pub held_part : {old mid new : Ledger} {a b c : Account} {t : Text} {offset n : ℕ} {r : Result ℕ Halt} (buffer after : List ℕ)
+    → ReadsMore old mid a b t offset [] buffer (Part n) → ReadsRest mid new b c t offset (take n buffer) after r
+    → ReadsText old new a c t offset after r
+held_part {a = a} {offset = offset} {n} buffer after held rest =
+    let long : length (take n buffer) ≡ n = omega (arith, length-take n buffer, held.0.bound) in
+    rest _ a (rw long (held.0.reads _ a (nothing_read offset)))
 
 -- reads that go on after other reads
 pub then_on : {old mid new : Ledger} {a m b : Account} {offset n k : ℕ} {first : List ℕ} (buffer more : List ℕ)

@@ -1,5 +1,5 @@
 -- What a reader of a file holds, and where it goes.
-use Rattle.std.specs.Prelude.{◌≡◌, ◌≢◌, ℕ, List, take, Option, None, Some, Result, Ok, Err}
+use Rattle.std.specs.Prelude.{◌≡◌, ◌≢◌, ℕ, List, take, Option, Some, Ok}
 use Rattle.std.specs.Io.KnownBytes.{Keeps}
 use Rattle.std.specs.Io.Seek.{SeekMoves}
 use Rattle.std.specs.declared.io.Error.{Error}
@@ -17,8 +17,3 @@ IsSoughtTo position bytes old new at offset =
     (at ≡ Some offset → new ≡ old)
     × (at ≢ Some offset → Keeps (bytes old) (bytes new)
     × ((there : ℕ) × SeekMoves {E = Error} (position old) (position new) (bytes old) (Start offset) (Ok there)))
-
--- the offset after a seek is the one that it returned
-abbrev pub sought_offset : {E : Type 0} → Result ℕ E → Option ℕ
-sought_offset (Ok n) = Some n
-sought_offset (Err e) = None

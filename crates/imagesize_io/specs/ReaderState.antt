@@ -8,7 +8,8 @@ use Rattle.imagesize_io.specs.declared.progress.Progress.{Progress}
 use Rattle.imagesize_source.specs.Limits.{allowance, most_held}
 use Rattle.imagesize_io.specs.declared.reader.Ledger.{Ledger}
 use Rattle.imagesize_source.specs.Reading.{part_read, text_read, map_answer}
-use Rattle.imagesize_io.specs.StopOf.{Failures, failures_of}
+use Rattle.imagesize_io.specs.StopOf.{kept_error, last_failed}
+use Rattle.std.specs.declared.io.Error.{Error}
 use Rattle.imagesize_io.specs.Telling.{Account, Fails, Telling, at_offset}
 use Rattle.imagesize_io.specs.Standing.{Standing, KeepsCounts, behind, behind_of, steady, stand_of, stand, drift}
 use Rattle.imagesize_source.specs.State.{State, Frame, Held, Runs, Reader}
@@ -38,8 +39,8 @@ reader_frame a home p = record {
 }
 
 -- a reader as a source
-abbrev pub state_at : Frame → Option Standing → Failures → List ℕ → ℕ → ℕ → State
-state_at frame standing failures window taken place = record {
+abbrev pub state_at : Frame → Option Standing → Option Error → Option (Option Error) → List ℕ → ℕ → ℕ → State
+state_at frame standing fault failure window taken place = record {
   frame = frame;
   held = held_at standing window;
   front = length window;
@@ -47,13 +48,13 @@ state_at frame standing failures window taken place = record {
   place = place;
   recorded = None;
   missed = None;
-  failure = failures.kept;
-  failed = Some failures.last;
+  failure = kept_error fault;
+  failed = Some (last_failed fault failure);
 }
 
 abbrev pub reader_state : Account → ℕ → Progress → List ℕ → State
 reader_state a home p window =
-    state_at (reader_frame a home p) (stand a.telling p) (failures_of p.fault a.failure) window p.taken p.position
+    state_at (reader_frame a home p) (stand a.telling p) p.fault a.failure window p.taken p.position
 
 -- the window after a read: the next bytes after the window are added to it, up to its length
 abbrev pub kept_window : List ℕ → ℕ → List ℕ → List ℕ
@@ -76,7 +77,7 @@ start_state telling count home told = state_at
       counts = true;
       backing = Reader home (drift count 0) (behind_of told 0 None telling);
     })
-    (stand_of told told None (steady telling 0)) (failures_of None None) [] 0 told
+    (stand_of told told None (steady telling 0)) None None [] 0 told
 
 -- What a read from an offset on did, over every reader. It saw the bytes that the window has, and those that follow
 -- from the reader.

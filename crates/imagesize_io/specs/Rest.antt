@@ -17,13 +17,6 @@ pub record GoesOn (old new : Ledger) (a b : Account) (offset : ℕ) (first buffe
   pub reads : (before : Ledger) (c : Account) → ReadsAt before old c a offset first (Ok (length first))
       → ReadsAt before new c b offset (take n buffer) (Ok n)
 
--- what a read of held bytes did: it read a whole text, or bytes that do not end it
-abbrev pub ReadsHeld : (old new : Ledger) (a : Account) (t : Text) (offset : ℕ) (buffer : List ℕ) → HeldText → Type 0
-ReadsHeld old new a t offset buffer (Whole n) =
-    (n ≤ length buffer) × ReadsAt old new a a offset (take n buffer) (Ok n) × IsWhole t (take n buffer)
-ReadsHeld old new a t offset buffer (Part n) =
-    (n ≤ length buffer) × ReadsAt old new a a offset (take n buffer) (Ok n) × (is_ended t (take n buffer) ≡ false)
-
 -- what a read of some bytes of a text did: now the whole text is read, or bytes that do not end it
 abbrev pub ReadsMore : (old new : Ledger) (a b : Account) (t : Text) (offset : ℕ) (first buffer : List ℕ) → HeldText → Type 0
 ReadsMore old new a b t offset first buffer (Whole n) = GoesOn old new a b offset first buffer n × IsWhole t (take n buffer)

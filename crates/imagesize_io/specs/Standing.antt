@@ -16,10 +16,6 @@ pub record Standing : Type 0 where
   pub offset : ℕ
   pub can_fail : Bool
 
--- n bytes further on
-abbrev pub advance_standing : Standing → ℕ → Standing
-advance_standing s n = record s { offset = s.offset + n }
-
 -- The model without its interruptions, after this many retries. It exists if the reader can fail, or if no more
 -- interruptions come than are retried.
 abbrev pub steady : Option Telling → ℕ → Option Standing
@@ -60,16 +56,9 @@ behind telling p = behind_of p.told p.retries p.fault telling
 abbrev pub GivesSome : Option Standing → Option Standing → List ℕ → Result ℕ Halt → Type 0
 GivesSome None new buffer r = ⊤
 GivesSome (Some s) new buffer (Ok n) =
-    (new ≡ Some (advance_standing s n)) × (take n buffer ≡ part s.bytes s.offset n) × (n ≤ length s.bytes - s.offset)
+    (new ≡ Some (record s { offset = s.offset + n })) × (take n buffer ≡ part s.bytes s.offset n) × (n ≤ length s.bytes - s.offset)
     × (0 < length buffer → s.offset < length s.bytes → 0 < n)
 GivesSome (Some s) new buffer (Err halt) = is_failure halt ≡ true → s.can_fail ≡ true
-
--- what a read at the reader's offset did that goes on until the buffer is full or the bytes end
-abbrev pub GivesAll : Option Standing → Option Standing → List ℕ → Result ℕ Halt → Type 0
-GivesAll None new buffer r = ⊤
-GivesAll (Some s) new buffer (Ok n) =
-    (new ≡ Some (advance_standing s n)) × (take n buffer ≡ part s.bytes s.offset n) × (n ≡ min (length buffer) (length s.bytes - s.offset))
-GivesAll (Some s) new buffer (Err halt) = is_failure halt ≡ true → s.can_fail ≡ true
 
 -- what a seek did: the reader is at the offset now, or the offset is past its bytes
 abbrev pub GoesTo : Option Standing → Option Standing → ℕ → ℕ → Result Bool Halt → Type 0
@@ -84,6 +73,11 @@ GivesFrom None new offset now buffer r = ⊤
 GivesFrom (Some s) new offset now buffer (Ok n) =
     (new ≡ Some (record s { offset = now })) × (take n buffer ≡ part s.bytes offset n) × (n ≡ min (length buffer) (length s.bytes - offset))
 GivesFrom (Some s) new offset now buffer (Err halt) = is_failure halt ≡ true → s.can_fail ≡ true
+
+-- what a read at the reader's offset did that goes on until the buffer is full or the bytes end
+abbrev pub GivesAll : Option Standing → Option Standing → List ℕ → Result ℕ Halt → Type 0
+GivesAll None new buffer r = ⊤
+GivesAll (Some s) new buffer r = GivesFrom (Some s) new s.offset (s.offset + bytes_given r) buffer r
 
 -- a reader with a model still has one, and each of its interruptions was counted as a try
 abbrev pub Tries : Option Telling → ℕ → Option Telling → ℕ → Type 0
@@ -108,19 +102,23 @@ pub record KeepsCounts (old new : Progress) : Type 0 where
   pub retries : old.retries ≤ new.retries
   pub limit : old.retries ≤ most_retries → new.retries ≤ most_retries
 
+-- What a call keeps: what never changes about a reader, and the numbers. An error is the call's own, and stops it.
+pub record Keeps {X : Type 0} (old new : Progress) (a b : Account) (r : Result X Halt) : Type 0 where
+  pub since : drift b.count new.taken ≡ drift a.count old.taken
+  pub behind : behind b.telling new ≡ behind a.telling old
+  pub calm : OnOk r (new.fault ≡ old.fault)
+  pub counts : KeepsCounts old new
+  pub stops : IfErr r (StopsBy new b.failure)
+
 -- what one read at the reader's offset did
 pub record ReadsOnce (old new : Progress) (a b : Account) (buffer : List ℕ) (r : Result ℕ Halt) : Type 0 where
   pub bound : IfOk r (λ n. n ≤ length buffer)
   pub stand : GivesSome (stand a.telling old) (stand b.telling new) buffer r
   pub taken : new.taken ≡ old.taken + bytes_given r
   pub offset : IfOk r (λ n. new.offset ≡ min (old.offset + n) (2 ^ 64 - 1))
-  pub since : drift b.count new.taken ≡ drift a.count old.taken
-  pub behind : behind b.telling new ≡ behind a.telling old
-  pub calm : OnOk r (new.fault ≡ old.fault)
   pub place : OnOk r (new.position ≡ old.position)
   pub tries : OnOk r (Tries a.telling old.retries b.telling new.retries)
-  pub keeps : KeepsCounts old new
-  pub stops : IfErr r (StopsBy new b.failure)
+  pub keeps : Keeps old new a b r
 
 -- what reads at the reader's offset did, one after another until the buffer is full or the bytes end
 pub record Fills (old new : Progress) (before after : Option Standing) (a b : Account) (buffer : List ℕ) (r : Result ℕ Halt)
@@ -130,12 +128,8 @@ pub record Fills (old new : Progress) (before after : Option Standing) (a b : Ac
   pub taken : IfOk r (λ n. new.taken ≡ old.taken + n)
   pub offset : IfOk r (λ n. new.offset ≡ min (old.offset + n) (2 ^ 64 - 1))
   pub within : IfSome before (λ s. new.taken ≤ old.taken + min (length buffer) (length s.bytes - s.offset))
-  pub since : drift b.count new.taken ≡ drift a.count old.taken
-  pub behind : behind b.telling new ≡ behind a.telling old
-  pub calm : OnOk r (new.fault ≡ old.fault)
   pub place : OnOk r (new.position ≡ old.position)
-  pub keeps : KeepsCounts old new
-  pub stops : IfErr r (StopsBy new b.failure)
+  pub keeps : Keeps old new a b r
 
 -- what a read from an offset on did, over every reader
 pub record ReadsFrom (old new : Progress) (before after : Option Standing) (a b : Account) (offset : ℕ) (buffer : List ℕ)
@@ -147,11 +141,7 @@ pub record ReadsFrom (old new : Progress) (before after : Option Standing) (a b 
   pub taken : IfOk r (λ n. new.taken ≡ old.taken + n)
   pub within : IfSome before (λ s. new.taken ≤ old.taken + min (length buffer) (length s.bytes - offset))
   pub pays : IfOk r (λ n. old.told < offset → 0 < n → old.taken < new.taken)
-  pub since : drift b.count new.taken ≡ drift a.count old.taken
-  pub behind : behind b.telling new ≡ behind a.telling old
-  pub calm : OnOk r (new.fault ≡ old.fault)
-  pub keeps : KeepsCounts old new
-  pub stops : IfErr r (StopsBy new b.failure)
+  pub keeps : Keeps old new a b r
 
 -- n bytes from an offset on were counted, without a call of the reader
 pub record Passed (old new : Progress) (from n : ℕ) : Type 0 where

@@ -1,5 +1,5 @@
 -- How the error of a reader stops a read, and the error that the call then returns.
-use Rattle.std.specs.Prelude.{ℕ, nat_lt, if◌then◌else◌, Option, None, Some, Result, Ok, Err, option_map}
+use Rattle.std.specs.Prelude.{ℕ, nat_lt, if◌then◌else◌, Option, None, Some, option_map}
 use Rattle.std.specs.declared.io.Error.{Error}
 use Rattle.std.specs.declared.io.ErrorKind.{ErrorKind}
 use Rattle.std.specs.declared.io.ErrorKind.TheVariants.{Interrupted as InterruptedKind}
@@ -7,8 +7,6 @@ use Rattle.std.specs.IoError.{error_kind}
 use Rattle.imagesize_source.specs.declared.error.ImageError.{ImageError}
 use Rattle.imagesize_source.specs.declared.error.ImageError.TheVariants.{IoError}
 use Rattle.imagesize_source.specs.declared.error.Reason.TheVariants.{Fault as FaultReason}
-use Rattle.imagesize_source.specs.declared.halt.Halt.{Halt}
-use Rattle.imagesize_source.specs.declared.halt.Halt.TheVariants.{Failed}
 use Rattle.imagesize_source.specs.Limits.{most_retries}
 use Rattle.imagesize_source.specs.Errors.{end_of_input}
 use Rattle.imagesize_io.specs.declared.told.Stop.{Stop}
@@ -37,26 +35,8 @@ abbrev pub ending_of : Stop → ℕ → Option Error
 ending_of (Fault e) tries = Some e
 ending_of (Interrupted e) tries = if nat_lt tries most_retries then None else Some e
 
--- the error that is kept after a call: its own error if it failed, else the one kept before
-abbrev pub fault_after : {X : Type 0} → Option Error → Result X Error → Option Error
-fault_after before (Ok x) = before
-fault_after before (Err e) = Some e
-
 -- The last failure, if an error is kept: the one in the reader's model, or else the kept one.
 abbrev pub last_failed : Option Error → Option (Option Error) → Option ImageError
 last_failed None failure = None
 last_failed (Some e) None = Some (fault_of e)
 last_failed (Some e) (Some last) = option_map fault_of last
-
--- what a source reports about its failures: the kept error, and the last one
-pub record Failures : Type 0 where
-  pub kept : ImageError
-  pub last : Option ImageError
-
-abbrev pub failures_of : Option Error → Option (Option Error) → Failures
-failures_of fault failure = record { kept = kept_error fault; last = last_failed fault failure }
-
--- a failed call stops the read, and no other call does
-abbrev pub halt_if_failed : {X : Type 0} → Result X Error → Result X Halt
-halt_if_failed (Ok x) = Ok x
-halt_if_failed (Err e) = Err Failed

@@ -1,5 +1,5 @@
 -- The model of a reader, and what its calls must do by it.
-use Rattle.std.specs.Prelude.{◌≡◌, ℕ, pos, negsuc, zero, suc, ◌+◌, ◌-◌, ◌^◌, ◌<◌, ◌≤◌, Bool, true, false, List, length, take, nat_le, if◌then◌else◌, Option, None, Some, Result, Ok, Err, IsSomeAnd, option_map}
+use Rattle.std.specs.Prelude.{◌≡◌, ℕ, pos, zero, ◌+◌, ◌-◌, ◌^◌, ◌<◌, ◌≤◌, Bool, true, false, List, length, take, nat_le, if◌then◌else◌, Option, None, Some, Result, Ok, Err, IsSomeAnd, option_map}
 use Rattle.std.specs.declared.io.Error.{Error}
 use Rattle.std.specs.declared.io.traits.SeekFrom.{SeekFrom}
 use Rattle.std.specs.declared.io.traits.SeekFrom.TheVariants.{Start, End, Current}
@@ -20,17 +20,9 @@ pub record Telling : Type 0 where
 abbrev pub may_fail : Option Telling → Option Telling
 may_fail told = option_map {T = Telling} (λ t. record t { can_fail = true }) told
 
--- n bytes further on
-abbrev pub advance_telling : Telling → ℕ → Telling
-advance_telling t n = record t { offset = t.offset + n }
-
 -- at another offset
 abbrev pub at_offset : Telling → ℕ → Telling
 at_offset t offset = record t { offset = offset }
-
--- after one more interruption
-abbrev pub interrupt_telling : Telling → Telling
-interrupt_telling t = record t { interruptions = t.interruptions - 1 }
 
 -- after a failed call, which only a reader that can fail makes, its offset is not known
 abbrev pub Fails : Telling → Option Telling → Type 0
@@ -40,9 +32,10 @@ Fails t new = (t.can_fail ≡ true) × IsSomeAnd new (λ u. (u.bytes ≡ t.bytes
 -- one if there is one and the buffer is not empty. Or it returned none; an interruption keeps the offset.
 abbrev pub ReadGives : Telling → Option Telling → List ℕ → Result ℕ Stop → Type 0
 ReadGives t new buffer (Ok n) =
-    (new ≡ Some (advance_telling t n)) × (take n buffer ≡ part t.bytes t.offset n) × (n ≤ length t.bytes - t.offset)
+    (new ≡ Some (at_offset t (t.offset + n))) × (take n buffer ≡ part t.bytes t.offset n) × (n ≤ length t.bytes - t.offset)
     × (0 < length buffer → t.offset < length t.bytes → 0 < n)
-ReadGives t new buffer (Err (Interrupted e)) = (new ≡ Some (interrupt_telling t)) × (t.can_fail ≡ false → 0 < t.interruptions)
+ReadGives t new buffer (Err (Interrupted e)) =
+    (new ≡ Some (record t { interruptions = t.interruptions - 1 })) × (t.can_fail ≡ false → 0 < t.interruptions)
 ReadGives t new buffer (Err (Fault e)) = Fails t new
 
 -- what a read did, if the reader has a model
@@ -54,19 +47,12 @@ ReadTells (Some t) new buffer r = ReadGives t new buffer r
 abbrev pub seek_target : Telling → SeekFrom → Option ℕ
 seek_target t (Start offset) = if nat_le offset (length t.bytes) then Some offset else None
 seek_target t (End (pos zero)) = Some (length t.bytes)
-seek_target t (End (pos (suc _))) = None
-seek_target t (End (negsuc _)) = None
 seek_target t (Current (pos zero)) = Some t.offset
-seek_target t (Current (pos (suc _))) = None
-seek_target t (Current (negsuc _)) = None
-
--- it has the same bytes, and may fail if it might before
-abbrev pub Stays : Telling → Telling → Type 0
-Stays t u = (u.bytes ≡ t.bytes) × (u.can_fail ≡ t.can_fail)
+seek_target t _ = None
 
 -- What a seek did that is known to go to an offset. Any other seek changes only the offset of the reader.
 abbrev pub SeekGives : {E : Type 0} → Telling → Option Telling → Option ℕ → Result ℕ E → Type 0
-SeekGives t new None r = IsSomeAnd new (Stays t)
+SeekGives t new None r = IsSomeAnd new (λ u. (u.bytes ≡ t.bytes) × (u.can_fail ≡ t.can_fail))
 SeekGives t new (Some offset) (Ok answer) = (answer ≡ offset) × (new ≡ Some (at_offset t offset))
 SeekGives t new (Some offset) (Err e) = Fails t new
 

@@ -1,5 +1,5 @@
 //! The bytes of a reader in memory, as a source that counts them.
-ghost use Rattle.std.specs.Prelude.{◌≡◌, ℕ, ◌+◌, ◌-◌, ◌<◌, ◌≤◌, min, true, false, List, None, length, option_map};
+ghost use Rattle.std.specs.Prelude.{◌≡◌, ℕ, ◌+◌, ◌-◌, ◌^◌, ◌<◌, ◌≤◌, min, true, false, List, None, IfOk, IfErr, length, option_map};
 ghost use Rattle.imagesize_source.specs.Limits.{allowance, most_held};
 ghost use Rattle.imagesize_io.specs.Memory.{IsMemory, IsPaid, IsSpent, counting_state};
 ghost use Rattle.imagesize_io.specs.Telling.{at_offset};
@@ -30,6 +30,7 @@ pub struct CountingSource<'a> {
     ghost there: { position ≤ length bytes.now },
     ghost same: { free ≡ front },
     ghost held: { front ≤ most_held },
+    ghost short: { length bytes.now < 2 ^ 63 },
 }
 
 impl<'a> CountingSource<'a> {
@@ -59,33 +60,33 @@ impl<'a> CountingSource<'a> {
         self.position
     }
 
-    // Counts the bytes of a read. Returns whether the budget has them.
+    // The result of a read of `count` bytes, which are counted.
     #[inline(always)]
-    fn pays(&mut self, offset: u64, count: usize) -> bool
+    fn pay(&mut self, offset: u64, count: usize) -> Result<usize, Halt>
         requires there { 0 < count → offset + count ≤ length self.old.bytes.now }
         ensures bytes { self.new.bytes.now ≡ self.old.bytes.now }
-        ensures paid { result ≡ true
-            → IsPaid self.old.front self.old.left self.old.position self.new.front self.new.left self.new.position offset count }
-        ensures spent { result ≡ false → IsSpent self.old.front self.old.left self.new.left offset count }
+        ensures paid { IfOk result (λ n. (n ≡ count)
+            × IsPaid self.old.front self.old.left self.old.position self.new.front self.new.left self.new.position offset count) }
+        ensures spent { IfErr result (λ halt. (halt ≡ Halt.Spent) × IsSpent self.old.front self.old.left self.new.left offset count) }
     {
         if offset <= self.front {
             let end = offset + count as u64;
             // A read within the front costs nothing, and moves nothing. Most reads of a size at fixed offsets are such.
-            if end <= self.free {
-                return true;
+            if end <= self.free || self.pays_on(end) {
+                return Ok(count);
             }
-            return self.pays_on(end);
+            return Err(Halt::Spent);
         }
         if self.left < count as u64 {
             self.left = 0;
-            return false;
+            return Err(Halt::Spent);
         }
         // Most reads lie past the front, and cost three tests and two stores here.
         if count > 0 {
             self.left -= count as u64;
             self.position = offset + count as u64;
         }
-        true
+        Ok(count)
     }
 
     // Counts the bytes after the front up to an offset, and adds them to the front as far as they fit. Returns whether the budget
@@ -138,26 +139,14 @@ impl Source for CountingSource<'_> {
 
     #[inline(always)]
     fn read_at(&mut self, offset: u64, buffer: &mut [u8]) -> Result<usize, Halt> {
-        // The proof needs that the length is below 2^63.
-        let _length = self.bytes.len();
         let count = copy_part(self.bytes, offset, buffer);
-        if self.pays(offset, count) {
-            Ok(count)
-        } else {
-            Err(Halt::Spent)
-        }
+        self.pay(offset, count)
     }
 
     #[inline]
     fn read_text(&mut self, offset: u64, text: Text, buffer: &mut [u8]) -> Result<usize, Halt> {
-        // The proof needs that the length is below 2^63.
-        let _length = self.bytes.len();
         let count = copy_text_at(self.bytes, offset, text, buffer);
-        if self.pays(offset, count) {
-            Ok(count)
-        } else {
-            Err(Halt::Spent)
-        }
+        self.pay(offset, count)
     }
 }
 

@@ -2,8 +2,9 @@
 ghost use Rattle.std.specs.Prelude.{◌≡◌, ◌≢◌, ℕ, ℤ, ◌+◌, ◌^◌, ◌<◌, ◌≤◌, ◌⊎◌, min, [], length, take, Some, None, Ok, pos, IfOk, IfErr, IfSome};
 ghost use Rattle.std.specs.Io.KnownBytes.{Consumes, IsAtEnd, Keeps, ReadConsumes, prepend_known};
 ghost use Rattle.std.specs.Io.Seek.{IsAtOffset, SeekMoves};
+ghost use Rattle.std.specs.Result.{result_ok};
 ghost use Rattle.std.specs.declared.io.Error.{Error};
-ghost use Rattle.imagesize_io.specs.File.{IsSoughtTo, held_of, sought_offset};
+ghost use Rattle.imagesize_io.specs.File.{IsSoughtTo, held_of};
 ghost use Rattle.imagesize_io.specs.ReaderState.{kept_window};
 ghost use Rattle.imagesize_io.specs.StopOf.{stop_of};
 
@@ -116,29 +117,12 @@ impl<R: Read + Seek + Drop> FileReader<R> {
         Ok(count)
     }
 
-    // Fills the buffer with held bytes, as far as there are any, and returns how many.
-    fn give(&mut self, buffer: &mut [u8]) -> usize
-        ensures count { result ≡ min (length buffer.old) (length (held_of self.old)) }
-        ensures gives { take result buffer.new ≡ take result (held_of self.old) }
-        ensures bound { result ≤ length buffer.new }
-        ensures moves { self.new.offset ≡ self.old.offset + result }
-        ensures file { (self.new.file ≡ self.old.file) × (self.new.position ≡ self.old.position) }
-        ensures block { self.new.block ≡ self.old.block }
-        ensures length { self.new.length ≡ self.old.length }
-    {
-        let held = self.block.held(self.offset);
-        let count = held.len().min(buffer.len());
-        copy_front(held, count, buffer);
-        self.offset += count as u64;
-        count
-    }
-
     // The offset at a distance from the end. If the length is known, the end itself needs no call.
     fn from_end(&mut self, distance: i64) -> io::Result<u64>
         ensures known { (n : ℕ) → self.old.length ≡ Some n → distance ≡ pos 0 → (result ≡ Ok n) × (self.new ≡ self.old) }
         ensures seeks { (self.old.length ≡ None) ⊎ (distance ≢ pos 0)
             → SeekMoves (R.stream_position self.old.file) (R.stream_position self.new.file)
-            (R.stream_bytes self.old.file) (SeekFrom.End distance) result × (self.new.position ≡ sought_offset result) }
+            (R.stream_bytes self.old.file) (SeekFrom.End distance) result × (self.new.position ≡ result_ok result) }
         ensures block { self.new.block ≡ self.old.block }
         ensures offset { self.new.offset ≡ self.old.offset }
         ensures length { self.new.length ≡ self.old.length }
@@ -165,20 +149,6 @@ fn go<R: Seek>(file: &mut R, position: Option<u64>, offset: u64) -> io::Result<(
     }
     file.seek(SeekFrom::Start(offset))?;
     Ok(())
-}
-
-// The offset at a distance from another.
-//
-// Errors: `InvalidInput` if it is negative or above 2^64 - 1.
-fn offset_by(offset: u64, distance: i64) -> io::Result<u64>
-    ensures stays { distance ≡ pos 0 → result ≡ Ok offset }
-    ensures there { IfOk result (IsAtOffset offset distance) }
-    ensures finds { (n : ℕ) → n < 2 ^ 64 → IsAtOffset offset distance n → result ≡ Ok n }
-{
-    match offset.checked_add_signed(distance) {
-        Some(target) => Ok(target),
-        None => Err(io::Error::from(ErrorKind::InvalidInput)),
-    }
 }
 
 impl<R: Read + Seek + Drop> Told for FileReader<R> {
@@ -220,7 +190,11 @@ impl<R: Read + Seek + Drop> Told for FileReader<R> {
         if self.held().is_empty() {
             self.fetch()?;
         }
-        Ok(self.give(buffer))
+        let held = self.block.held(self.offset);
+        let count = held.len().min(buffer.len());
+        copy_front(held, count, buffer);
+        self.offset += count as u64;
+        Ok(count)
     }
 
     #[inline]
@@ -247,11 +221,14 @@ impl<R: Read + Seek + Drop> Told for FileReader<R> {
             → (result ≡ Ok n) × (self.new.file ≡ self.old.file) × (self.new.position ≡ self.old.position) }
         ensures seeks { (d : ℤ) → to ≡ SeekFrom.End d → (self.old.length ≡ None) ⊎ (d ≢ pos 0)
             → SeekMoves (R.stream_position self.old.file) (R.stream_position self.new.file) (R.stream_bytes self.old.file) to result
-            × (self.new.position ≡ sought_offset result) }
+            × (self.new.position ≡ result_ok result) }
     {
         let target = match to {
             SeekFrom::Start(offset) => offset,
-            SeekFrom::Current(distance) => offset_by(self.offset, distance)?,
+            SeekFrom::Current(distance) => match self.offset.checked_add_signed(distance) {
+                Some(target) => target,
+                None => return Err(io::Error::from(ErrorKind::InvalidInput)),
+            },
             SeekFrom::End(distance) => self.from_end(distance)?,
         };
         self.offset = target;

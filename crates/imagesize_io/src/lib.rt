@@ -4,7 +4,6 @@
 mod block;
 pub mod counting;
 pub mod file;
-mod held;
 pub mod memory;
 pub mod progress;
 pub mod reader;

@@ -10,15 +10,14 @@ ghost use Rattle.imagesize_source.specs.Halts.{error_by};
 ghost use Rattle.imagesize_io.specs.StopOf.{kept_error};
 ghost use Rattle.imagesize_source.specs.State.{rejoined};
 
-mod filling;
 mod held;
-mod text;
 mod windowed;
 
+use self::held::{HeldText, held_from, read_held, read_held_text};
+use self::windowed::{read_called, read_rest};
 use crate::Told;
 use crate::progress::Progress;
 use crate::window::{WINDOW, Window};
-use held::held_from;
 use imagesize_source::source::Source;
 use imagesize_source::source::held::{Claims, Counts, HeldSource};
 use imagesize_source::{Halt, ImageError, ImageResult, Reason, Text};
@@ -82,10 +81,7 @@ impl<'a, R: Told> ReaderSource<'a, R> {
     {
         let progress = &self.ledger.progress;
         let position = progress.position;
-        if position == progress.offset || position > progress.told {
-            return None;
-        }
-        if progress.fault.is_some() {
+        if position == progress.offset || position > progress.told || progress.fault.is_some() {
             return None;
         }
         Some(position)
@@ -154,24 +150,31 @@ impl<R: Told> Source for ReaderSource<'_, R> {
         // A read past the reported length goes on only from here.
         ensures present { self.new.ledger.present ≡ counts.position }
     {
-        let Counts { taken, position } = counts;
         let Ledger {
             progress,
             present,
             ..
         } = &mut self.ledger;
-        progress.taken = taken.min(progress.budget);
-        progress.position = position;
-        *present = position;
+        progress.taken = counts.taken.min(progress.budget);
+        progress.position = counts.position;
+        *present = counts.position;
     }
 
     #[inline(always)]
     fn read_at(&mut self, offset: u64, buffer: &mut [u8]) -> Result<usize, Halt> {
-        windowed::read_on(self.reader, &mut self.ledger, offset, buffer)
+        if read_held(self.reader, &mut self.ledger, offset, buffer) {
+            return Ok(buffer.len());
+        }
+        read_called(self.reader, &mut self.ledger, offset, buffer)
     }
 
     fn read_text(&mut self, offset: u64, text: Text, buffer: &mut [u8]) -> Result<usize, Halt> {
-        text::read_text(self.reader, &mut self.ledger, offset, text, buffer)
+        match read_held_text(self.reader, &mut self.ledger, offset, text, 0, buffer) {
+            HeldText::Whole(count) => Ok(count),
+            HeldText::Part(count) => {
+                read_rest(self.reader, &mut self.ledger, offset, text, count, buffer)
+            }
+        }
     }
 }
 
@@ -207,10 +210,10 @@ pub fn open<R: Told>(reader: &mut R, origin: Origin) -> ImageResult<Opened>
     ensures last { IfErr result (IsLast (R.failure reader.new)) }
     ensures memory { IfErr result (λ e. is_memory e ≡ false) }
 {
-    let offset = seek(reader, SeekFrom::Current(0))?;
-    let told = seek(reader, SeekFrom::End(0))?;
+    let offset = reader.seek_told(SeekFrom::Current(0))?;
+    let told = reader.seek_told(SeekFrom::End(0))?;
     if offset == told && matches!(origin, Origin::Offset) {
-        seek(reader, SeekFrom::Start(offset))?;
+        reader.seek_told(SeekFrom::Start(offset))?;
     }
     Ok(Opened { offset, told })
 }
@@ -227,19 +230,6 @@ pub fn settle<R: Told>(reader: &mut R, left: Option<u64>)
     if let Some(position) = left {
         let _ = reader.seek_told(SeekFrom::Start(position));
     }
-}
-
-// Seeks. An error becomes a `Reason::Fault`.
-#[inline(always)]
-fn seek<R: Told>(reader: &mut R, to: SeekFrom) -> ImageResult<u64>
-    ensures told { SeekTells (R.telling reader.old) (R.telling reader.new) to result }
-    ensures counts { R.count reader.new ≡ R.count reader.old }
-    ensures fault { IfErr result (λ e. is_fault e ≡ true) }
-    ensures last { IfErr result (IsLast (R.failure reader.new)) }
-    ensures memory { IfErr result (λ e. is_memory e ≡ false) }
-{
-    let offset = reader.seek_told(to)?;
-    Ok(offset)
 }
 
 // The error that the call returns. Not inlined, since few reads fail.

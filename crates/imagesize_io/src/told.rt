@@ -149,7 +149,13 @@ impl<R: Read + Seek + Drop> Told for BufReader<R> {
         ensures stops { IfErr result (λ stop. (e : Error) × (stop ≡ stop_of e)) }
         ensures reads { ReadConsumes (reader_remaining R.remaining self.old) (reader_remaining R.remaining self.new) result buffer.new }
     {
-        if let Some(count) = read_buffered(self, buffer) {
+        // Most reads are of a few bytes that the reader holds. For them this saves the call of `read`, whose result has room for an
+        // error.
+        let count = buffer.len();
+        let held = self.buffer();
+        if count > 0 && count <= held.len() {
+            copy_front(held, count, buffer);
+            self.consume(count);
             return Ok(count);
         }
         let count = read_unheld(self, buffer)?;
@@ -175,25 +181,6 @@ impl<R: Read + Seek + Drop> Told for BufReader<R> {
             _ => self.seek(to),
         }
     }
-}
-
-// Fills the buffer with bytes that a buffered reader holds, if it holds as many, and returns how many. Most reads are of a few
-// bytes that it holds. For them this saves the call of `read`, whose result has room for an error.
-#[inline(always)]
-fn read_buffered<R: Read>(reader: &mut BufReader<R>, buffer: &mut [u8]) -> Option<usize>
-    ensures bound { IfSome result (λ n. n ≤ length buffer.new) }
-    ensures reads { IfSome result (λ n. ReadConsumes {E = Stop} (reader_remaining R.remaining reader.old)
-        (reader_remaining R.remaining reader.new) (Ok n) buffer.new) }
-    ensures stays { result ≡ None → reader.new ≡ reader.old }
-{
-    let count = buffer.len();
-    let held = reader.buffer();
-    if count == 0 || count > held.len() {
-        return None;
-    }
-    copy_front(held, count, buffer);
-    reader.consume(count);
-    Some(count)
 }
 
 // A read that the buffer does not hold as a whole. Not inlined, since few reads get here.

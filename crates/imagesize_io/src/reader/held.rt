@@ -1,17 +1,17 @@
 //! Reads of the bytes that a reader holds, without a call of the reader.
-ghost use Rattle.std.specs.Prelude.{◌≡◌, ◌+◌, ◌-◌, ◌^◌, ◌<◌, ◌≤◌, min, true, false, None, Ok, IfSome, [], length, take};
-ghost use Rattle.imagesize_source.specs.Text.{is_ended};
+ghost use Rattle.std.specs.Prelude.{◌≡◌, ◌+◌, ◌-◌, ◌^◌, ◌<◌, ◌≤◌, ◌++◌, min, true, false, None, Ok, IfSome, length, take};
+ghost use Rattle.imagesize_source.specs.Text.{is_ended, text_front};
 ghost use Rattle.imagesize_io.specs.Held.{HoldsFrom};
 ghost use Rattle.imagesize_io.specs.ReaderState.{ReadsOn, kept_window};
-ghost use Rattle.imagesize_io.specs.Rest.{ReadsHeld, ReadsMore};
+ghost use Rattle.imagesize_io.specs.Rest.{ReadsMore};
 ghost use Rattle.imagesize_io.specs.Standing.{Passed};
 ghost use Rattle.imagesize_io.specs.Telling.{account};
 
 use super::Ledger;
 use crate::Told;
-use crate::held::copy_text;
 use crate::window::{WINDOW, keep};
 use imagesize_source::Text;
+use imagesize_source::part::copy_front;
 use imagesize_source::text::ended_behind;
 
 /// Fills the buffer from an offset on, if the reader holds all of these bytes. Returns whether it did.
@@ -55,39 +55,12 @@ pub(super) enum HeldText {
     Part(usize),
 }
 
-/// Reads what the reader holds of the text from an offset on.
-#[inline(always)]
-pub(super) fn read_held_text<R: Told>(
-    reader: &R,
-    ledger: &mut Ledger,
-    offset: u64,
-    text: Text,
-    buffer: &mut [u8],
-) -> HeldText
-    ensures { ReadsHeld ledger.old ledger.new (account R.telling R.count R.failure reader.now) text offset buffer.new result }
-{
-    if offset < ledger.window.len() as u64 {
-        return HeldText::Part(0);
-    }
-    let Some(bytes) = held_from(reader, ledger, offset) else {
-        return HeldText::Part(0);
-    };
-    match copy_text(text, bytes, buffer) {
-        Some(count) => {
-            keep(&mut ledger.window, offset, &buffer[..count]);
-            pass(ledger, offset, count);
-            HeldText::Whole(count)
-        }
-        None => HeldText::Part(read_part(ledger, offset, bytes, buffer)),
-    }
-}
-
-/// Reads what the reader holds of the rest of a text. The text begins at an offset, and the buffer has its first `count` bytes.
-/// Returns how many of its bytes the buffer has then.
+/// Reads what the reader holds of a text. The text begins at an offset, and the buffer has its first `count` bytes. Returns how
+/// many of its bytes the buffer has then.
 ///
 /// A text often goes on in the next block of a buffered reader. This saves a read for each of its bytes there.
 #[inline(always)]
-pub(super) fn read_held_rest<R: Told>(
+pub(super) fn read_held_text<R: Told>(
     reader: &R,
     ledger: &mut Ledger,
     offset: u64,
@@ -107,33 +80,61 @@ pub(super) fn read_held_rest<R: Told>(
     let Some(bytes) = held_from(reader, ledger, next) else {
         return HeldText::Part(count);
     };
+    // Both slices have one length, so the copy tests it once.
     let most = bytes.len().min(buffer.len() - count);
-    match ended_behind(text, &buffer[..count], &bytes[..most]) {
+    let bytes = &bytes[..most];
+    match end_of(text, &buffer[..count], bytes) {
         Some(last) => {
-            HeldText::Whole(count + read_part(ledger, next, &bytes[..last], &mut buffer[count..]))
+            read_part(ledger, next, bytes, last, &mut buffer[count..count + most]);
+            HeldText::Whole(count + last)
         }
-        None => HeldText::Part(count + read_part(ledger, next, bytes, &mut buffer[count..])),
+        None if most == 0 => HeldText::Part(count),
+        None => {
+            read_part(ledger, next, bytes, most, &mut buffer[count..count + most]);
+            HeldText::Part(count + most)
+        }
     }
 }
 
-// Reads held bytes from an offset on: copies them as far as they fit, keeps the first ones, and counts them. Returns how many.
+// How many bytes a search compares at once. The search tests the same length, so the test for it is made once.
+const SEARCHED: usize = 16;
+
+// The result of `ended_behind`. A search finds the length of a line as a number that the next line's offset waits for. For a line of
+// one or two bytes a branch decides about it, and the processor goes on with the length that it predicts.
 #[inline(always)]
-fn read_part(ledger: &mut Ledger, offset: u64, bytes: &[u8], buffer: &mut [u8]) -> usize
-    requires { ledger.old.progress.taken + length bytes.now ≤ ledger.old.progress.budget }
-    ensures count { result ≡ min (length bytes.now) (length buffer.new) }
-    ensures copied { take result buffer.new ≡ take result bytes.now }
-    ensures none { result ≡ 0 → ledger.new ≡ ledger.old }
-    ensures kept { 0 < result → ledger.new.window.items ≡ kept_window ledger.old.window.items offset (take result bytes.now) }
-    ensures passed { 0 < result → Passed ledger.old.progress ledger.new.progress offset result }
+fn end_of(text: Text, first: &[u8], rest: &[u8]) -> Option<usize>
+    requires { is_ended text first.now ≡ false }
+    ensures ended { IfSome result (λ _. is_ended text (first.now ++ rest.now) ≡ true) }
+    ensures within { IfSome result (λ n. n ≤ length rest.now) }
+    ensures length { IfSome result (λ n. length first.now + n ≡ length (text_front text (first.now ++ rest.now))) }
+    ensures open { result ≡ None → is_ended text (first.now ++ rest.now) ≡ false }
 {
-    let count = bytes.len().min(buffer.len());
-    if count > 0 {
-        let part = &bytes[..count];
-        buffer[..count].copy_from_slice(part);
-        keep(&mut ledger.window, offset, part);
-        pass(ledger, offset, count);
+    if let Text::Line { delimiter } = text
+        && rest.len() >= SEARCHED
+    {
+        if rest[0] == delimiter {
+            return Some(1);
+        }
+        if rest[1] == delimiter {
+            return Some(2);
+        }
     }
-    count
+    ended_behind(text, first, rest)
+}
+
+// Reads the first `count` held bytes from an offset on: copies them, keeps the first ones, and counts them.
+#[inline(always)]
+fn read_part(ledger: &mut Ledger, offset: u64, bytes: &[u8], count: usize, buffer: &mut [u8])
+    requires there { count ≤ length bytes.now }
+    requires fits { count ≤ length buffer.old }
+    requires paid { ledger.old.progress.taken + count ≤ ledger.old.progress.budget }
+    ensures copied { take count buffer.new ≡ take count bytes.now }
+    ensures kept { ledger.new.window.items ≡ kept_window ledger.old.window.items offset (take count bytes.now) }
+    ensures passed { Passed ledger.old.progress ledger.new.progress offset count }
+{
+    copy_front(bytes, count, buffer);
+    keep(&mut ledger.window, offset, &bytes[..count]);
+    pass(ledger, offset, count);
 }
 
 // The bytes that the reader holds from an offset on, up to the reported length and as many as the budget has. `None` if they begin

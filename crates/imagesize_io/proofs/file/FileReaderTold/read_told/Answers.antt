@@ -1,4 +1,4 @@
-use Rattle.std.proofs.Common.{◌≡◌, Result, Ok, Err, Some, IfErr, length, ap, sym, ◌∙◌, arith}
+use Rattle.std.proofs.Common.{◌≡◌, ◌+◌, ℕ, min, Result, Ok, Err, Some, IfErr, length, take, refl, ap, ◌∙◌, arith}
 use Rattle.std.proofs.lemmas.Bool.Decides.{nat_tests}
 use Rattle.imagesize_io.specs.File.{held_of}
 use Rattle.imagesize_io.proofs.Blocks.{fetched, lost}
@@ -10,17 +10,21 @@ returns-clause-reads g c = λ none. elim c.if-is_empty.branch [
   | then-is_empty+in_ok-fetch w ↦
       let f = w.in_ok-fetch.ensures in
       let is = w.self-is in
-      let e = c.give.ensures in
-      let gave = fetched g.R.Read.remaining (g.R.Read.remaining f.reads.0) c.args.self.now w.fetch.new.self c.give.new.self c.give.new.buffer
-      w.in_ok-fetch.field-0 c.give.result none f.reads.2 f.reads.3 f.block.0 f.block.1 f.block.2 f.offset
-      (rw (sym is, c.give.auto.buffer) e.count) (rw (sym is) e.gives) (rw (sym is) e.file.0) (rw (sym is) e.block)
-      (rw (sym is) e.moves) in (
+      let read = w.fetch.new.self in
+      let n : ℕ = c.min-count.result in
+      let held : c.held-held.result.now ≡ held_of read = rw is at c.held-held.ensures.held in
+      let few : n ≡ min (length c.copy_front.new.buffer) (length (held_of read)) =
+      omega (arith, c.min-count.ensures, ap length held, c.copy_front.auto.buffer) in
+      let gave = fetched g.R.Read.remaining (g.R.Read.remaining f.reads.0) c.args.self.now read (record read { offset = read.offset + n })
+      c.copy_front.new.buffer w.in_ok-fetch.field-0 n none f.reads.2 f.reads.3 f.block.0 f.block.1 f.block.2 f.offset few
+      (c.copy_front.ensures ∙ ap (take n) held) refl refl refl in
+      rw is (
         f.reads.0,
         f.reads.1,
         gave.0,
-        e.file.1 ∙ ap (λ r. r.position) is ∙ f.position ∙ ap Some gave.1,
-        rw (e.block, is) f.block.1,
-        rw (e.block, is, f.block.0) f.block.2,
+        f.position ∙ ap Some gave.1,
+        f.block.1,
+        rw f.block.0 f.block.2,
       )
   | else-is_empty w ↦ absurd (grind (arith, nat_tests, ap length (c.held.ensures ∙ none), w.if-is_empty.ensures))
 ]

@@ -2,7 +2,7 @@ use Rattle.std.proofs.Common.{◌-◌, length}
 use Rattle.imagesize_io.specs.Standing.{stand}
 use Rattle.imagesize_io.specs.Telling.{account}
 use Rattle.imagesize_io.proofs.Filling.{Filling}
-use Rattle.imagesize_io.proofs.reader.filling.fill_rest.Given as goal
+use Rattle.imagesize_io.proofs.reader.windowed.fill_rest.Given as goal
 
 abbrev pub invariant-loop-filled : goal.invariant-loop-filled
 invariant-loop-filled g l = Filling

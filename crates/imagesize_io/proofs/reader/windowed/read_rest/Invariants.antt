@@ -2,7 +2,7 @@ use Rattle.std.proofs.Common.{◌-◌, length, take}
 use Rattle.imagesize_io.specs.declared.reader.held.HeldText.TheVariants.{Part}
 use Rattle.imagesize_io.specs.Rest.{ReadsMore}
 use Rattle.imagesize_io.specs.Telling.{account}
-use Rattle.imagesize_io.proofs.reader.text.read_rest.Given as goal
+use Rattle.imagesize_io.proofs.reader.windowed.read_rest.Given as goal
 
 abbrev pub invariant-loop-count : goal.invariant-loop-count
 invariant-loop-count g l = ReadsMore l.fn.ledger l.ledger

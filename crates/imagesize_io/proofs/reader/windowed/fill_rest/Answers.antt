@@ -1,7 +1,7 @@
 use Rattle.std.proofs.Common.{◌≡◌, ℕ, Result, Err, arith, rules}
 use Rattle.imagesize_source.specs.declared.halt.Halt.{Halt}
 use Rattle.imagesize_io.proofs.Filling.{filled_none, filling_done, filling_halts, filling_more}
-use Rattle.imagesize_io.proofs.reader.filling.fill_rest.Goals as goal
+use Rattle.imagesize_io.proofs.reader.windowed.fill_rest.Goals as goal
 
 pub loop-filled-init : goal.loop-filled-init
 loop-filled-init g c = filled_none _ _ _ _ c.requires

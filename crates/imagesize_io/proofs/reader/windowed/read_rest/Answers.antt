@@ -2,7 +2,7 @@ use Rattle.std.proofs.Common.{◌≡◌, ◌+◌, ◌-◌, ◌++◌, ℕ, List, 
 use borrow.Rule.Slice.PartMut.{post_of}
 use Rattle.imagesize_source.specs.declared.halt.Halt.{Halt}
 use Rattle.imagesize_io.proofs.TextReads.{byte_last, byte_more, byte_out, byte_stopped, none_read, text_full, text_whole, then_on}
-use Rattle.imagesize_io.proofs.reader.text.read_rest.Goals as goal
+use Rattle.imagesize_io.proofs.reader.windowed.read_rest.Goals as goal
 
 pub loop-count-init : goal.loop-count-init
 loop-count-init g c = (none_read c.args.buffer.now c.requires.bound, c.requires.open)
@@ -16,7 +16,7 @@ loop-count-preserved g c =
     (omega (arith, c.saturating_add-next.ensures)) so_far.0 c.args.text so_far.1 c.in_ok-read_called.ensures.reads c.if-branch-eq0.false
     (c.ended_behind.ensures.open c.in_default.is) in
     let more = c.in-Part.ensures in
-    (then_on (take count c.loop-count.buffer ++ (c.read_called.new.buffer ++ post)) c.read_held_rest.new.buffer byte.0 more.0, more.1)
+    (then_on (take count c.loop-count.buffer ++ (c.read_called.new.buffer ++ post)) c.read_held_text.new.buffer byte.0 more.0, more.1)
 
 pub returns-in_err-read_called : goal.returns-in_err-read_called
 returns-in_err-read_called g c =
@@ -48,8 +48,8 @@ returns-in-Whole g c = λ before a done.
     (omega (arith, c.saturating_add-next.ensures)) so_far.0 c.args.text so_far.1 c.in_ok-read_called.ensures.reads c.if-branch-eq0.false
     (c.ended_behind.ensures.open c.in_default.is) in
     let all = c.in-Whole.ensures in
-    let on = then_on (take count c.loop-count.buffer ++ (c.read_called.new.buffer ++ post)) c.read_held_rest.new.buffer byte.0 all.0 in
-    text_whole c.read_held_rest.new.buffer on.bound (on.reads before a done) all.1
+    let on = then_on (take count c.loop-count.buffer ++ (c.read_called.new.buffer ++ post)) c.read_held_text.new.buffer byte.0 all.0 in
+    text_whole c.read_held_text.new.buffer on.bound (on.reads before a done) all.1
 
 pub returns : goal.returns
 returns g c = λ before a done.
