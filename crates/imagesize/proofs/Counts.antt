@@ -1,5 +1,5 @@
 -- How many bytes a type and its size are read from.
-use Rattle.std.proofs.Common.{ℕ, ◌+◌, ◌≤◌, List, length, Result, Ok, Err, ◌≡◌, refl, arith}
+use Rattle.std.proofs.Common.{ℕ, ◌+◌, ◌≤◌, List, length, Result, Ok, ◌≡◌, arith}
 use Rattle.imagesize.proofs.Detection.{kind_cost, kind_at_most}
 use Rattle.imagesize.proofs.Ways.{laws_of}
 use Rattle.imagesize.specs.Counts.{cost, most_bytes, most_as, stated_bytes, stated_as}
@@ -7,7 +7,6 @@ use Rattle.imagesize.specs.Meaning.{kind_reads, meaning_reads, size_reads}
 use Rattle.imagesize.specs.Types.{lasts, way_of}
 use Rattle.imagesize.specs.Parted.{has_texts}
 use Rattle.imagesize.specs.declared.types.ImageType.{ImageType}
-use Rattle.imagesize.specs.declared.types.ImageType.TheVariants.{Aseprite}
 use Rattle.imagesize_source.proofs.Costs.{bound_of}
 use Rattle.imagesize_source.proofs.Runs.{total-append}
 use Rattle.imagesize_source.proofs.Way.{cost_way}
@@ -50,3 +49,5 @@ most_stated r d = grind arith
 
 pub cost_stated : (d : List ℕ) (offset : ℕ) → cost d offset ≤ stated_bytes d offset
 cost_stated d offset = omega (arith, cost_most d offset, most_stated (stated (kind_reads d offset).answer) d)
+
+pub ruleset costs = (cost_most, cost_stated, cost_within)

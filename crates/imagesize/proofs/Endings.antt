@@ -1,11 +1,11 @@
 -- How calls end: over a reader they want no memory, and spend a budget whole; over a slice nothing stops them.
-use Rattle.std.proofs.Common.{◌≡◌, ℕ, ◌+◌, ◌-◌, ◌^◌, ◌≤◌, min, true, false, Option, Some, None, Result, Ok, Err, IfErr, IfSome, refl, sym, ap, subst, arith}
+use Rattle.std.proofs.Common.{List, is_some, ◌≡◌, ℕ, ◌+◌, ◌-◌, ◌^◌, ◌≤◌, min, true, false, Option, Some, None, Result, Ok, Err, IfErr, IfSome, refl, arith}
 use Rattle.std.specs.Prelude.{option_map}
 use Rattle.std.specs.declared.io.traits.SeekFrom.TheVariants.{Start}
 use Rattle.imagesize.specs.Probed.{SpentAll}
 use Rattle.std.specs.declared.io.Error.{Error}
-use Rattle.imagesize_io.proofs.Openings.{opened_leaves, stop_cases, told_last}
-use Rattle.imagesize_io.specs.Answers.{IsLast, Leaves}
+use Rattle.imagesize_io.proofs.Openings.{opened_leaves, opened_takes, stop_cases, told_last}
+use Rattle.imagesize_io.specs.Answers.{CountsWithin, IsLast, Leaves, RisesWithin}
 use Rattle.imagesize_io.specs.ReaderState.{Opens, start_state}
 use Rattle.imagesize_io.specs.StopOf.{kept_error, last_failed}
 use Rattle.imagesize_io.specs.Telling.{SeekTells, Telling}
@@ -15,7 +15,7 @@ use Rattle.imagesize_source.specs.Halts.{with_error}
 use Rattle.imagesize_source.specs.Outcome.{outcome_of}
 use Rattle.imagesize_source.specs.Reading.{Reads, is_faulted, is_stopped}
 use Rattle.imagesize_source.specs.declared.halt.Halt.{Halt}
-use Rattle.imagesize_source.proofs.Halts.{error_fault, error_memory, error_spent, stated_goes_on, stated_same}
+use Rattle.imagesize_source.proofs.Halts.{error_fault, error_spent, stated_goes_on, stated_same}
 use Rattle.imagesize_io.specs.Standing.{behind_of, drift}
 use Rattle.imagesize_source.specs.State.{State, Runs, since_of, model_of}
 use Rattle.imagesize_source.specs.declared.error.ImageError.{ImageError}
@@ -51,6 +51,9 @@ pub slice_unstopped : {X : Type 0} (failure : ImageError) (budget : ℕ) (r : Re
     → is_stopped_error (with_error failure budget r) ≡ false
 slice_unstopped failure budget r goes_on = grind (arith, stated_same, stated_goes_on)
 
+-- what proves the result of a call over a slice
+pub ruleset over_slice = (never_stopped, slice_answer, slice_unstopped, stated_same)
+
 -- a budget that was spent is what was taken, and at least 64
 pub budget_taken : {X : Type 0} {a b : State} (told n : ℕ) (r : Result X Halt) (reads : Reads X)
     → a.frame.budget ≡ min (told + 64)
@@ -58,13 +61,6 @@ pub budget_taken : {X : Type 0} {a b : State} (told n : ℕ) (r : Result X Halt)
     → IfErr (with_error b.failure b.frame.budget r) (λ e. IfSome (budget_spent e) (λ k. (k ≡ n) × (64 ≤ k)))
 budget_taken told n (Ok x) reads start plain h took = tt
 budget_taken {b = b} told n (Err halt) reads start plain h took = grind (arith, error_spent)
-
-pub budget_least : {X : Type 0} {a b : State} (told : ℕ) (r : Result X Halt) (reads : Reads X)
-    → a.frame.budget ≡ min (told + 64)
-    (2 ^ 64 - 1) → Plain b → Runs a b r reads
-    → IfErr (with_error b.failure b.frame.budget r) (λ e. IfSome (budget_spent e) (λ k. 64 ≤ k))
-budget_least told (Ok x) reads start plain h = tt
-budget_least {b = b} told (Err halt) reads start plain h = grind (arith, budget_taken)
 
 rose : (before after : Option ℕ) (taken : ℕ) → drift after taken ≡ drift before 0
     → after ≡ option_map (λ c. c + taken) before
@@ -77,6 +73,17 @@ pub budget_counted : {X : Type 0} {a b : State} (told : ℕ) (before after : Opt
     → IfErr (with_error b.failure b.frame.budget r) (λ e. IfSome (budget_spent e) (SpentAll before after))
 budget_counted told before after (Ok x) reads start counts plain h counted = tt
 budget_counted {b = b} told before after (Err halt) reads start counts plain h counted = grind (arith, rose, budget_taken)
+
+-- and rose by at most what the spans count
+rises : (before after : Option ℕ) (taken k : ℕ) → drift after taken ≡ drift before 0 → taken ≤ k → RisesWithin before after k
+rises before after taken k since most = grind (arith, rose)
+
+pub counts_opened : {X : Type 0} (reads_of : List ℕ → ℕ → Reads X) (telling mid : Option Telling) (before after : Option ℕ)
+    (home : ℕ) (opened : Opened) (a b : State) (r : Result X Halt) → a ≡ start_state mid before home opened.told
+    → is_some b.failed ≡ true → Opens telling mid (Ok opened) → Runs a b r (reads_of a.held.input opened.offset)
+    → since_of b.frame.backing ≡ drift after b.taken
+    → CountsWithin telling before after (λ d offset. outcome_of (reads_of d offset))
+counts_opened reads_of telling mid before after home opened a b r start told opens h counted = grind (arith, opened_takes, rises)
 
 -- a failure that ends a call over a reader is the reader's last one
 pub fault_last : {X : Type 0} {a b : State} (failure : Option (Option Error)) (fault : Option Error) (r : Result X Halt)

@@ -1,5 +1,5 @@
 -- A size stays, whatever bytes follow.
-use Rattle.std.proofs.Common.{arith, ◌≡◌, ℕ, true, List, ◌++◌, Result, Ok, Err, IfOk, IsTrue, refl, sym, ap, ◌∙◌}
+use Rattle.std.proofs.Common.{arith, ◌≡◌, ℕ, true, List, ◌++◌, Result, Ok, IfOk, IsTrue, sym, ap, ◌∙◌}
 use Rattle.imagesize.proofs.Detection.{kind_cost, way_more}
 use Rattle.imagesize.proofs.Ways.{laws_of}
 use Rattle.imagesize.specs.Counts.{lasts_as}

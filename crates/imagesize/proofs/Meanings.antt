@@ -1,6 +1,6 @@
 -- The size by a type that was found.
 use Rattle.std.proofs.lemmas.Bool.Decides.{nat_tests}
-use Rattle.std.proofs.Common.{List, ◌≡◌, ℕ, ◌≤◌, Option, Some, None, Result, Ok, Err, IfSome, is_some, true, false, refl, sym, ap, ◌∙◌, subst, arith}
+use Rattle.std.proofs.Common.{List, ◌≡◌, ℕ, ◌≤◌, Option, Some, None, Result, Ok, Err, IfSome, is_some, true, false, sym, ap, ◌∙◌, subst, arith}
 use Rattle.std.specs.Result.{result_ok}
 use Rattle.imagesize.proofs.Counts.{cost_most, cost_stated, cost_within, size_within}
 use Rattle.imagesize.proofs.Detection.{kind_within}

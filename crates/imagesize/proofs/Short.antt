@@ -1,5 +1,5 @@
 -- What is too short for a type ends there.
-use Rattle.std.proofs.Common.{◌≡◌, ℕ, ◌+◌, ◌<◌, List, length, Option, None, Some, Result, Err, ap, arith}
+use Rattle.std.proofs.Common.{◌≡◌, ℕ, ◌+◌, ◌<◌, List, length, Option, Result, Err, ap, arith}
 use Rattle.std.proofs.lemmas.Bool.Decides.{nat_tests}
 use Rattle.imagesize.specs.Meaning.{kind_of, kind_reads, meaning, meaning_reads}
 use Rattle.imagesize.specs.Short.{Ends}

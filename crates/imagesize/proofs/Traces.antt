@@ -12,9 +12,9 @@ use Rattle.imagesize.proofs.Counts.{cost_stated, cost_within}
 use Rattle.imagesize.proofs.Endings.{never_stopped}
 use Rattle.imagesize.proofs.Extension.{size_lasts}
 use Rattle.imagesize.proofs.Meanings.{same_kind}
-use Rattle.imagesize.proofs.Locality.{local_kind, local_meaning}
+use Rattle.imagesize.proofs.Locality.{same_kind_of, same_meaning}
 use Rattle.imagesize.proofs.Within.{marks_few, meaning_within}
-use Rattle.imagesize_source.proofs.Agreement.{agrees_first, same_by_local}
+use Rattle.imagesize_source.proofs.Agreement.{agrees_first}
 use Rattle.imagesize_source.proofs.Recordings.{past-recording}
 use Rattle.imagesize_source.specs.Agreement.{Agrees}
 use Rattle.imagesize_source.specs.Outcome.{outcome_of}
@@ -80,16 +80,14 @@ no_span n (s ∷ spans) within is = let here = within 0 s (omega arith) in absur
 pub no_marks : (d : List ℕ) → length d ≡ 0 → length (meaning d 0).marks ≡ 0
 no_marks d is = no_span (length d) (meaning d 0).marks (meaning_within d 0) is
 
--- a size stays, whatever bytes follow
-pub answer_lasts : (d : List ℕ) (q : Result ImageSize ImageError) → q ≡ (meaning d 0).answer → IsTrue (lasts_as (kind_of d 0).answer)
-    → IfOk q (λ size. (x : List ℕ) → (meaning (d ++ x) 0).answer ≡ Ok size)
-answer_lasts d q is = size_lasts d 0 q is
-
 -- an input that agrees on the marks is the same
 pub same : (d e : List ℕ) → Agrees d e (meaning d 0).marks → IsSame d e
 unfolding meaning_reads
 same d e agrees = record {
-  kind = ap outcome_of (same_by_local (λ x. kind_reads x 0) (local_kind 0) d e
-      (agrees_first (kind_reads d 0).marks (kind_reads d 0).answer (λ found. size_reads found d) agrees));
-  meaning = ap outcome_of (same_by_local (λ x. meaning_reads x 0) (local_meaning 0) d e agrees);
+  kind = same_kind_of d 0 e (agrees_first (kind_reads d 0).marks (kind_reads d 0).answer (λ found. size_reads found d) agrees);
+  meaning = same_meaning d 0 e agrees;
 }
+
+pub ruleset marks = (no_marks, spans_cut, spans_few, spans_stated, spans_within)
+
+pub ruleset recorded = (goes_on, recorded_found, recorded_kind, recorded_spans)

@@ -6,7 +6,7 @@ use Rattle.std.specs.Option.{ForSome}
 use Rattle.std.specs.Result.{result_ok}
 use Rattle.std.proofs.lemmas.Bool.Decides.{nat_tests}
 use Rattle.imagesize.specs.Meaning.{kind_of, kind_reads, meaning, meaning_reads, size_of, size_reads}
-use Rattle.imagesize.specs.Parted.{Fits, HasKnown, IfFound, IfWanted, IsProbed, Says, SaysOf, Tells, Wants, has_texts, texts_as, texts_of, found_or_wanted, wanted_of, with_type}
+use Rattle.imagesize.specs.Parted.{Fits, HasKnown, IfFound, IfWanted, IsProbed, Says, SaysOf, Tells, TellsOf, Wants, has_texts, texts_as, texts_of, found_or_wanted, wanted_of, with_type}
 use Rattle.imagesize.specs.declared.parts.PartsAnswer.{PartsAnswer}
 use Rattle.imagesize.specs.declared.parts.PartsAnswer.TheVariants.{Found, Wanted}
 use Rattle.imagesize.specs.declared.types.ImageType.{ImageType}
@@ -315,6 +315,18 @@ fits true n spans bytes (Some m) found true lacks =
 fits false n spans bytes (Some m) found true lacks =
     let is = lacks m refl in (is.0, let few = is.1 in let within = is.2 in omega arith)
 fits texts n spans bytes missed found false lacks = tt
+
+-- all of what is told of the readings
+pub tells_of : {X : Type 0} (texts : Bool) (f : List ℕ → Reads X) → IsLocal texts f → (n : ℕ) (spans : List Span)
+    (bytes : List ℕ) (log : List Span) (missed : Option Missing) (failure : ImageError) (budget : ℕ) (r : Result X Halt)
+    → Called f n spans bytes log missed r → TellsOf texts (λ d. outcome_of (f d)) n spans bytes
+    (found_or_wanted (with_error failure budget r) (option_map (wanted_of texts) (cond (is_faulted r) missed None)))
+tells_of texts f is_local n spans bytes log missed failure budget r call = record {
+  says = λ d has short. says_of texts f is_local d n spans bytes has short log missed failure budget r call;
+  fits = fits texts n spans bytes missed (with_error failure budget r) (is_faulted r) call.lacks;
+  reaches = λ short is_text. reaches_end f n spans bytes texts log missed failure budget r short is_text call;
+  unstopped = λ short. unstopped f n spans bytes texts log missed failure budget r short call;
+}
 
 -- ---- what the call left behind has the same parts
 

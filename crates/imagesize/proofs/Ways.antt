@@ -18,7 +18,6 @@ use Rattle.imagesize.proofs.Detection.{kind_cost}
 use Rattle.imagesize.specs.Parted.{has_texts}
 use Rattle.imagesize.specs.declared.types.ImageType.{ImageType}
 use Rattle.imagesize.specs.Types.{lasts, way_of}
-use Rattle.imagesize.specs.declared.types.ImageType.TheVariants.{Aseprite, Astc, Atc, Bmp, Dds, Eac, Etc2, Exr, Farbfeld, Gif, Hdr, Heif, Ico, Ilbm, Jpeg, Jxl, Ktx2, Pnm, Pvrtc, Psd, Qoi, Tga, Tiff, Vtf, Webp}
 use Rattle.imagesize_source.proofs.Way.{Laws}
 
 ruleset fixed_laws = (sides_laws, height_first_laws, atc_laws, pkm_laws, pvrtc_laws, webp_laws)

@@ -1,5 +1,5 @@
 -- Each span that an answer rests on has a byte, and lies within the input.
-use Rattle.std.proofs.Common.{◌≡◌, ℕ, ◌+◌, ◌-◌, ◌<◌, ◌≤◌, min, List, [], ◌∷◌, ◌++◌, length, take, suc, Option, Some, None, Result, Ok, Err, arith}
+use Rattle.std.proofs.Common.{◌≡◌, ℕ, ◌+◌, ◌-◌, ◌<◌, ◌≤◌, min, List, [], ◌∷◌, ◌++◌, length, take, suc, Option, Result, Ok, Err, arith}
 use Rattle.std.specs.Prelude.{codes, flat_map}
 use Rattle.std.specs.Option.{option_map_or}
 use Rattle.std.specs.List.{range_with_len}
@@ -7,7 +7,7 @@ use Rattle.std.proofs.Math.Seq.{take-append_seam}
 use Rattle.std.proofs.lemmas.List.Elements.{All-append, All-nil}
 use Rattle.std.proofs.lemmas.Grind.{common_steps}
 use Rattle.imagesize_boxes.specs.Heif.{heif, heif_in_iprp, heif_in_meta, properties, search_for}
-use Rattle.imagesize_boxes.specs.Jxl.{codestream, jxl_chain, jxl_codestream, jxl_size, jxl_start}
+use Rattle.imagesize_boxes.specs.Jxl.{codestream, jxl_codestream, jxl_size, jxl_start}
 use Rattle.imagesize_texts.specs.Exr.{exr_attributes, name_room}
 use Rattle.imagesize_texts.specs.Hdr.{hdr_identifier, hdr_lines}
 use Rattle.imagesize_texts.specs.Pnm.{pnm_words}
@@ -71,11 +71,6 @@ layout_within d (reading r offset f) = onward_within (length d) (read_of d r off
     (λ bs. layout_reads d (f bs)) (read_within d r offset) (λ bs. layout_within d (f bs))
 layout_within d (begin_record t) = layout_within d t
 
-then_within : {X Y : Type 0} (n : ℕ) (r : Reads X) (f : X → Reads Y) → AreWithin n r.marks
-    → ((x : X) → AreWithin n (f x).marks)
-    → AreWithin n (and_then r f).marks
-then_within n r f first rest = onward_within n r.marks r.answer f first rest
-
 record_within : {C X : Type 0} (c : Chain C X) (d : List ℕ) (at : Option (Along C))
     → AreWithin (length d) (option_map_or (λ u. (next_record c d u).marks) at [])
 record_within c d at = grind (arith, layout_within)
@@ -94,21 +89,12 @@ chain_within c d = records_within c d (start c) (range_with_len 0 (records_from 
 -- of each format that is no layout
 heif_within : (d : List ℕ) → AreWithin (length d) (heif d).marks
 heif_within d =
-    then_within (length d) (number_read d Big 0 4)
-    (λ first. and_then (chain_at (search_for (codes "meta") first) d) (λ meta. heif_in_meta meta d))
-    (reading_within d 0 4)
-    (λ first. then_within (length d) (chain_at (search_for (codes "meta") first) d) (λ meta. heif_in_meta meta d)
-    (chain_within (search_for (codes "meta") first) d)
-    (λ meta. then_within (length d) (bytes_read d (meta.offset + 8) 4)
-    (λ version. and_then (chain_at (search_for (codes "iprp") (meta.offset + 12)) d) (λ iprp. heif_in_iprp iprp d))
-    (reading_within d (meta.offset + 8) 4)
-    (λ version. then_within (length d) (chain_at (search_for (codes "iprp") (meta.offset + 12)) d)
-    (λ iprp. heif_in_iprp iprp d)
-    (chain_within (search_for (codes "iprp") (meta.offset + 12)) d)
-    (λ iprp. then_within (length d) (chain_at (search_for (codes "ipco") (iprp.offset + 8)) d)
-    (λ ipco. chain_at (properties ipco.size (ipco.offset + 8)) d)
-    (chain_within (search_for (codes "ipco") (iprp.offset + 8)) d)
-    (λ ipco. chain_within (properties ipco.size (ipco.offset + 8)) d)))))
+    onward_within (length d) _ _ _ (reading_within d 0 4) (λ first.
+    onward_within (length d) _ _ _ (chain_within (search_for (codes "meta") first) d) (λ meta.
+    onward_within (length d) _ _ _ (reading_within d (meta.offset + 8) 4) (λ version.
+    onward_within (length d) _ _ _ (chain_within (search_for (codes "iprp") (meta.offset + 12)) d) (λ iprp.
+    onward_within (length d) _ _ _ (chain_within (search_for (codes "ipco") (iprp.offset + 8)) d) (λ ipco.
+    chain_within (properties ipco.size (ipco.offset + 8)) d)))))
 
 codestream_within : (d : List ℕ) (found : Option (List ℕ)) → AreWithin (length d) (codestream d found).marks
 codestream_within d found = grind (arith, chain_within)
@@ -123,24 +109,20 @@ way_within : (way : Way ImageSize) (d : List ℕ) → IsMarked way → AreWithin
 way_within way d marked = grind (arith, layout_within)
 
 type_marked : (type : ImageType) → IsMarked (way_of type)
-type_marked Exr = λ d. then_within (length d) (number_read d Little 4 4)
-    (λ version. chain_at (exr_attributes (name_room version)) d) (reading_within d 4 4)
-    (λ version. chain_within (exr_attributes (name_room version)) d)
-type_marked Hdr = λ d. then_within (length d) (layout_reads d hdr_identifier) (λ first. chain_at (hdr_lines first) d)
-    (layout_within d hdr_identifier) (λ first. chain_within (hdr_lines first) d)
+type_marked Exr = λ d.
+    onward_within (length d) _ _ _ (reading_within d 4 4) (λ version. chain_within (exr_attributes (name_room version)) d)
+type_marked Hdr = λ d. onward_within (length d) _ _ _ (layout_within d hdr_identifier) (λ first. chain_within (hdr_lines first) d)
 type_marked (Heif _) = heif_within
-type_marked Ico = λ d. then_within (length d) (number_read d Little 4 2) (λ count. chain_at (icon_entries count) d)
-    (reading_within d 4 2) (λ count. chain_within (icon_entries count) d)
+type_marked Ico = λ d. onward_within (length d) _ _ _ (reading_within d 4 2) (λ count. chain_within (icon_entries count) d)
 type_marked Ilbm = chain_within ilbm_chunks
 type_marked Jpeg = chain_within jpeg_segments
-type_marked Jxl = λ d. then_within (length d) (jxl_codestream d) (λ front. just (jxl_size front) [])
-    (then_within (length d) (layout_reads d jxl_start) (codestream d) (layout_within d jxl_start) (codestream_within d))
-    (λ front. All-nil (IsWithin (length d)))
+type_marked Jxl = λ d. onward_within (length d) (jxl_codestream d).marks (jxl_codestream d).answer (λ front. just (jxl_size front) [])
+    (onward_within (length d) (layout_reads d jxl_start).marks (layout_reads d jxl_start).answer (codestream d) (layout_within d jxl_start)
+    (codestream_within d)) (λ front. All-nil (IsWithin (length d)))
 type_marked Pnm = chain_within pnm_words
-type_marked Tiff = λ d. then_within (length d) (layout_reads d tiff_header) (tiff_directory d) (layout_within d tiff_header)
-    (λ header. then_within (length d) (number_read d header.order header.directory (count_bytes header.version))
-    (λ count. chain_at (tiff_entries header count) d) (reading_within d header.directory (count_bytes header.version))
-    (λ count. chain_within (tiff_entries header count) d))
+type_marked Tiff = λ d. onward_within (length d) _ _ _ (layout_within d tiff_header) (λ header.
+    onward_within (length d) _ _ _ (reading_within d header.directory (count_bytes header.version)) (λ count.
+    chain_within (tiff_entries header count) d))
 type_marked _ = tt
 
 -- the marks of a size, and of a type with it
@@ -150,8 +132,7 @@ size_within type d = way_within (way_of type) d (type_marked type)
 pub meaning_within : (d : List ℕ) (offset : ℕ) → AreWithin (length d) (meaning_reads d offset).marks
 unfolding meaning_reads
 meaning_within d offset =
-    then_within (length d) (kind_reads d offset) (λ found. size_reads found d) (layout_within d (kind (length d) offset))
-    (λ found. size_within found d)
+    onward_within (length d) _ _ _ (layout_within d (kind (length d) offset)) (λ found. size_within found d)
 
 -- so no reader is left past the end of its bytes
 pub meaning_ends : EndsWithin meaning_reads
@@ -175,3 +156,5 @@ marks_few d offset = omega
 -- those that a buffer begins with
 pub front_is : (marks new rest : List Span) (count : ℕ) → new ≡ marks → count ≡ length marks → take count (new ++ rest) ≡ marks
 front_is marks new rest count is counted = grind (arith, take-append_seam)
+
+pub ruleset front = (front_is, meaning_within, marks_few)

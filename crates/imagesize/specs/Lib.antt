@@ -3,6 +3,7 @@ pub mod Counts
 pub mod Kind
 pub mod Meaning
 pub mod Names
+pub mod Opening
 pub mod Parted
 pub mod Probed
 pub mod Queries

@@ -1,13 +1,14 @@
 -- What the calls over the parts of an input return.
-use Rattle.std.specs.Prelude.{◌≡◌, ℕ, ◌+◌, ◌<◌, ◌≤◌, Bool, true, false, if◌then◌else◌, List, length, slice_index, Option, None, Some, is_some, Result, Ok, Err}
+use Rattle.std.specs.Prelude.{◌≡◌, ℕ, ◌+◌, ◌^◌, ◌<◌, ◌≤◌, Bool, true, false, if◌then◌else◌, List, length, slice_index, Option, None, Some, is_some, Result, Ok, Err}
 use Rattle.std.specs.Result.{result_ok}
 use Rattle.imagesize.specs.Meaning.{kind_of, meaning}
 use Rattle.imagesize.specs.declared.parts.PartsAnswer.{PartsAnswer}
 use Rattle.imagesize.specs.declared.parts.PartsAnswer.TheVariants.{Found, Wanted}
 use Rattle.imagesize.specs.declared.types.ImageType.{ImageType}
 use Rattle.imagesize.specs.declared.types.ImageType.TheVariants.{Exr, Hdr, Pnm}
-use Rattle.imagesize_source.specs.Agreement.{is_covered, has_whole}
-use Rattle.imagesize_source.specs.Known.{byte_in_parts}
+use Rattle.imagesize_source.specs.Agreement.{EndsBetween, is_covered, has_whole}
+use Rattle.imagesize_source.specs.Known.{byte_in_parts, filled_input}
+use Rattle.imagesize_source.specs.Errors.{is_stopped}
 use Rattle.imagesize_source.specs.Outcome.{Outcome}
 use Rattle.imagesize_source.specs.declared.error.ImageError.{ImageError}
 use Rattle.imagesize_source.specs.declared.source.parts.Missing.{Missing}
@@ -76,6 +77,16 @@ Fits n (Wanted w) = IsWithin n w
 abbrev pub Tells : {T : Type 0} → PartsAnswer T → Type 0
 Tells (Found found) = Unit {0}
 Tells (Wanted w) = ⊥
+
+-- What reads of an input return over its parts: for each input that has the known bytes, their result, or a span to
+-- request. Once the reads are of a text, the span reaches to the end of a read. No result is a failure.
+pub record TellsOf {X : Type 0} (texts : Bool) (reads : List ℕ → Outcome X) (n : ℕ) (spans : List Span) (content : List ℕ)
+    (told : PartsAnswer (Result X ImageError)) : Type 0 where
+  pub says : (d : List ℕ) → HasKnown d n spans content → n < 2 ^ 63 → SaysOf texts (reads d) n spans content told
+  pub fits : Fits n told
+  pub reaches : n < 2 ^ 63 → texts ≡ true
+      → IfWanted told (λ w. EndsBetween w.start (w.start + w.len) (reads (filled_input n spans content)).marks)
+  pub unstopped : n < 2 ^ 63 → IfFound told (λ answer. is_stopped answer ≡ false)
 
 -- what was found, if nothing is missing
 abbrev pub found_or_wanted : {T : Type 0} → T → Option Span → PartsAnswer T

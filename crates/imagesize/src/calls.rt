@@ -1,16 +1,15 @@
 //! The calls: type and size of the image in a slice, or in a reader's bytes.
-ghost use Rattle.std.specs.Prelude.{◌≡◌, ℕ, ◌+◌, ◌<◌, ◌≤◌, List, length, ◌++◌, IsTrue, IfOk, IsOkAnd, IfErr, IfSome, IsSome, Some, true, false, Option, Ok, Err, option_map};
+ghost use Rattle.std.specs.Prelude.{◌≡◌, ℕ, ◌+◌, ◌<◌, ◌≤◌, List, length, ◌++◌, IsTrue, IfOk, IsOkAnd, IfErr, IfSome, IsSome, true, false, Ok, Err, option_map};
 ghost use Rattle.imagesize_io.specs.Answers.{Answers, CountsWithin, IsLast, Leaves, LeavesAt};
 ghost use Rattle.imagesize_source.specs.Limits.{allowance};
 ghost use Rattle.imagesize_source.specs.Errors.{end_of_input, is_fault, is_memory, budget_spent, is_stopped};
 ghost use Rattle.imagesize_source.specs.Reading.{is_stopped as has_stopped};
 ghost use Rattle.imagesize_source.specs.State.{Runs};
-ghost use Rattle.imagesize_io.specs.ReaderState.{Opens};
-ghost use Rattle.imagesize_io.specs.Telling.{Telling};
 ghost use Rattle.imagesize_source.specs.Agreement.{Agrees};
 ghost use Rattle.imagesize.specs.Counts.{Stays, cost, keeps, lasts_as, most_bytes, stated_bytes};
 ghost use Rattle.std.specs.Result.{result_ok};
 ghost use Rattle.imagesize.specs.Meaning.{kind_of, kind_reads, meaning, meaning_reads, size_of};
+ghost use Rattle.imagesize.specs.Opening.{IsOpened, before};
 ghost use Rattle.imagesize.specs.Probed.{FindsKind, Probes, SpentAll};
 ghost use Rattle.imagesize.specs.Short.{Ends};
 
@@ -47,6 +46,7 @@ pub struct Probed {
 ///
 /// assert_eq!(image_type(b"GIF89a\x80\x02\xe0\x01\0\0").ok(), Some(ImageType::Gif));
 /// ```
+#[tactic(auto, using(crate::proofs::Endings::over_slice, crate::proofs::Locality::same_kind_of, crate::proofs::Short::no_kind))]
 pub fn image_type(header: &[u8]) -> ImageResult<ImageType>
     ensures value { result ≡ (kind_of header.now 0).answer }
     ensures short { length header.now < 12 → result ≡ Err end_of_input }
@@ -76,6 +76,7 @@ pub fn image_type(header: &[u8]) -> ImageResult<ImageType>
 /// let size = blob_size(b"GIF89a\x80\x02\xe0\x01\0\0")?;
 /// assert_eq!((size.width, size.height), (640, 480));
 /// ```
+#[tactic(auto, using(crate::proofs::Endings::over_slice, crate::proofs::Counts::costs, crate::proofs::Extension::size_lasts, crate::proofs::Locality::same_meaning, crate::proofs::Short::no_meaning))]
 pub fn blob_size(data: &[u8]) -> ImageResult<ImageSize>
     ensures value { result ≡ (meaning «data».now 0).answer }
     ensures short { length «data».now < 12 → result ≡ Err end_of_input }
@@ -117,6 +118,7 @@ pub fn blob_size(data: &[u8]) -> ImageResult<ImageSize>
 /// assert_eq!(kind, Some(ImageType::Gif));
 /// assert!(size.is_err());
 /// ```
+#[tactic(auto, using(crate::proofs::Endings::over_slice, crate::proofs::Meanings::same_kind))]
 pub fn blob_probe(data: &[u8]) -> (Option<ImageType>, ImageResult<ImageSize>)
     ensures kind { result.0 ≡ result_ok (kind_of «data».now 0).answer }
     ensures value { result.1 ≡ (meaning «data».now 0).answer }
@@ -130,6 +132,7 @@ pub fn blob_probe(data: &[u8]) -> (Option<ImageType>, ImageResult<ImageSize>)
 }
 
 // Type and size of the image in a slice.
+#[tactic(auto, using(crate::proofs::Endings::over_slice))]
 fn probe_slice(data: &[u8]) -> (Option<ImageType>, Result<ImageSize, Halt>)
     ensures value { result.1 ≡ (meaning_reads «data».now 0).answer }
     ensures kind { result.0 ≡ result_ok (kind_reads «data».now 0).answer }
@@ -166,6 +169,7 @@ pub(crate) fn probe<S: Source>(
 /// let bytes: &[u8] = b"GIF89a\x80\x02\xe0\x01\0\0";
 /// assert_eq!(reader_type(Cursor::new(bytes)).ok(), Some(ImageType::Gif));
 /// ```
+#[tactic(auto, using(crate::proofs::Memories::memory_answers, crate::proofs::Short::answers_end, crate::proofs::Short::no_kind))]
 pub fn reader_type<R: Told>(mut reader: R) -> ImageResult<ImageType>
     ensures answers { Answers (R.telling reader) kind_of result }
     ensures short { Ends (R.telling reader) result }
@@ -175,7 +179,13 @@ pub fn reader_type<R: Told>(mut reader: R) -> ImageResult<ImageType>
     ensures spent { IfErr result (λ e. IfSome (budget_spent e) (λ budget. allowance ≤ budget)) }
 {
     let opened = open(&mut reader, Origin::Offset)?;
-    read_type(&mut reader, opened)
+    // Bytes in memory are read where they lie, and are not counted: that saves half of the instructions of a call over a cursor.
+    if let Some(bytes) = reader.in_memory() {
+        return memory_type(bytes, opened.offset);
+    }
+    let mut source = ReaderSource::new(&mut reader, opened.told);
+    let found = detect(&mut source, opened.offset);
+    with_error(found, &source)
 }
 
 /// Reads the size in pixels of the image in a reader's bytes. The twelve bytes at the reader's offset give the type, and the
@@ -191,6 +201,7 @@ pub fn reader_type<R: Told>(mut reader: R) -> ImageResult<ImageType>
 /// let bytes: &[u8] = b"GIF89a\x80\x02\xe0\x01\0\0";
 /// assert_eq!(reader_size(Cursor::new(bytes))?.width, 640);
 /// ```
+#[tactic(auto, using(crate::proofs::Memories::opening, crate::proofs::Short::answers_end, crate::proofs::Short::no_meaning))]
 pub fn reader_size<R: Told>(mut reader: R) -> ImageResult<ImageSize>
     ensures answers { Answers (R.telling reader) meaning result }
     ensures short { Ends (R.telling reader) result }
@@ -200,7 +211,10 @@ pub fn reader_size<R: Told>(mut reader: R) -> ImageResult<ImageSize>
     ensures spent { IfErr result (λ e. IfSome (budget_spent e) (λ budget. allowance ≤ budget)) }
 {
     let opened = open(&mut reader, Origin::Offset)?;
-    read_size(&mut reader, opened)
+    match reader.in_memory() {
+        Some(bytes) => memory_size(bytes, opened.offset),
+        None => probe_opened(&mut reader, opened).answer,
+    }
 }
 
 /// Reads type and size of the image in a reader's bytes, and counts the bytes that are read for them.
@@ -219,6 +233,7 @@ pub fn reader_size<R: Told>(mut reader: R) -> ImageResult<ImageSize>
 /// ```
 // Not inlined: the copy in each caller would write the result a second time, in 30 instructions.
 #[inline(never)]
+#[tactic(auto, using(crate::proofs::Memories::opening))]
 pub fn reader_probe<R: Told>(reader: &mut R) -> Probed
     ensures probes { Probes (R.telling reader.old) result }
 
@@ -257,7 +272,7 @@ pub fn reader_probe<R: Told>(reader: &mut R) -> Probed
         found,
         taken,
         position,
-    } = memory_probe(bytes, opened);
+    } = memory_probe(bytes, opened.offset);
     leave(reader, position);
     let size = match found {
         Ok(size) => size,
@@ -293,6 +308,7 @@ impl ImageType {
     // Inlined: a caller over a cursor then gets a size without a copy of the whole result, which has room for an error. That saves 65
     // instructions.
     #[inline]
+    #[tactic(auto, using(crate::proofs::Memories::opening))]
     pub fn reader_size<R: Told>(&self, reader: &mut R) -> ImageResult<ImageSize>
         ensures answers { Answers (R.telling reader.old) (λ d offset. size_of self.now d) result }
         ensures counts { CountsWithin (R.telling reader.old) (R.count reader.old) (R.count reader.new) (λ d offset. size_of self.now d) }
@@ -310,95 +326,30 @@ impl ImageType {
         ensures offset { LeavesAt (R.telling reader.old) (R.telling reader.new) (λ d offset. size_of self.now d) }
     {
         let opened = open(reader, Origin::Start)?;
-        size_by(*self, reader, opened)
+        let Some(bytes) = reader.in_memory() else {
+            return size_opened(*self, reader, opened);
+        };
+        let budget = bytes.len() as u64 + ALLOWANCE;
+        let (found, position) = memory_size_as(*self, bytes);
+        leave(reader, position);
+        match found {
+            Ok(size) => Ok(size),
+            Err(halt) => Err(refused(halt, budget)),
+        }
     }
-}
-
-// The type of the image in the bytes of a reader that was opened, and is not used again. Bytes in memory are read where they
-// lie, and are not counted: that saves half of the instructions of a call over a cursor.
-#[inline(always)]
-fn read_type<R: Told>(reader: &mut R, opened: Opened) -> ImageResult<ImageType>
-    ensures answers { (telling : Option Telling) → Opens telling (R.telling reader.old) (Ok opened)
-        → Answers telling kind_of result }
-    ensures short { (telling : Option Telling) → Opens telling (R.telling reader.old) (Ok opened) → Ends telling result }
-    ensures memory { IfErr result (λ e. is_memory e ≡ false) }
-    ensures spent { IfErr result (λ e. IfSome (budget_spent e) (λ budget. allowance ≤ budget)) }
-{
-    match reader.in_memory() {
-        Some(bytes) => memory_type(bytes, opened.offset),
-        None => type_opened(reader, opened),
-    }
-}
-
-// The size of the image in the bytes of a reader that was opened, and is not used again.
-#[inline(always)]
-fn read_size<R: Told>(reader: &mut R, opened: Opened) -> ImageResult<ImageSize>
-    ensures answers { (telling : Option Telling) → Opens telling (R.telling reader.old) (Ok opened)
-        → Answers telling meaning result }
-    ensures short { (telling : Option Telling) → Opens telling (R.telling reader.old) (Ok opened) → Ends telling result }
-    ensures memory { IfErr result (λ e. is_memory e ≡ false) }
-    ensures spent { IfErr result (λ e. IfSome (budget_spent e) (λ budget. allowance ≤ budget)) }
-{
-    match reader.in_memory() {
-        Some(bytes) => memory_size(bytes, opened.offset),
-        None => probe_opened(reader, opened).answer,
-    }
-}
-
-// The size, read as this type, in the bytes of a reader that was opened, and is used again.
-#[inline(always)]
-fn size_by<R: Told>(kind: ImageType, reader: &mut R, opened: Opened) -> ImageResult<ImageSize>
-    ensures answers { (telling : Option Telling) → Opens telling (R.telling reader.old) (Ok opened)
-        → Answers telling (λ d offset. size_of kind d) result }
-    ensures counts { (telling : Option Telling) → Opens telling (R.telling reader.old) (Ok opened)
-        → CountsWithin telling (R.count reader.old) (R.count reader.new) (λ d offset. size_of kind d) }
-    ensures spent { IfErr result (λ e. IfSome (budget_spent e) (λ budget. SpentAll (R.count reader.old) (R.count reader.new) budget)) }
-    ensures memory { IfErr result (λ e. is_memory e ≡ false) }
-    ensures fault { IfErr result (λ e. is_fault e ≡ true → IsLast (R.failure reader.new) e) }
-    ensures leaves { (telling : Option Telling) → Opens telling (R.telling reader.old) (Ok opened)
-        → Leaves telling (R.telling reader.new) }
-    ensures offset { (telling : Option Telling) → Opens telling (R.telling reader.old) (Ok opened)
-        → LeavesAt telling (R.telling reader.new) (λ d offset. size_of kind d) }
-{
-    let Some(bytes) = reader.in_memory() else {
-        return size_opened(kind, reader, opened);
-    };
-    let budget = bytes.len() as u64 + ALLOWANCE;
-    let (found, position) = memory_size_as(kind, bytes);
-    leave(reader, position);
-    match found {
-        Ok(size) => Ok(size),
-        Err(halt) => Err(refused(halt, budget)),
-    }
-}
-
-// The type of the image in the bytes of a reader that was opened.
-#[inline(always)]
-fn type_opened<R: Told>(reader: &mut R, opened: Opened) -> ImageResult<ImageType>
-    ensures answers { (telling : Option Telling) → Opens telling (R.telling reader.old) (Ok opened)
-        → Answers telling kind_of result }
-    ensures short { (telling : Option Telling) → Opens telling (R.telling reader.old) (Ok opened) → Ends telling result }
-    ensures memory { IfErr result (λ e. is_memory e ≡ false) }
-    ensures spent { IfErr result (λ e. IfSome (budget_spent e) (λ budget. allowance ≤ budget)) }
-{
-    let mut source = ReaderSource::new(reader, opened.told);
-    let found = detect(&mut source, opened.offset);
-    with_error(found, &source)
 }
 
 // The size of the image in the bytes of a reader that was opened, read as this type.
 fn size_opened<R: Told>(kind: ImageType, reader: &mut R, opened: Opened) -> ImageResult<ImageSize>
-    ensures answers { (telling : Option Telling) → Opens telling (R.telling reader.old) (Ok opened)
-        → Answers telling (λ d offset. size_of kind d) result }
-    ensures counts { (telling : Option Telling) → Opens telling (R.telling reader.old) (Ok opened)
-        → CountsWithin telling (R.count reader.old) (R.count reader.new) (λ d offset. size_of kind d) }
+    requires { IsOpened (R.telling reader.old) opened }
+    ensures answers { Answers (before (R.telling reader.old) opened) (λ d offset. size_of kind d) result }
+    ensures counts { CountsWithin (before (R.telling reader.old) opened) (R.count reader.old) (R.count reader.new)
+        (λ d offset. size_of kind d) }
     ensures spent { IfErr result (λ e. IfSome (budget_spent e) (λ budget. SpentAll (R.count reader.old) (R.count reader.new) budget)) }
     ensures memory { IfErr result (λ e. is_memory e ≡ false) }
     ensures fault { IfErr result (λ e. is_fault e ≡ true → IsLast (R.failure reader.new) e) }
-    ensures leaves { (telling : Option Telling) → Opens telling (R.telling reader.old) (Ok opened)
-        → Leaves telling (R.telling reader.new) }
-    ensures offset { (telling : Option Telling) → Opens telling (R.telling reader.old) (Ok opened)
-        → LeavesAt telling (R.telling reader.new) (λ d offset. size_of kind d) }
+    ensures leaves { Leaves (before (R.telling reader.old) opened) (R.telling reader.new) }
+    ensures offset { LeavesAt (before (R.telling reader.old) opened) (R.telling reader.new) (λ d offset. size_of kind d) }
 {
     let mut source = ReaderSource::new(reader, opened.told);
     let found = size(&mut source, kind);
@@ -411,16 +362,15 @@ fn size_opened<R: Told>(kind: ImageType, reader: &mut R, opened: Opened) -> Imag
 // Type and size of the image in the bytes of a reader that was opened.
 #[inline(always)]
 fn probe_opened<R: Told>(reader: &mut R, opened: Opened) -> Probed
-    ensures probes { (telling : Option Telling) → Opens telling (R.telling reader.old) (Ok opened) → Probes telling result }
+    requires { IsOpened (R.telling reader.old) opened }
+    ensures probes { Probes (before (R.telling reader.old) opened) result }
     ensures typed { IfOk result.answer (λ _. IsSome result.kind) }
     ensures counts { R.count reader.new ≡ option_map (λ c. c + result.taken) (R.count reader.old) }
     ensures spent { IfErr result.answer (λ e. IfSome (budget_spent e) (λ budget. (budget ≡ result.taken) × (allowance ≤ budget))) }
     ensures memory { IfErr result.answer (λ e. is_memory e ≡ false) }
     ensures fault { IfErr result.answer (λ e. is_fault e ≡ true → IsLast (R.failure reader.new) e) }
-    ensures leaves { (telling : Option Telling) → Opens telling (R.telling reader.old) (Ok opened)
-        → Leaves telling (R.telling reader.new) }
-    ensures offset { (telling : Option Telling) → Opens telling (R.telling reader.old) (Ok opened)
-        → LeavesAt telling (R.telling reader.new) meaning }
+    ensures leaves { Leaves (before (R.telling reader.old) opened) (R.telling reader.new) }
+    ensures offset { LeavesAt (before (R.telling reader.old) opened) (R.telling reader.new) meaning }
 {
     let mut source = ReaderSource::new(reader, opened.told);
     let (kind, found) = probe(&mut source, opened.offset);

@@ -10,7 +10,6 @@ mod memory;
 mod names;
 mod parts;
 mod queries;
-mod spans;
 mod trace;
 mod types;
 
@@ -26,6 +25,5 @@ pub use imagesize_types::compression::{
 pub use imagesize_types::size::ImageSize;
 pub use names::TypeName;
 pub use parts::{PartsAnswer, parts_probe, parts_type};
-pub use spans::blob_spans;
-pub use trace::{Trace, blob_trace};
+pub use trace::{Trace, blob_spans, blob_trace};
 pub use types::{CompressionFamily, ImageType};

@@ -1,7 +1,7 @@
 //! Types and sizes from parts of an input, for a caller that does not have all of it.
 ghost use Rattle.std.specs.Prelude.{◌≡◌, ℕ, ◌+◌, ◌^◌, ◌<◌, true, false, List, None, if◌then◌else◌, option_map};
 ghost use Rattle.imagesize.specs.Meaning.{kind_of, meaning, size_of};
-ghost use Rattle.imagesize.specs.Parted.{Fits, HasKnown, IfFound, IfWanted, IsProbed, Says, SaysOf, Tells, has_texts, texts_of, found_or_wanted, wanted_of, with_type};
+ghost use Rattle.imagesize.specs.Parted.{Fits, HasKnown, IfFound, IfWanted, IsProbed, Says, SaysOf, Tells, TellsOf, has_texts, texts_of, found_or_wanted, wanted_of, with_type};
 ghost use Rattle.imagesize_source.specs.Agreement.{EndsBetween};
 ghost use Rattle.imagesize_source.specs.Known.{AllKnown, filled_input};
 ghost use Rattle.imagesize_source.specs.Errors.{end_of_input, is_stopped};
@@ -93,6 +93,7 @@ pub fn parts_probe(
 ///     PartsAnswer::Wanted(span) => println!("{} bytes from {} on", span.len, span.start),
 /// }
 /// ```
+#[tactic(auto, using(crate::proofs::Wanted::moved, crate::proofs::Wanted::tells))]
 pub fn parts_type(bytes: &[u8], spans: &[Span], total: u64) -> PartsAnswer<ImageResult<ImageType>>
     // For each input of that length that has the known bytes of these parts (there always is one):
     ensures says { (d : List ℕ) → HasKnown d total spans.now bytes.now → total < 2 ^ 63
@@ -127,6 +128,7 @@ impl ImageType {
     ///     PartsAnswer::Wanted(span) => println!("{} bytes from {} on", span.len, span.start),
     /// }
     /// ```
+    #[tactic(auto, using(crate::proofs::Wanted::moved, crate::proofs::Wanted::tells))]
     pub fn parts_size(
         &self,
         bytes: &[u8],
@@ -158,10 +160,7 @@ impl ImageType {
 // The type, by reads that start anew.
 #[inline(always)]
 fn type_of(source: &mut PartsSource<'_>) -> PartsAnswer<ImageResult<ImageType>>
-    ensures says { (d : List ℕ) → HasKnown d source.old.told source.old.spans.now source.old.bytes.now → source.old.told < 2 ^ 63
-        → SaysOf false (kind_of d 0) source.old.told source.old.spans.now source.old.bytes.now result }
-    ensures fits { Fits source.old.told result }
-    ensures unstopped { source.old.told < 2 ^ 63 → IfFound result (λ answer. is_stopped answer ≡ false) }
+    ensures tells { TellsOf false (λ d. kind_of d 0) source.old.told source.old.spans.now source.old.bytes.now result }
 
     // The parts do not change.
     ensures spans { source.new.spans.now ≡ source.old.spans.now }
@@ -176,12 +175,7 @@ fn type_of(source: &mut PartsSource<'_>) -> PartsAnswer<ImageResult<ImageType>>
 // The size, read as this type, by reads that start anew.
 #[inline(always)]
 fn size_as(source: &mut PartsSource<'_>, image: ImageType) -> PartsAnswer<ImageResult<ImageSize>>
-    ensures says { (d : List ℕ) → HasKnown d source.old.told source.old.spans.now source.old.bytes.now → source.old.told < 2 ^ 63
-        → SaysOf (has_texts image) (size_of image d) source.old.told source.old.spans.now source.old.bytes.now result }
-    ensures fits { Fits source.old.told result }
-    ensures reaches { source.old.told < 2 ^ 63 → has_texts image ≡ true → IfWanted result (λ w. EndsBetween w.start (w.start + w.len)
-        (size_of image (filled_input source.old.told source.old.spans.now source.old.bytes.now)).marks) }
-    ensures unstopped { source.old.told < 2 ^ 63 → IfFound result (λ answer. is_stopped answer ≡ false) }
+    ensures { TellsOf (has_texts image) (size_of image) source.old.told source.old.spans.now source.old.bytes.now result }
 {
     source.forget();
     let found = size(source, image);

@@ -8,8 +8,8 @@ use Rattle.imagesize_io.proofs.Leaving.{leaves_at}
 use Rattle.imagesize.proofs.calls.probe_opened.Goals as goal
 
 pub returns-clause-probes : goal.returns-clause-probes
-returns-clause-probes g c = λ telling opens.
-    probes_opened telling _ _ _ c.args.opened _ _ _ _ c.with_error-answer.ensures c.new-source.ensures.state refl opens
+returns-clause-probes g c =
+    probes_opened _ _ _ _ c.args.opened _ _ _ _ c.with_error-answer.ensures c.new-source.ensures.state refl c.requires
     c.probe-kind.ensures.runs
     c.probe-kind.ensures.kind (omega arith)
 
@@ -26,9 +26,9 @@ pub returns-clause-leaves : goal.returns-clause-leaves
 returns-clause-leaves g c = grind (arith, nat_tests, settled, leaves_reader)
 
 pub returns-clause-offset : goal.returns-clause-offset
-returns-clause-offset g c = λ telling opens.
-    leaves_at telling _ _ _ _ _ c.args.opened
+returns-clause-offset g c =
+    leaves_at _ _ _ _ _ _ c.args.opened
     c.probe-kind.new.source.ledger.progress c.probe-kind.new.source.ledger.window.items c.left-left.result _ _ _
-    meaning_reads bounded_meaning meaning_ends c.new-source.ensures.state opens c.probe-kind.ensures.runs
+    meaning_reads bounded_meaning meaning_ends c.new-source.ensures.state c.requires c.probe-kind.ensures.runs
     (search rules) refl refl (λ none. ap (λ r. g.R.Told.telling r) (c.settle.ensures.stays none)) c.settle.ensures.seeks
     c.left-left.ensures.position c.left-left.ensures.there

@@ -1,31 +1,17 @@
-use Rattle.std.proofs.Common.{arith, false, ap, ◌∙◌}
+use Rattle.std.proofs.Common.{false, ap, ◌∙◌}
 use Rattle.imagesize.proofs.Locality.{local_kind}
-use Rattle.imagesize.proofs.Wanted.{both_are, called, fits, says_of, unstopped}
+use Rattle.imagesize.proofs.Wanted.{both_are, called, tells_of}
 use Rattle.imagesize.specs.Meaning.{kind_reads}
 use Rattle.imagesize_source.specs.Errors.{end_of_input}
-use Rattle.imagesize_source.specs.Halts.{with_error}
 use Rattle.imagesize_source.specs.State.{Frame, parts_of}
 use Rattle.imagesize.proofs.parts.type_of.Goals as goal
 
-pub returns-clause-says : goal.returns-clause-says
-returns-clause-says c = λ d has short.
-    let old = c.args.source.now in let s = c.detect-found.new.source in let new = c.forget.ensures in
-    rw c.found_or_wanted.ensures (says_of false (λ x. kind_reads x 0)
-    (local_kind 0) d old.told old.spans.now old.bytes.now has short s.log.spans s.missed end_of_input 0 _
+pub returns-clause-tells : goal.returns-clause-tells
+returns-clause-tells c =
+    let s = c.detect-found.new.source in let new = c.forget.ensures in
+    rw c.found_or_wanted.ensures (tells_of false (λ x. kind_reads x 0) (local_kind 0) _ _ _ s.log.spans s.missed end_of_input 0 _
     (called (λ x. kind_reads x 0) _ _ _ _ _ _ _ _ _ _ _ _ _ _ new.told new.spans new.bytes new.seen new.missed
-    c.detect-found.ensures
-    s.seen s.lacks))
-
-pub returns-clause-fits : goal.returns-clause-fits
-returns-clause-fits c =
-    let old = c.args.source.now in let s = c.detect-found.new.source in let new = c.forget.ensures in
-    let call = called (λ x. kind_reads x 0) old.told _ _ old.spans.now _ _ old.bytes.now _ _ _ _ _ _ _
-    new.told new.spans new.bytes new.seen new.missed c.detect-found.ensures s.seen s.lacks in
-    rw c.found_or_wanted.ensures (fits false old.told old.spans.now old.bytes.now s.missed
-    (with_error end_of_input 0 c.detect-found.result) _ call.lacks)
-
-pub returns-clause-unstopped : goal.returns-clause-unstopped
-returns-clause-unstopped c = grind (arith, called, unstopped)
+    c.detect-found.ensures s.seen s.lacks))
 
 pub returns-clause-spans : goal.returns-clause-spans
 returns-clause-spans c = (both_are _ _ _ _ (ap (λ (a : Frame). parts_of a.backing) c.detect-found.ensures.frame)).0 ∙ c.forget.ensures.spans

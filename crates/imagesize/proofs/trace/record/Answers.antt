@@ -1,15 +1,6 @@
 use Rattle.std.proofs.Common.{arith}
 use Rattle.imagesize.proofs.Traces.{goes_on, recorded_count, recorded_found, recorded_kind, recorded_spans}
-use Rattle.imagesize.proofs.spans.record.Goals as goal
-
-pub returns-clause-kind : goal.returns-clause-kind
-returns-clause-kind c = grind (arith, recorded_kind)
-
-pub returns-clause-found : goal.returns-clause-found
-returns-clause-found c = grind (arith, recorded_found)
-
-pub returns-clause-goes : goal.returns-clause-goes
-returns-clause-goes c = grind (arith, goes_on)
+use Rattle.imagesize.proofs.trace.record.Goals as goal
 
 pub returns-clause-count : goal.returns-clause-count
 returns-clause-count c =
