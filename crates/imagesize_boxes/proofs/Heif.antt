@@ -11,8 +11,11 @@ use Rattle.std.specs.Int.{w32, from_be_bytes}
 use Rattle.std.specs.List.{find, last_or, sum_by}
 use Rattle.std.specs.Option.{option_or}
 use Rattle.std.specs.Prelude.{codes, flat_map, fold, nat_lt, nat_le, unwrap_or, ok_or, option_map, slice_get, filter}
-use Rattle.imagesize_boxes.specs.Heif.{heif_compression, is_general, is_named, box_size, box_searched, search_for, searched_box, extents_size, property_found, property_at, property_bytes, extents_of, rotations_of, skipped_bytes, no_pixels, largest_or_none, largest_extents, turn_by, heif_answer, property_or_answer, properties, heif, heif_in_meta, heif_in_iprp}
-use Rattle.imagesize_boxes.specs.Walks.{Amounts, Largest, earlier_largest, gathered_with, gathered_answer}
+use Rattle.imagesize_boxes.specs.Heif.{heif_compression, is_general, is_named, box_size, box_searched, search_for, searched_box, extents_size, property_found, property_at, extents_of, rotations_of, skipped_bytes, no_pixels, largest_or_none, largest_extents, turn_by, heif_answer, property_or_answer, properties, heif, heif_in_meta, heif_in_iprp}
+use Rattle.imagesize_boxes.specs.Walks.{earlier_largest, gathered_answer, gathered_first, gathered_with, heif_ending, heif_open, heif_step, ipco_leads, iprp_leads, list_step, meta_leads, property_or_result, search_step}
+use Rattle.imagesize_boxes.specs.declared.formats.heif.Boxes as heif
+use Rattle.imagesize_boxes.specs.declared.formats.heif.Sought.{Sought}
+use Rattle.imagesize_boxes.specs.declared.formats.heif.Sought.TheVariants as sought
 use Rattle.imagesize_boxes.specs.declared.formats.heif.FoundBox.{FoundBox}
 use Rattle.imagesize_boxes.specs.declared.formats.heif.Gathered.{Gathered}
 use Rattle.imagesize_boxes.specs.declared.formats.heif.Property.{Property}
@@ -28,21 +31,22 @@ use Rattle.imagesize_source.specs.Agreement.{IsLocal}
 use Rattle.imagesize_source.specs.Chain.{Said, Decided, Next, Advances, Chain, next_record, start, verdict, chain_at}
 use Rattle.imagesize_source.specs.Counts.{AtMost}
 use Rattle.imagesize_source.specs.Input.{span_of}
-use Rattle.imagesize_source.specs.Layout.{Layout, bytes, refuse, done, layout_reads, bind, whole}
+use Rattle.imagesize_source.specs.Layout.{Layout, accept, begin_record, bytes, field, reading, refuse, done, layout_reads, bind, whole}
+use Rattle.imagesize_source.specs.Walk.{CanFollow, EndsBy, after, decides, run}
 use Rattle.imagesize_source.specs.Numbers.{number}
-use Rattle.imagesize_source.specs.Reading.{Reads, and_then, bytes_at, bytes_read, just, number_read, refuses, map_answer, uncounted, with_answer}
+use Rattle.imagesize_source.specs.Reading.{Reads, and_then, bytes_at, bytes_read, gives, number_read, refuses, uncounted, with_answer}
 use Rattle.imagesize_source.specs.State.{State, Runs, total}
 use Rattle.imagesize_source.proofs.Always.{CompressionLaws}
-use Rattle.imagesize_source.proofs.Advances.{Tells, advances}
+use Rattle.imagesize_source.proofs.Advances.{Begins, Tells, accepted_tells, advances, begins_bind, states_follow, tells_bind}
+use Rattle.imagesize_source.proofs.States.{accepted_reads, ends_after, ends_bind, goes, run_as, run_is, run_within}
 use Rattle.imagesize_source.proofs.Spends.{Spends, Onto, chain_onto, left, said_to, spends_then}
 use Rattle.imagesize_source.proofs.PastTheEnd.{bytes_beyond, saturated_by}
 use Rattle.imagesize_source.proofs.ChainLaws.{local_chain, chain_cost}
 use Rattle.imagesize_source.proofs.Chains.{chain_stop}
 use Rattle.imagesize_source.proofs.Counts.{Bounded, bounded_then, then_within, total-span_of, total_behind}
 use Rattle.imagesize_source.proofs.Bytes.{first_four}
-use Rattle.imagesize_source.proofs.Layouts.{no_part, no_span}
+use Rattle.imagesize_source.proofs.Layouts.{no_part, no_span, then_then}
 use Rattle.imagesize_source.proofs.Agreement.{local_bytes, local_then, local_number, without_texts}
-use Rattle.imagesize_source.proofs.Reached.{runs_bind, refused_bind}
 use Rattle.imagesize_source.proofs.Tests.{on_test}
 use Rattle.imagesize_source.proofs.Way.{RecordedLaws}
 use Rattle.imagesize_source.proofs.Lists.{last_push}
@@ -75,10 +79,32 @@ search_advances tag first = advances (search_for tag first)
     (λ passed offset. (omega arith, omega arith))
 
 -- from the end of the input on there is no box
-pub search_ends : (tag : List ℕ) (d : List ℕ) (offset : ℕ) → length d ≤ offset
+none_searched : (tag : List ℕ) (d : List ℕ) (offset : ℕ) → length d ≤ offset
     → uncounted (layout_reads d (searched_box tag offset)) ≡ refuses Ended
-search_ends tag d offset far =
+none_searched tag d offset far =
     ap uncounted (bytes_beyond d offset 8 (λ head. box_searched tag offset head) far (omega arith))
+
+-- The boxes of a search over its name: each is after the one before.
+searched_tells : (tag : List ℕ) (offset : ℕ) → Tells (λ p. offset < p) (searched_box tag offset)
+searched_tells tag offset = λ head. by_searched (Tells (λ p. offset < p)) tag offset head tt tt (λ big. omega arith)
+
+pub search_tells : (boxes : heif.Boxes) (offset : ℕ) → Tells (λ p. offset < p) (search_step boxes offset)
+search_tells boxes offset = tells_bind (λ p. offset < p) (searched_box boxes.name offset) (after (λ _. boxes) decides)
+    (searched_tells boxes.name offset) (λ found. tt) (λ v q later. later)
+
+pub search_follows : CanFollow search_step
+search_follows = states_follow search_step search_tells (λ boxes offset. (omega arith, omega arith))
+
+pub search_ends : (boxes : heif.Boxes) → EndsBy search_step boxes (Err Ended)
+search_ends boxes d offset far =
+    ends_after d (searched_box boxes.name offset) (λ _. boxes) (Err Ended) (none_searched boxes.name d offset far)
+
+-- the boxes over the name are the chain
+pub search_is : (tag : List ℕ) (first : ℕ) (d : List ℕ)
+    → run search_step (record { name = tag }) first d ≡ chain_at (search_for tag first) d
+search_is tag first d =
+    run_is {T = Unit {0}} search_step d (search_follows d) (search_for tag first) (λ _. record { name = tag }) (λ _ _. tt)
+    (λ _ _. Unit {0}) (search_advances tag first d) (λ held x offset known. refl) (λ held x offset v q known got. tt) tt tt
 
 -- a chain returns the error of its first record
 refused_chain : {C X : Type 0} (c : Chain C X) (d : List ℕ) (e : Halt)
@@ -90,7 +116,7 @@ pub search_saturated : {a b : State} {r : Result FoundBox Halt} (tag : List ℕ)
     → Runs a b r (chain_at (search_for tag at) a.held.input) → at ≡ min offset (2 ^ 64 - 1)
     → Runs a b r (chain_at (search_for tag offset) a.held.input)
 search_saturated tag offset at = saturated_by (λ p d. chain_at (search_for tag p) d) (refuses Ended) offset at
-    (λ d p far. refused_chain (search_for tag p) d Ended (search_ends tag d p far))
+    (λ d p far. refused_chain (search_for tag p) d Ended (none_searched tag d p far))
 
 -- what holds of each property, by its name
 pub by_found : (P : Layout (Option Property) → Type 0) (left offset : ℕ) (found : Option (List ℕ)) → P (done None)
@@ -136,6 +162,19 @@ properties_advance all first = advances (properties all first)
       by_answer (Tells (λ _. ⊥)) (largest_extents (flat_map extents_of held))
           (last_or None (flat_map rotations_of held)) tt (λ size. tt),
     ))
+
+-- `best` is the first size of greatest area
+record Largest (best : Option ImageSize) (sizes : List ImageSize) : Type 0 where
+  is : largest_extents sizes ≡ best
+  first : largest_or_none sizes ≡ unwrap_or best no_pixels
+  area : greatest_area sizes ≡ area_if_some best
+  found : 0 < greatest_area sizes → is_some (find (λ s. eqb (area_of s) (greatest_area sizes)) sizes) ≡ true
+
+-- the properties so far add up to this
+record Amounts (all : ℕ) (g : Gathered) (held : List Property) : Type 0 where
+  left : all - sum_by skipped_bytes held ≡ g.left
+  best : Largest g.best (flat_map extents_of held)
+  turn : last_or None (flat_map rotations_of held) ≡ g.turn
 
 largest_some : (sizes : List ImageSize) (size : ImageSize) → largest_extents (sizes ++ size ∷ [])
     ≡ Some (largest_or_none (sizes ++ size ∷ []))
@@ -223,7 +262,7 @@ none_more : {X : Type 0} (f : Property → List X) (held : List Property) (prope
 none_more f held property none =
     flat_map-append f held (property ∷ []) ∙ rw (none, append-nil (flat_map f held)) refl
 
-pub amounts_on : (all : ℕ) (g : Gathered) (held : List Property) (property : Property) → Amounts all g held
+amounts_on : (all : ℕ) (g : Gathered) (held : List Property) (property : Property) → Amounts all g held
     → Amounts all (gathered_with g property) (held ++ property ∷ [])
 amounts_on all g held (Extents size) h = record {
   left = omega (arith, h.left, sum_by_push skipped_bytes held (Extents size));
@@ -244,71 +283,165 @@ amounts_on all g held (Skipped size) h = record {
   turn = ap (last_or None) (none_more rotations_of held (Skipped size) refl) ∙ h.turn;
 }
 
--- what is answered by what the properties amount to
-pub answers : (all : ℕ) (g : Gathered) (held : List Property) (offset : ℕ) (d : List ℕ) → Amounts all g held
-    → layout_reads d (property_or_answer held offset None)
-    ≡ layout_reads d (heif_answer g.best g.turn)
-answers all g held offset d h =
-    ap (λ o. layout_reads d (heif_answer o (last_or None (flat_map rotations_of held)))) h.best.is
-    ∙ ap (λ t. layout_reads d (heif_answer g.best t)) h.turn
-
 -- at an offset beyond the input it ends too
 none_listed : (d : List ℕ) (held : List Property) (left offset : ℕ) → length d ≤ offset
     → uncounted (layout_reads d (bind (property_at left offset) (property_or_answer held offset)))
     ≡ uncounted (layout_reads d (property_or_answer held offset None))
 none_listed d held left offset far = rw (no_part d offset 8 far, no_span d offset 8 far) refl
 
-pub answer_read : (d : List ℕ) (best : Option ImageSize) (turn : Option ℕ) → layout_reads d (heif_answer best turn)
-    ≡ just (map_answer Decided (ok_or (option_map (turn_by turn) best) NotEnoughData)) []
-answer_read d None turn = refl
-answer_read d (Some size) turn = refl
+-- The properties over what those before add up to: each is after the one before.
+pub list_tells : (g : Gathered) (offset : ℕ) → Tells (λ p. offset < p) (list_step g offset)
+list_tells g offset = λ bs. by_found (λ t. Tells (λ p. offset < p) (bind t (property_or_result g offset))) g.left offset
+    (whole 8 bs) (accepted_tells Gathered (λ p. offset < p) (gathered_answer g)) tt (λ content. omega arith)
+    (λ content. omega arith) (λ size big. omega arith)
 
--- a record of the list, by what the properties before it amount to
-module _ {b end : State} (all : ℕ) (g : Gathered) (offset : ℕ) (held : List Property) (h : Amounts all g held) where
-  said_by : {r : Result (Said Property ImageSize) Halt}
-      → Runs b end r (layout_reads b.held.input (bind (property_at g.left offset) (property_or_answer held offset)))
-      → Runs b end r (layout_reads b.held.input
-      (bind (property_at (all - sum_by skipped_bytes held) offset) (property_or_answer held offset)))
-  said_by {r} = subst (λ n. Runs b end r (layout_reads b.held.input
-      (bind (property_at n offset) (property_or_answer held offset)))) (sym h.left)
+list_begins : (g : Gathered) (offset : ℕ) → Begins offset (list_step g offset)
+list_begins g offset = (omega arith, accepted_tells Gathered (λ _. ⊥) (gathered_answer g))
 
-  pub listed_next : (property : Property)
-      → Runs b end (Ok (Some property)) (layout_reads b.held.input (property_at g.left offset))
-      → Runs b end (Ok (Next property (offset + property_bytes property)))
-      (layout_reads b.held.input
-      (bind (property_at (all - sum_by skipped_bytes held) offset) (property_or_answer held offset)))
-  listed_next property run =
-      said_by (runs_bind (Ok (Next property (offset + property_bytes property))) (property_at g.left offset)
-      (property_or_answer held offset) run (λ d. refl) refl tt)
+pub list_follows : CanFollow list_step
+list_follows = states_follow list_step list_tells list_begins
 
-  pub listed_out : (e : Halt)
-      → Runs {X = Option Property} b end (Err e) (layout_reads b.held.input (property_at g.left offset))
-      → Runs {X = Said Property ImageSize} b end (Err e)
-      (layout_reads b.held.input
-      (bind (property_at (all - sum_by skipped_bytes held) offset) (property_or_answer held offset)))
-  listed_out e run = said_by (refused_bind (property_at g.left offset) (property_or_answer held offset) run)
+pub list_ends : (g : Gathered) → EndsBy list_step g (gathered_answer g)
+list_ends g d offset far =
+    rw (no_part d offset 8 far, no_span d offset 8 far) (ap uncounted (accepted_reads d (gathered_answer g)))
 
-pub list_ends : (all : ℕ) (g : Gathered) (held : List Property) → Amounts all g held → (d : List ℕ) (offset : ℕ)
-    → length d ≤ offset
-    → uncounted (layout_reads d
-    (bind (property_at (all - sum_by skipped_bytes held) offset) (property_or_answer held offset)))
-    ≡ just (map_answer Decided (gathered_answer g)) []
-list_ends all g held h d offset far =
-    none_listed d held (all - sum_by skipped_bytes held) offset far
-    ∙ ap uncounted (answers all g held offset d h ∙ answer_read d g.best g.turn)
+bind_bind : {X Y Z : Type 0} (t : Layout X) (f : X → Layout Y) (g : Y → Layout Z)
+    → bind t (λ x. bind (f x) g) ≡ bind (bind t f) g
+bind_bind (done x) f g = refl
+bind_bind (refuse e) f g = refl
+bind_bind (field order offset k h) f g = λ i. field order offset k (λ v. bind_bind (h v) f g i)
+bind_bind (reading r offset h) f g = λ i. reading r offset (λ bs. bind_bind (h bs) f g i)
+bind_bind (begin_record t) f g = ap begin_record (bind_bind t f g)
+
+-- the properties over what those before add up to are the chain
+pub list_is : (all first : ℕ) (d : List ℕ) → run list_step (gathered_first all) first d ≡ chain_at (properties all first) d
+list_is all first d =
+    run_is list_step d (list_follows d) (properties all first) (λ (g : Gathered). g) gathered_with (λ held g. Amounts all g held)
+    (properties_advance all first d)
+    (λ held g offset known.
+    (λ i. layout_reads d (bind (property_at (sym known.left i) offset) (λ found. listed held g offset known found i)))
+    ∙ ap (layout_reads d) (bind_bind (property_at (all - sum_by skipped_bytes held) offset) (property_or_answer held offset)
+    (after (gathered_with g) decides)))
+    (λ held g offset v q known got. amounts_on all g held v known) (gathered_first all) (record {
+      left = omega arith;
+      best = record { is = refl; first = refl; area = refl; found = λ some. absurd (omega arith) };
+      turn = refl;
+    })
+  where
+    answered : (g : Gathered) (best : Option ImageSize) (turn : Option ℕ)
+        → accept (ok_or (option_map (turn_by turn) best) NotEnoughData) decides
+        ≡ bind (heif_answer best turn) (after (gathered_with g) decides)
+    answered g None turn = refl
+    answered g (Some size) turn = refl
+
+    listed : (held : List Property) (g : Gathered) (offset : ℕ) → Amounts all g held → (found : Option Property)
+        → property_or_result g offset found ≡ bind (property_or_answer held offset found) (after (gathered_with g) decides)
+    listed held g offset known (Some property) = refl
+    listed held g offset known None = answered g g.best g.turn
+        ∙ (λ i. bind (heif_answer (sym known.best.is i) (sym known.turn i)) (after (gathered_with g) decides))
 
 pub list_saturated : {a b : State} {r : Result ImageSize Halt} (all offset at : ℕ)
     → Runs a b r (chain_at (properties all at) a.held.input) → at ≡ min offset (2 ^ 64 - 1)
     → Runs a b r (chain_at (properties all offset) a.held.input)
 list_saturated all offset at = saturated_by (λ p d. chain_at (properties all p) d)
     (refuses NotEnoughData) offset at
-    (λ d p far. refused_chain (properties all p) d NotEnoughData (list_ends all none_gathered [] (record {
-      left = omega arith;
-      best = record { is = refl; first = refl; area = refl; found = λ some. absurd (omega arith) };
-      turn = refl;
-    }) d p far)) where
-      none_gathered : Gathered
-      none_gathered = record { left = all; best = None; turn = None }
+    (λ d p far. refused_chain (properties all p) d NotEnoughData (none_listed d [] (all - sum_by skipped_bytes []) p far))
+
+-- The whole way in one walk: each record is after the one before.
+pub heif_tells : (s : Sought) (offset : ℕ) → Tells (λ p. offset < p) (heif_step s offset)
+heif_tells sought.Meta offset =
+    tells_bind (λ p. offset < p) (searched_box (codes "meta") offset) (after (λ _. sought.Meta) (meta_leads offset))
+    (searched_tells (codes "meta") offset) (λ meta version. omega arith) (λ v q later. later)
+heif_tells sought.Iprp offset =
+    tells_bind (λ p. offset < p) (searched_box (codes "iprp") offset) (after (λ _. sought.Iprp) (iprp_leads offset))
+    (searched_tells (codes "iprp") offset) (λ iprp. omega arith) (λ v q later. later)
+heif_tells sought.Ipco offset =
+    tells_bind (λ p. offset < p) (searched_box (codes "ipco") offset) (after (λ _. sought.Ipco) (ipco_leads offset))
+    (searched_tells (codes "ipco") offset) (λ ipco. omega arith) (λ v q later. later)
+heif_tells (sought.Property g) offset =
+    tells_bind (λ p. offset < p) (list_step g offset) (after sought.Property decides) (list_tells g offset) (λ size. tt)
+    (λ g q later. later)
+
+pub heif_begins : (s : Sought) (offset : ℕ) → Begins offset (heif_step s offset)
+heif_begins sought.Meta offset = (omega arith, omega arith)
+heif_begins sought.Iprp offset = (omega arith, omega arith)
+heif_begins sought.Ipco offset = (omega arith, omega arith)
+heif_begins (sought.Property g) offset =
+    begins_bind offset (list_step g offset) (after sought.Property decides) (list_begins g offset) (λ size. tt) (λ size. tt)
+
+pub heif_follows : CanFollow heif_step
+heif_follows = states_follow heif_step heif_tells heif_begins
+
+pub heif_ends : (s : Sought) → EndsBy heif_step s (heif_ending s)
+heif_ends sought.Meta d offset far =
+    ends_bind d (searched_box (codes "meta") offset) (after (λ _. sought.Meta) (meta_leads offset)) (Err Ended)
+    (none_searched (codes "meta") d offset far)
+heif_ends sought.Iprp d offset far =
+    ends_bind d (searched_box (codes "iprp") offset) (after (λ _. sought.Iprp) (iprp_leads offset)) (Err Ended)
+    (none_searched (codes "iprp") d offset far)
+heif_ends sought.Ipco d offset far =
+    ends_bind d (searched_box (codes "ipco") offset) (after (λ _. sought.Ipco) (ipco_leads offset)) (Err Ended)
+    (none_searched (codes "ipco") d offset far)
+heif_ends (sought.Property g) d offset far =
+    ends_after d (list_step g offset) sought.Property (gathered_answer g) (list_ends g d offset far)
+
+-- The walk over the whole way is the three searches, and the list.
+module _ (d : List ℕ) where
+  -- what is read after a record
+  abbrev onward : Said Sought ImageSize → Reads ImageSize
+  onward = goes heif_step d (heif_follows d)
+
+  -- a search, and what is read after its box
+  sought_as : (s : Sought) (tag : List ℕ) (leads : ℕ → FoundBox → Layout (Said Sought ImageSize))
+      → ((offset : ℕ) → heif_step s offset ≡ bind (searched_box tag offset) (after (λ _. s) (leads offset)))
+      → (first : ℕ)
+      → run heif_step s first d
+      ≡ and_then (chain_at (search_for tag first) d) (λ found. and_then (layout_reads d (leads found.offset found)) onward)
+  sought_as s tag leads is first =
+      run_as heif_step d (heif_follows d) (search_for tag first) (λ (_ : Unit {0}). s) (λ _ _. tt)
+      (λ found. leads found.offset found) (λ _ _. Unit {0}) (search_advances tag first d)
+      (λ held x offset known. ap (layout_reads d) (is offset ∙ placed offset)) (λ held x offset v q known got. tt) tt tt
+    where
+      placed : (offset : ℕ) → bind (searched_box tag offset) (after (λ _. s) (leads offset))
+          ≡ bind (searched_box tag offset) (after (λ _. s) (λ found. leads found.offset found))
+      placed offset = λ i. begin_record (bytes offset 8 (λ head. by_searched
+          (λ t. bind t (after (λ _. s) (leads offset)) ≡ bind t (after (λ _. s) (λ found. leads found.offset found)))
+          tag offset head refl refl (λ _. refl) i))
+
+  properties_as : (all first : ℕ)
+      → run heif_step (sought.Property (gathered_first all)) first d ≡ chain_at (properties all first) d
+  properties_as all first =
+      run_within heif_step list_step sought.Property d (heif_follows d) (list_follows d) (λ g offset. refl) (gathered_first all) first
+      ∙ list_is all first d
+
+  ipco_as : (first : ℕ) → run heif_step sought.Ipco first d ≡ and_then (chain_at (search_for (codes "ipco") first) d)
+      (λ ipco. chain_at (properties ipco.size (ipco.offset + 8)) d)
+  ipco_as first =
+      sought_as sought.Ipco (codes "ipco") ipco_leads (λ offset. refl) first
+      ∙ (λ i. and_then (chain_at (search_for (codes "ipco") first) d) (λ ipco. properties_as ipco.size (ipco.offset + 8) i))
+
+  iprp_as : (first : ℕ) → run heif_step sought.Iprp first d
+      ≡ and_then (chain_at (search_for (codes "iprp") first) d) (λ iprp. heif_in_iprp iprp d)
+  iprp_as first =
+      sought_as sought.Iprp (codes "iprp") iprp_leads (λ offset. refl) first
+      ∙ (λ i. and_then (chain_at (search_for (codes "iprp") first) d) (λ iprp. ipco_as (iprp.offset + 8) i))
+
+  meta_as : (first : ℕ) → run heif_step sought.Meta first d
+      ≡ and_then (chain_at (search_for (codes "meta") first) d) (λ meta. heif_in_meta meta d)
+  meta_as first =
+      sought_as sought.Meta (codes "meta") meta_leads (λ offset. refl) first
+      ∙ (λ i. and_then (chain_at (search_for (codes "meta") first) d) (λ meta. in_meta_as meta i))
+    where
+      in_meta_as : (meta : FoundBox)
+          → and_then (layout_reads d (meta_leads meta.offset meta)) onward ≡ heif_in_meta meta d
+      in_meta_as meta = sym (then_then (bytes_read d (meta.offset + 8) 4) (λ _. gives (Next sought.Iprp (meta.offset + 12)))
+          onward _ (λ version. sym (iprp_as (meta.offset + 12))))
+
+pub heif_is : (d : List ℕ) → heif d ≡ and_then (layout_reads d heif_open) (λ s. run heif_step s.records s.offset d)
+heif_is d =
+    then_then (number_read d Big 0 4) (λ first. gives (record { records = sought.Meta; offset = first }))
+    (λ s. run heif_step s.records s.offset d)
+    (λ first. and_then (chain_at (search_for (codes "meta") first) d) (λ meta. heif_in_meta meta d)) (λ first. sym (meta_as d first))
 
 -- the compression is read from at most 12 bytes, and is always told
 pub heif_compression_laws : (offset : ℕ) (head : List ℕ) → CompressionLaws 12 (heif_compression offset head)

@@ -1,12 +1,16 @@
 -- JPEG XL: the ways that a box can go, how a walk along the boxes goes, and the size by what it found.
-use Rattle.std.proofs.Common.{◌≡◌, ℕ, ◌+◌, ◌-◌, ◌*◌, ◌^◌, ◌<◌, ◌≤◌, true, false, cond, eqb, leb, ltb, not, ◌&&◌, ◌||◌, codes, take, drop, min, slice_index, List, [], ◌∷◌, ◌++◌, length, get_or, None, Some, Result, Ok, Err, refl, sym, ap, ◌∙◌, arith}
+use Rattle.std.proofs.Common.{◌≡◌, ℕ, ◌+◌, ◌-◌, ◌*◌, ◌^◌, ◌<◌, ◌≤◌, true, false, cond, eqb, leb, ltb, not, ◌&&◌, ◌||◌, codes, take, drop, min, slice_index, List, [], ◌∷◌, ◌++◌, length, get_or, Option, None, Some, Result, Ok, Err, refl, sym, ap, ◌∙◌, subst, arith}
 use Rattle.std.proofs.lemmas.Bool.Decides.{nat_tests}
-use Rattle.std.proofs.lemmas.List.{append-nil, length-take, length-take-le, get_or-take}
+use Rattle.std.proofs.lemmas.List.{append-nil, length-append, length-take, length-take-le, get_or-take, take-append-le, take_all}
 use Rattle.std.proofs.lemmas.List.Folds.{concat-append}
 use Rattle.std.specs.List.{concat}
 use Rattle.imagesize_boxes.specs.declared.formats.jxl.boxes.BoxHead.{BoxHead}
 use Rattle.imagesize_boxes.specs.Fields.{Fields, found, bits, binary, bits_of, field_at, with_found, found_by}
-use Rattle.imagesize_boxes.specs.Walks.{field_in, found_in}
+use Rattle.imagesize_boxes.specs.Walks.{boxes_with, field_in, found_in, front_of, jxl_behind, jxl_step, jxl_verdict, no_boxes}
+use Rattle.imagesize_boxes.specs.declared.formats.jxl.boxes.Boxes.{Boxes}
+use Rattle.imagesize_source.specs.Walk.{CanFollow, EndsBy, after, decides, run}
+use Rattle.imagesize_source.proofs.Layouts.{then_then}
+use Rattle.imagesize_source.proofs.States.{ends_bind, goes, run_as}
 use Rattle.imagesize_boxes.specs.Jxl.{has_signature, jxl_header, jxl_size, piece_at, box_checked, box_head, box_room, said_behind, codestream_box, partial_said, partial_box, box_content, jxl_box, jxl_chain, jxl_start, codestream, jxl_codestream, jxl}
 use Rattle.imagesize_boxes.proofs.Fields.{field_front, found_alike}
 use Rattle.imagesize_types.specs.Head.{begins}
@@ -16,9 +20,9 @@ use Rattle.imagesize_source.specs.declared.halt.Halt.TheVariants.{Corrupted, End
 use Rattle.imagesize_source.specs.Chain.{Said, Decided, Next, Advances, chain_at}
 use Rattle.imagesize_source.specs.Layout.{Layout, layout_reads, bind, bytes, bytes_there, accept}
 use Rattle.imagesize_source.specs.Layout.Layout.{field, refuse, done}
-use Rattle.imagesize_source.specs.Reading.{is_failure, is_spent, just, refuses, uncounted}
+use Rattle.imagesize_source.specs.Reading.{and_then, is_failure, is_spent, just, refuses, uncounted}
 use Rattle.imagesize_source.specs.State.{State, Runs, EndedBy, IsSound}
-use Rattle.imagesize_source.proofs.Advances.{Begins, Tells, advances}
+use Rattle.imagesize_source.proofs.Advances.{Begins, Tells, accepted_begins, accepted_tells, advances, begins_bind, states_follow, tells_bind}
 use Rattle.imagesize_source.proofs.Reached.{reads_nothing}
 use Rattle.imagesize_source.proofs.PastTheEnd.{bytes_beyond}
 use Rattle.imagesize_source.proofs.Runs.{runs_refused, runs_then}
@@ -187,6 +191,73 @@ pub joined : (pieces : List (List ℕ)) (front piece : List ℕ) → concat piec
 joined pieces front piece is = concat-append pieces (piece ∷ []) ∙ ap (λ rest. concat pieces ++ rest) (append-nil piece)
     ∙ ap (λ held. held ++ piece) is
 
+-- The boxes over the bytes of a codestream so far: each is after the one before.
+pub jxl_tells : (boxes : Boxes) (offset : ℕ) → Tells (λ p. offset < p) (jxl_step boxes offset)
+jxl_tells boxes offset =
+    tells_bind (λ p. offset < p) (jxl_box (front_of boxes) offset) (after (boxes_with boxes) jxl_verdict)
+    (box_tells (front_of boxes) offset) (λ front. accepted_tells Boxes (λ p. offset < p) (jxl_size front)) (λ piece q later. later)
+
+pub jxl_begins : (boxes : Boxes) (offset : ℕ) → Begins offset (jxl_step boxes offset)
+jxl_begins boxes offset =
+    begins_bind offset (jxl_box (front_of boxes) offset) (after (boxes_with boxes) jxl_verdict)
+    (box_begins (front_of boxes) offset) (λ front. accepted_begins Boxes offset (jxl_size front))
+    (λ front. accepted_tells Boxes (λ _. ⊥) (jxl_size front))
+
+pub jxl_follows : CanFollow jxl_step
+jxl_follows = states_follow jxl_step jxl_tells jxl_begins
+
+pub jxl_ends : (boxes : Boxes) → EndsBy jxl_step boxes (Err Ended)
+jxl_ends boxes d offset far =
+    ends_bind d (jxl_box (front_of boxes) offset) (after (boxes_with boxes) jxl_verdict) (Err Ended)
+    (boxes_end (front_of boxes) d offset far)
+
+-- the pieces so far are the first bytes that are kept
+record Kept (pieces : List (List ℕ)) (boxes : Boxes) : Type 0 where
+  is : concat pieces ≡ front_of boxes
+  within : boxes.len ≤ length boxes.bytes
+
+kept_on : (pieces : List (List ℕ)) (boxes : Boxes) (piece : List ℕ) → Kept pieces boxes
+    → Kept (pieces ++ piece ∷ []) (boxes_with boxes piece)
+kept_on pieces boxes piece known =
+    let front : List ℕ = front_of boxes in
+    let rest : List ℕ = drop (boxes.len + length piece) boxes.bytes in
+    let long : length front ≡ boxes.len = length-take-le boxes.len boxes.bytes known.within in
+    let both : length (front ++ piece) ≡ boxes.len + length piece = length-append front piece ∙ ap (λ n. n + length piece) long in
+    record {
+      is = joined pieces front piece known.is
+          ∙ sym (take-append-le (boxes.len + length piece) (front ++ piece) rest (omega arith)
+          ∙ take_all (boxes.len + length piece) (front ++ piece) (omega arith));
+      within = omega (arith, length-append (front ++ piece) rest);
+    }
+
+-- the boxes over the bytes so far are the chain, and then the size
+pub boxes_is : (d : List ℕ)
+    → run jxl_step no_boxes 12 d ≡ and_then (chain_at jxl_chain d) (λ front. just (jxl_size front) [])
+boxes_is d =
+    run_as jxl_step d (jxl_follows d) jxl_chain (λ (boxes : Boxes). boxes) boxes_with jxl_verdict Kept (jxl_advances d)
+    (λ pieces boxes offset known i.
+    layout_reads d (bind (jxl_box (sym known.is i) offset) (after (boxes_with boxes) jxl_verdict)))
+    (λ pieces boxes offset v q known got. kept_on pieces boxes v known) no_boxes (record { is = refl; within = omega arith })
+    ∙ (λ i. and_then (chain_at jxl_chain d) (λ front. sized_as (jxl_size front) i))
+  where
+    sized_as : (r : Result ImageSize Halt)
+        → and_then (layout_reads d (accept r (λ size. decides {S = Boxes} size))) (goes jxl_step d (jxl_follows d)) ≡ just r []
+    sized_as (Ok size) = refl
+    sized_as (Err e) = refl
+
+-- the first bytes, and then the size from them or from the boxes
+jxl_splits : (d : List ℕ) → jxl d
+    ≡ and_then (layout_reads d jxl_start) (λ found. and_then (codestream d found) (λ front. just (jxl_size front) []))
+jxl_splits d =
+    sym (then_then (layout_reads d jxl_start) (codestream d) (λ front. just (jxl_size front) [])
+    (λ found. and_then (codestream d found) (λ front. just (jxl_size front) [])) (λ found. refl))
+
+pub jxl_is : (d : List ℕ) → jxl d ≡ and_then (layout_reads d jxl_start) (jxl_behind d)
+jxl_is d = jxl_splits d ∙ (λ i. and_then (layout_reads d jxl_start) (λ found. each found i)) where
+  each : (found : Option (List ℕ)) → and_then (codestream d found) (λ front. just (jxl_size front) []) ≡ jxl_behind d found
+  each (Some front) = refl
+  each None = sym (boxes_is d)
+
 -- The size by a codestream.
 
 -- a refusal that ends no call by itself
@@ -235,18 +306,13 @@ sized_whole {a} {b} front run = sized front
     (runs_then (layout_reads a.held.input jxl_start) (λ found held. codestream held.input found) run
     (reads_nothing b (Ok front) run.sound_after refl tt))
 
--- the first bytes of a codestream in boxes, or why there are none
-boxed : {a m b : State} (answer : Result (List ℕ) Halt) → Runs a m (Ok None) (layout_reads a.held.input jxl_start)
-    → Runs m b answer (chain_at jxl_chain m.held.input)
-    → Runs a b answer (jxl_codestream a.held.input)
-boxed {a} answer run behind =
-    runs_then (layout_reads a.held.input jxl_start) (λ front held. codestream held.input front) run behind
-
--- the size by the first bytes of a codestream in boxes
-pub sized_boxed : {a m b : State} (front : List ℕ) → Runs a m (Ok None) (layout_reads a.held.input jxl_start)
-    → Runs m b (Ok front) (chain_at jxl_chain m.held.input)
-    → Runs a b (jxl_size front) (jxl a.held.input)
-sized_boxed front run behind = sized front (boxed (Ok front) run behind)
+-- the size by the boxes
+pub sized_boxed : {a m b : State} (r : Result ImageSize Halt) → Runs a m (Ok None) (layout_reads a.held.input jxl_start)
+    → Runs m b r (and_then (chain_at jxl_chain m.held.input) (λ front. just (jxl_size front) []))
+    → Runs a b r (jxl a.held.input)
+sized_boxed {a} {m} {b} r run behind = subst (Runs a b r) (sym (jxl_splits a.held.input))
+    (runs_then (layout_reads a.held.input jxl_start)
+    (λ found held. and_then (codestream held.input found) (λ front. just (jxl_size front) [])) run behind)
 
 -- no size, since the first read failed
 pub refused_start : {a b : State} (e : Halt) → Runs a b (Err e) (layout_reads a.held.input jxl_start)
@@ -254,10 +320,3 @@ pub refused_start : {a b : State} (e : Halt) → Runs a b (Err e) (layout_reads 
 refused_start {a} e run =
     runs_refused (jxl_codestream a.held.input) (λ front. just (jxl_size front) [])
     (runs_refused (layout_reads a.held.input jxl_start) (codestream a.held.input) run)
-
--- no size, since the boxes have no codestream
-pub refused_boxed : {a m b : State} (e : Halt) → Runs a m (Ok None) (layout_reads a.held.input jxl_start)
-    → Runs m b (Err e) (chain_at jxl_chain m.held.input)
-    → Runs a b (Err e) (jxl a.held.input)
-refused_boxed {a} e run behind =
-    runs_refused (jxl_codestream a.held.input) (λ front. just (jxl_size front) []) (boxed (Err e) run behind)

@@ -4,3 +4,4 @@ pub mod Jxl
 pub mod JxlBoxes
 pub mod JxlGrowth
 pub mod Pieces
+pub mod Within

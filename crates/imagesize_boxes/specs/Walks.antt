@@ -1,16 +1,31 @@
--- What the code keeps and returns for one box or property at an offset, and for the bits of a number.
-use Rattle.std.specs.Prelude.{◌≡◌, ◌==◌, true, find, flat_map, is_some, ℕ, ◌+◌, ◌-◌, ◌/◌, ◌%◌, ◌^◌, ◌<◌, ◌≤◌, nat_le, nat_lt, List, length, if◌then◌else◌, Option, None, Some, unwrap_or, ok_or, option_map, Result, Ok, Err}
+-- The walks along boxes and properties: the state before a record, and the record after it. What the code returns for one of them,
+-- and for the bits of a number.
+use Rattle.std.specs.Prelude.{[], ◌++◌, codes, take, drop, replicate, ℕ, ◌+◌, ◌-◌, ◌/◌, ◌%◌, ◌^◌, ◌<◌, ◌≤◌, nat_le, nat_lt, List, length, if◌then◌else◌, Option, None, Some, unwrap_or, ok_or, option_map, Result, Ok, Err}
 use Rattle.imagesize_boxes.specs.Fields.{Fields, found_by}
-use Rattle.std.specs.List.{last_or, sum_by}
-use Rattle.imagesize_boxes.specs.Heif.{extents_of, largest_extents, largest_or_none, no_pixels, property_bytes, rotations_of, skipped_bytes, turn_by}
+use Rattle.imagesize_boxes.specs.Heif.{no_pixels, property_at, property_bytes, searched_box, skipped_bytes, turn_by}
+use Rattle.imagesize_boxes.specs.declared.formats.heif.Boxes as heif
+use Rattle.imagesize_boxes.specs.declared.formats.heif.FoundBox.{FoundBox}
 use Rattle.imagesize_boxes.specs.declared.formats.heif.Gathered.{Gathered}
 use Rattle.imagesize_boxes.specs.declared.formats.heif.Property.{Property}
 use Rattle.imagesize_boxes.specs.declared.formats.heif.Property.TheVariants.{Extents, Rotation, Skipped}
+use Rattle.imagesize_boxes.specs.declared.formats.heif.Sought.{Sought}
+use Rattle.imagesize_boxes.specs.declared.formats.heif.Sought.TheVariants as sought
+use Rattle.imagesize_boxes.specs.Jxl.{jxl_box, jxl_size}
+use Rattle.imagesize_boxes.specs.declared.formats.jxl.boxes.Boxes.{Boxes}
+use Rattle.imagesize_boxes.specs.declared.formats.jxl.boxes.Content.{Content}
+use Rattle.imagesize_boxes.specs.declared.formats.jxl.boxes.Content.TheVariants.{Codestream, Piece}
 use Rattle.imagesize_boxes.specs.declared.formats.jxl.boxes.BoxHead.{BoxHead}
 use Rattle.imagesize_source.specs.declared.halt.Halt.{Halt}
-use Rattle.imagesize_source.specs.declared.halt.Halt.TheVariants.{Corrupted, NotEnoughData}
+use Rattle.imagesize_source.specs.declared.halt.Halt.TheVariants.{Corrupted, Ended, NotEnoughData}
+use Rattle.imagesize_source.specs.declared.endian.Endian.TheVariants.{Big}
+use Rattle.imagesize_source.specs.declared.walk.Found.{Found}
+use Rattle.imagesize_source.specs.declared.walk.Start.{Start}
 use Rattle.imagesize_source.specs.Chain.{Said, Decided, Next}
-use Rattle.imagesize_types.specs.Largest.{area_if_some, greatest_area}
+use Rattle.imagesize_source.specs.Layout.{Layout, accept, bind, bytes}
+use Rattle.imagesize_source.specs.Layout.Layout.{field, done}
+use Rattle.imagesize_source.specs.Reading.{Reads, just}
+use Rattle.imagesize_source.specs.Walk.{Step, after, decides, run, said_at}
+use Rattle.imagesize_types.specs.Largest.{area_if_some}
 use Rattle.imagesize_types.specs.Order.{area_of}
 use Rattle.imagesize_types.specs.declared.size.ImageSize.{ImageSize}
 
@@ -18,6 +33,14 @@ use Rattle.imagesize_types.specs.declared.size.ImageSize.{ImageSize}
 abbrev pub property_said : ℕ → Option Property → Said Property (Unit {0})
 property_said offset None = Decided tt
 property_said offset (Some property) = Next property (offset + property_bytes property)
+
+-- what a box says that was found at this offset
+abbrev pub box_said : ℕ → Found FoundBox → Said (Unit {0}) FoundBox
+box_said offset found = said_at tt offset found
+
+-- the next box of a search
+abbrev pub search_step : Step heif.Boxes FoundBox
+search_step boxes offset = bind (searched_box boxes.name offset) (after (λ _. boxes) decides)
 
 -- a box that is skipped is smaller than the bytes left
 abbrev pub IsLeftFor : ℕ → Option Property → Type 0
@@ -38,18 +61,83 @@ gathered_with g (Skipped size) = record g { left = g.left - size }
 abbrev pub gathered_answer : Gathered → Result ImageSize Halt
 gathered_answer g = ok_or (option_map (turn_by g.turn) g.best) NotEnoughData
 
--- `best` is the first size of greatest area.
-pub record Largest (best : Option ImageSize) (sizes : List ImageSize) : Type 0 where
-  pub is : largest_extents sizes ≡ best
-  pub first : largest_or_none sizes ≡ unwrap_or best no_pixels
-  pub area : greatest_area sizes ≡ area_if_some best
-  pub found : 0 < greatest_area sizes → is_some (find (λ s. area_of s == greatest_area sizes) sizes) ≡ true
+-- what the properties of a box of `all` bytes add up to before the first
+abbrev pub gathered_first : ℕ → Gathered
+gathered_first all = record { left = all; best = None; turn = None }
 
--- The properties so far add up to this.
-pub record Amounts (all : ℕ) (g : Gathered) (held : List Property) : Type 0 where
-  pub left : all - sum_by skipped_bytes held ≡ g.left
-  pub best : Largest g.best (flat_map extents_of held)
-  pub turn : last_or None (flat_map rotations_of held) ≡ g.turn
+-- a property, or at the end of the list the result
+abbrev pub property_or_result : Gathered → ℕ → Option Property → Layout (Said Gathered ImageSize)
+property_or_result g offset None = accept (gathered_answer g) decides
+property_or_result g offset (Some property) = done (Next (gathered_with g property) (offset + property_bytes property))
+
+-- the next property of a list, after those that add up to g
+abbrev pub list_step : Step Gathered ImageSize
+list_step g offset = bind (property_at g.left offset) (property_or_result g offset)
+
+-- what follows the boxes of a HEIF that were found at an offset
+abbrev pub meta_leads : ℕ → FoundBox → Layout (Said Sought ImageSize)
+meta_leads offset meta = bytes (offset + 8) 4 (λ version. done (Next sought.Iprp (offset + 12)))
+
+abbrev pub iprp_leads : ℕ → FoundBox → Layout (Said Sought ImageSize)
+iprp_leads offset iprp = done (Next sought.Ipco (offset + 8))
+
+abbrev pub ipco_leads : ℕ → FoundBox → Layout (Said Sought ImageSize)
+ipco_leads offset ipco = done (Next (sought.Property (gathered_first ipco.size)) (offset + 8))
+
+-- the next box of a HEIF on the way to its properties, or the next of these
+abbrev pub heif_step : Step Sought ImageSize
+heif_step sought.Meta offset = bind (searched_box (codes "meta") offset) (after (λ _. sought.Meta) (meta_leads offset))
+heif_step sought.Iprp offset = bind (searched_box (codes "iprp") offset) (after (λ _. sought.Iprp) (iprp_leads offset))
+heif_step sought.Ipco offset = bind (searched_box (codes "ipco") offset) (after (λ _. sought.Ipco) (ipco_leads offset))
+heif_step (sought.Property g) offset = bind (list_step g offset) (after sought.Property decides)
+
+-- the result at the end of the input
+abbrev pub heif_ending : Sought → Result ImageSize Halt
+heif_ending sought.Meta = Err Ended
+heif_ending sought.Iprp = Err Ended
+heif_ending sought.Ipco = Err Ended
+heif_ending (sought.Property g) = gathered_answer g
+
+-- where the search for `meta` begins: after the first box, by its size
+abbrev pub heif_open : Layout (Start Sought)
+heif_open = field Big 0 4 (λ first. done (record { records = sought.Meta; offset = first }))
+
+-- what was found in the box at an offset
+abbrev pub content_said : ℕ → Content → Said (List ℕ) (List ℕ)
+content_said offset (Codestream front) = Decided front
+content_said offset (Piece piece length) = Next piece (offset + length)
+
+-- before the first box there is no byte of a codestream
+abbrev pub no_boxes : Boxes
+no_boxes = record { bytes = replicate 16 0; len = 0 }
+
+-- the first bytes of the codestream from the boxes so far
+abbrev pub front_of : Boxes → List ℕ
+front_of boxes = take boxes.len boxes.bytes
+
+-- these followed by a piece, which takes the place of as many bytes without a meaning
+abbrev pub boxes_with : Boxes → List ℕ → Boxes
+boxes_with boxes piece = record {
+  bytes = front_of boxes ++ piece ++ drop (boxes.len + length piece) boxes.bytes;
+  len = boxes.len + length piece;
+}
+
+-- the size from the first bytes of a codestream
+abbrev pub jxl_verdict : List ℕ → Layout (Said Boxes ImageSize)
+jxl_verdict front = accept (jxl_size front) decides
+
+-- the next box of a JPEG XL
+abbrev pub jxl_step : Step Boxes ImageSize
+jxl_step boxes offset = bind (jxl_box (front_of boxes) offset) (after (boxes_with boxes) jxl_verdict)
+
+-- the size from the first bytes of a codestream without boxes, or from the boxes after the signature box
+abbrev pub jxl_behind : List ℕ → Option (List ℕ) → Reads ImageSize
+jxl_behind d (Some front) = just (jxl_size front) []
+jxl_behind d None = run jxl_step no_boxes 12 d
+
+-- no more than sixteen bytes of a codestream are kept
+abbrev pub jxl_holds : Boxes → ℕ → Type 0
+jxl_holds boxes offset = boxes.len ≤ 16
 
 -- the next box of a JPEG XL is after this offset
 abbrev pub IsFurther : ℕ → Said (List ℕ) (List ℕ) → Type 0

@@ -9,15 +9,17 @@ use Rattle.imagesize_source.specs.Agreement.{AllRead, Alike, Parting, is_covered
 use Rattle.imagesize_source.specs.Input.{span_at}
 use Rattle.imagesize_source.specs.Layout.{Layout, layout_reads}
 use Rattle.imagesize_source.specs.Reading.{Reads}
-use Rattle.imagesize_source.specs.State.{State, Misses, Missed}
+use Rattle.imagesize_source.specs.State.{Misses, Missed, state_after}
 use Rattle.imagesize_source.proofs.Agreement.{alike_layout, covered-left, covered-one, covered-right, covered_one_of}
 use Rattle.imagesize_source.proofs.Among.{Among, covered-any, later_cut, middle}
 use Rattle.imagesize_source.proofs.Known.{length-filled_input}
+use Rattle.imagesize_source.proofs.Runs.{past-recorded}
 use Rattle.imagesize_source.proofs.Sharing.{shares-right}
 use Rattle.imagesize_source.specs.Sharing.{Shares}
-use Rattle.imagesize_pieces.specs.Stream.{Begins, Needs, Reach, came, end_of, stream_input, stream_state}
-use Rattle.imagesize_pieces.proofs.Beginning.{Run, begins_shares}
-use Rattle.imagesize_pieces.proofs.Called.{Heard}
+use Rattle.imagesize_pieces.specs.Stream.{Begins, Needs, Reach, came, end_of}
+use Rattle.imagesize_pieces.specs.declared.source.StreamSource.{StreamSource}
+use Rattle.imagesize_pieces.proofs.Beginning.{Holds, begins_shares, input_of}
+use Rattle.imagesize_pieces.proofs.Called.{fresh, state_of}
 use Rattle.imagesize_pieces.proofs.Reaching.{reach_covered}
 use Rattle.imagesize_pieces.proofs.Streaming.{unknown_behind}
 
@@ -68,25 +70,17 @@ alike_missed {X} {texts} d e f g made rest mark m alike all here shares = elim a
       (parts.other, grind (arith, nat_tests), among, λ none. parts.same none ∙ sym at)
 
 -- A layout that reads nothing before the offset `low` missed a byte, after the reads of some spans. All bytes that came from
--- there on are kept.
-pub record Left {X : Type 0} (l : Layout X) (low told start : ℕ) (kept unread : List ℕ) (log : List Span) (missed : Option Missing)
-    : Type 0 where
-  pub here : Heard told start kept unread log missed
-  pub from : start ≤ low
+-- there on are in the source.
+pub record Left {X : Type 0} (l : Layout X) (low : ℕ) (b : StreamSource) : Type 0 where
+  pub from : b.start ≤ low
   pub above : (d : List ℕ) (offset : ℕ) → is_covered (layout_reads d l).marks offset ≡ true → low ≤ offset
-  pub a : State
   pub before : List Span
-  pub recorded : a.recorded ≡ Some before
-  pub lacks : Missed a (stream_state told start kept unread log missed) (layout_reads (stream_input told start kept unread) l).marks
+  pub lacks : Missed (state_after (fresh b) before) (state_of b) (layout_reads (input_of b) l).marks
 
-module _ {X : Type 0} {l : Layout X} {low told start : ℕ} {kept unread : List ℕ} {log : List Span} {missed : Option Missing}
-    (left : Left l low told start kept unread log missed) where
-  abbrev fill : List ℕ
-  fill = stream_input told start kept unread
-
-  pub what : (m : Missing) × (missed ≡ Some m)
-      × Misses left.a (stream_state told start kept unread log missed) (layout_reads fill l).marks m
-  what = missed_is missed _ left.lacks.told
+module _ {X : Type 0} {l : Layout X} {low : ℕ} {b : StreamSource} (left : Left l low b) where
+  pub what : (m : Missing) × (b.missed ≡ Some m)
+      × Misses (state_after (fresh b) left.before) (state_of b) (layout_reads (input_of b) l).marks m
+  what = missed_is b.missed _ left.lacks.told
 
   abbrev pub m : Missing
   m = what.0
@@ -96,52 +90,54 @@ module _ {X : Type 0} {l : Layout X} {low told start : ℕ} {kept unread : List 
 
   in_mark : has_offset mark m.start ≡ true
   in_mark =
-      let begins = what.2.behind in let ends = what.2.within in let some = (left.here.lacks m what.1).0 in
+      let begins = what.2.behind in let ends = what.2.within in let some = (b.lacks m what.1).0 in
       grind (arith, nat_tests)
 
-  marked : (offset : ℕ) → has_offset mark offset ≡ true → is_covered (layout_reads fill l).marks offset ≡ true
+  marked : (offset : ℕ) → has_offset mark offset ≡ true → is_covered (layout_reads (input_of b) l).marks offset ≡ true
   marked offset in_it = subst (λ s. is_covered s offset ≡ true) (sym what.2.all)
       (covered_one_of what.2.made mark what.2.rest offset in_it)
 
   -- what is missed is after the bytes so far
-  behind : start + (length kept + length unread) ≤ m.start
+  behind : b.start + (length b.kept.now + length b.chunk.now) ≤ m.start
   behind =
-      let above = left.above fill m.start (marked m.start in_mark) in
-      unknown_behind told start kept unread m.start left.here.fits (left.here.lacks m what.1).3 (omega (arith, left.from, above))
+      let above = left.above (input_of b) m.start (marked m.start in_mark) in
+      unknown_behind b.told b.start b.kept.now b.chunk.now m.start (omega (arith, b.within)) (b.lacks m what.1).3
+      (omega (arith, left.from, above))
 
   -- the failed read requests bytes after those so far, and none from the end on
-  pub ends_left : (start + (length kept + length unread) < end_of missed) × (low < end_of missed) × (end_of missed ≤ told)
+  pub ends_left : (b.start + (length b.kept.now + length b.chunk.now) < end_of b.missed) × (low < end_of b.missed)
+      × (end_of b.missed ≤ b.told)
   ends_left =
-      let lacks = left.here.lacks m what.1 in let some = lacks.0 in let few = lacks.1 in let within = lacks.2 in
-      let ends : end_of missed ≡ m.start + m.most = ap end_of what.1 in
-      let above = left.above fill m.start (marked m.start in_mark) in
+      let lacks = b.lacks m what.1 in let some = lacks.0 in let few = lacks.1 in let within = lacks.2 in
+      let ends : end_of b.missed ≡ m.start + m.most = ap end_of what.1 in
+      let above = left.above (input_of b) m.start (marked m.start in_mark) in
       (omega (arith, behind, ends, some, few), omega (arith, above, ends, some, few), omega (arith, ends, within))
 
   -- so fewer bytes came than the layout reads at most
-  pub few_left : (high : ℕ) → Reach low high l → start + (length kept + length unread) < high
-  few_left high reach = omega (arith, behind, (reach_covered fill low high l reach m.start (marked m.start in_mark)).1)
+  pub few_left : (high : ℕ) → Reach low high l → b.start + (length b.kept.now + length b.chunk.now) < high
+  few_left high reach = omega (arith, behind, (reach_covered (input_of b) low high l reach m.start (marked m.start in_mark)).1)
 
   abbrev pub seen_there : List Span
   seen_there = what.2.made ++ span_at mark.start (m.start - mark.start)
 
   -- an input that begins with the bytes so far shares all that was seen
-  pub shares_left : {front : List ℕ} → Run front kept unread start → (d : List ℕ) → Begins front told d
-      → Shares d fill (left.before ++ seen_there)
+  pub shares_left : {front : List ℕ} → Holds front b → (d : List ℕ) → Begins front b.told d
+      → Shares d (input_of b) (left.before ++ seen_there)
   shares_left run d begins =
-      let all : log ≡ left.before ++ seen_there = ap (λ o. unwrap_or o [])
-      (what.2.recorded ∙ ap (option_map (λ spans. spans ++ seen_there)) left.recorded) in
-      subst (Shares d fill) all (begins_shares told run left.here.fits d log begins left.here.seen)
+      let all : b.log.spans ≡ left.before ++ seen_there = ap (λ o. unwrap_or o []) (what.2.recorded
+      ∙ ap (option_map (λ spans. spans ++ seen_there)) (past-recorded (fresh b) left.before)) in
+      subst (Shares d (input_of b)) all (begins_shares b run d begins)
 
-  module _ {front : List ℕ} (run : Run front kept unread start) (d : List ℕ) (begins : Begins front told d)
-      (as_long : length d ≡ told) (texts : Bool) (read : AllRead texts l) where
+  module _ {front : List ℕ} (run : Holds front b) (d : List ℕ) (begins : Begins front b.told d)
+      (as_long : length d ≡ b.told) (texts : Bool) (read : AllRead texts l) where
     -- each input that begins with the bytes so far has it in a mark
     in_each : (other : Span) × (has_offset other m.start ≡ true) × Among other (layout_reads d l).marks
         × (texts ≡ false → other ≡ mark)
     in_each =
-        alike_missed fill d (layout_reads fill l) (layout_reads d l) what.2.made what.2.rest mark m.start
-        (alike_layout fill d l read
-        (as_long ∙ sym (length-filled_input told (came start kept unread) (kept ++ unread)))) what.2.all in_mark
-        (shares-right left.before _ (shares_left run d begins))
+        alike_missed (input_of b) d (layout_reads (input_of b) l) (layout_reads d l) what.2.made what.2.rest mark m.start
+        (alike_layout (input_of b) d l read
+        (as_long ∙ sym (length-filled_input b.told (came b.start b.kept.now b.chunk.now) (b.kept.now ++ b.chunk.now))))
+        what.2.all in_mark (shares-right left.before _ (shares_left run d begins))
 
     there : is_covered (layout_reads d l).marks m.start ≡ true
     there = covered-any (layout_reads d l).marks m.start ∙ in_each.2 (λ s. has_offset s m.start) in_each.1
@@ -151,18 +147,19 @@ module _ {X : Type 0} {l : Layout X} {low told start : ℕ} {kept unread : List 
 
     -- Its reads need that byte, and if no text is read, one of them ends where the failed read ends.
     pub needs_left : (high : ℕ) → Reach low high l
-        → Needs texts (max (length front) low) (min (end_of missed) high) (layout_reads d l).marks
+        → Needs texts (max (length front) low) (min (end_of b.missed) high) (layout_reads d l).marks
     needs_left high reach =
-        let lacks = left.here.lacks m what.1 in let some = lacks.0 in let few = lacks.1 in
+        let lacks = b.lacks m what.1 in let some = lacks.0 in let few = lacks.1 in
         let begins = what.2.behind in let within = what.2.within in let reaches = what.2.reaches in
-        let ends : end_of missed ≡ m.start + m.most = ap end_of what.1 in
+        let ends : end_of b.missed ≡ m.start + m.most = ap end_of what.1 in
         let between = reach_covered d low high l reach m.start there in
-        let sure = left.here.sure m what.1 (omega (arith, left.from, between.0)) in
+        let sure = b.ends m what.1 (omega (arith, left.from, between.0)) in
         let last_in : has_offset mark (mark.start + mark.len - 1) ≡ true = grind (arith, nat_tests) in
-        let last = (reach_covered fill low high l reach _ (marked (mark.start + mark.len - 1) last_in)).1 in
-        let to : min (end_of missed) high ≡ mark.start + mark.len = omega (arith, ends, sure, within, reaches, last, some) in (
+        let last = (reach_covered (input_of b) low high l reach _ (marked (mark.start + mark.len - 1) last_in)).1 in
+        let to : min (end_of b.missed) high ≡ mark.start + mark.len = omega (arith, ends, sure, within, reaches, last, some) in (
           (m.start, omega (arith, behind, run.ends, between.0), omega (arith, between.1, ends, some, few), there),
           λ none. subst (λ s. Among s (layout_reads d l).marks) (in_each.3 none) in_each.2
-              (λ s. leb (suc (min (end_of missed) high - 1)) (s.start + s.len) && leb (s.start + s.len) (min (end_of missed) high))
+              (λ s. leb (suc (min (end_of b.missed) high - 1)) (s.start + s.len)
+              && leb (s.start + s.len) (min (end_of b.missed) high))
               (grind (arith, nat_tests)),
         )

@@ -2,11 +2,10 @@
 use Rattle.std.proofs.Common.{◌≡◌, ℕ, ◌+◌, ◌-◌, ◌<◌, ◌≤◌, min, List, ◌++◌, length, take, drop, get_or, refl, sym, ap, ◌∙◌, arith}
 use Rattle.std.specs.Prelude.{unwrap_or}
 use Rattle.std.proofs.lemmas.List.{drop_min, length-append, length-drop, length-take, get_or-drop, get_or-take, take_all, take_at, take-take}
-use Rattle.imagesize_source.specs.declared.span.Span.{Span}
-use Rattle.imagesize_source.specs.Known.{AllKnown}
 use Rattle.imagesize_source.proofs.Known.{filled_at, length-filled_input}
 use Rattle.imagesize_source.specs.Sharing.{Shares}
 use Rattle.imagesize_pieces.specs.Stream.{Begins, came, stream_input}
+use Rattle.imagesize_pieces.specs.declared.source.StreamSource.{StreamSource}
 use Rattle.imagesize_pieces.proofs.Keeping.{drop_split}
 use Rattle.imagesize_pieces.proofs.Streaming.{came_at, known_within}
 
@@ -50,27 +49,33 @@ run_held front chunk kept from passed as_many is_kept = record {
   );
 }
 
-module _ (told : ℕ) {start : ℕ} {kept unread front : List ℕ} (run : Run front kept unread start)
-    (fits : start + (length kept + length unread) ≤ told) where
+-- what a source holds are these bytes, from its first offset on
+abbrev pub Holds : List ℕ → StreamSource → Type 0
+Holds front s = Run front s.kept.now s.chunk.now s.start
+
+-- the input as it reads it
+abbrev pub input_of : StreamSource → List ℕ
+input_of s = stream_input s.told s.start s.kept.now s.chunk.now
+
+module _ (s : StreamSource) {front : List ℕ} (run : Holds front s) where
   -- the byte that the source reads, where it came
-  byte_here : (offset : ℕ) → start ≤ offset → offset < length front
-      → get_or (stream_input told start kept unread) offset 0 ≡ get_or front offset 0
+  byte_here : (offset : ℕ) → s.start ≤ offset → offset < length front → get_or (input_of s) offset 0 ≡ get_or front offset 0
   byte_here offset above below =
+      let fits : s.start + (length s.kept.now + length s.chunk.now) ≤ s.told = omega (arith, s.within) in
       let ends = run.ends in
-      let back : start + (offset - start) ≡ offset = omega (arith, above) in
-      filled_at told (came start kept unread) (kept ++ unread) offset (omega (arith, below, ends, fits))
-      ∙ ap (λ o. unwrap_or o 1) (came_at told start kept unread offset fits above (omega (arith, below, ends)))
-      ∙ rw (run.is, get_or-drop start front (offset - start) 0, back) refl
+      let back : s.start + (offset - s.start) ≡ offset = omega (arith, above) in
+      filled_at s.told (came s.start s.kept.now s.chunk.now) (s.kept.now ++ s.chunk.now) offset (omega (arith, below, ends, fits))
+      ∙ ap (λ o. unwrap_or o 1) (came_at s.told s.start s.kept.now s.chunk.now offset fits above (omega (arith, below, ends)))
+      ∙ rw (run.is, get_or-drop s.start front (offset - s.start) 0, back) refl
 
   -- an input that begins with the bytes so far shares what is known
-  pub begins_shares : (d : List ℕ) (marks : List Span) → Begins front told d
-      → AllKnown told (came start kept unread) (kept ++ unread) marks
-      → Shares d (stream_input told start kept unread) marks
-  begins_shares d marks begins known = record {
-    no_longer = let few = begins.fits in omega (arith, few, length-filled_input told (came start kept unread) (kept ++ unread));
+  pub begins_shares : (d : List ℕ) → Begins front s.told d → Shares d (input_of s) s.log.spans
+  begins_shares d begins = record {
+    no_longer = let few = begins.fits in
+        omega (arith, few, length-filled_input s.told (came s.start s.kept.now s.chunk.now) (s.kept.now ++ s.chunk.now));
     there = λ offset here.
-        let within = known_within told start kept unread offset (known offset here) in
+        let within = known_within s.told s.start s.kept.now s.chunk.now offset (s.seen offset here) in
         let early : offset < length front = omega (arith, within.1, run.ends) in
-        let there = begins_at front d told offset begins early in
+        let there = begins_at front d s.told offset begins early in
         (there.0, there.1 ∙ sym (byte_here offset within.0 early));
   }

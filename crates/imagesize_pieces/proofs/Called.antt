@@ -1,62 +1,66 @@
 -- What readings of known bytes saw and missed, and what they answered.
-use Rattle.std.proofs.Common.{◌≡◌, ℕ, ◌+◌, ◌^◌, ◌<◌, ◌≤◌, true, false, List, [], ◌++◌, length, Option, None, Result, Ok, Err, IfErr, refl, sym, ap, ◌∙◌, subst, arith}
+use Rattle.std.proofs.Common.{◌≡◌, ℕ, ◌+◌, ◌^◌, ◌<◌, true, false, List, [], ◌∷◌, ◌++◌, length, drop, None, Result, Ok, Err, IfErr, refl, sym, ap, ◌∙◌, subst, arith}
 use Rattle.std.specs.Prelude.{unwrap_or}
-use Rattle.std.specs.Option.{ForSome}
-use Rattle.std.proofs.lemmas.Bool.{false_from_ne_true, false≢true}
 use Rattle.std.proofs.lemmas.Bool.Decides.{nat_tests}
 use Rattle.imagesize_source.specs.declared.halt.Halt.{Halt}
-use Rattle.imagesize_source.specs.declared.source.parts.Missing.{Missing}
 use Rattle.imagesize_source.specs.declared.span.Span.{Span}
-use Rattle.imagesize_source.specs.Known.{AllKnown, Lacks, parts_state}
-use Rattle.imagesize_source.specs.Reading.{Reads, is_faulted, is_spent, is_stopped, uncounted}
+use Rattle.imagesize_source.specs.Known.{parts_state}
+use Rattle.imagesize_source.specs.Reading.{Reads, is_faulted, is_stopped, uncounted}
 use Rattle.imagesize_source.specs.Sharing.{Shares}
 use Rattle.imagesize_source.specs.State.{State, Frame, Runs, EndedBy, parts_of}
 use Rattle.imagesize_source.proofs.KnownReadings.{past-parts}
-use Rattle.imagesize_pieces.specs.Stream.{EndsSure, Says, came, start_of, stream_input, stream_state}
+use Rattle.imagesize_pieces.specs.Stream.{Says, came, start_of, stream_state}
 use Rattle.imagesize_pieces.specs.declared.source.StreamSource.{StreamSource}
-use Rattle.imagesize_pieces.proofs.Beginning.{Run, begins_shares}
+use Rattle.imagesize_pieces.proofs.Beginning.{Holds, Run, begins_shares, input_of}
 
 -- readings that see an input by their marks alone, however long it is
 abbrev pub IsShared : {X : Type 0} → (List ℕ → Reads X) → Type 0
 IsShared f = (d e : List ℕ) → Shares d e (f e).marks → f d ≡ f e
 
--- what readings of the bytes that came saw, and what they missed
-pub record Heard (told start : ℕ) (kept unread : List ℕ) (log : List Span) (missed : Option Missing) : Type 0 where
-  pub seen : AllKnown told (came start kept unread) (kept ++ unread) log
-  pub lacks : ForSome missed (Lacks told (came start kept unread) (kept ++ unread))
-  pub sure : ForSome missed (EndsSure start)
-  pub fits : start + (length kept + length unread) ≤ told
-  pub short : told < 2 ^ 63
-
 -- a source as its state
 abbrev pub state_of : StreamSource → State
 state_of s = stream_state s.told s.start s.kept.now s.chunk.now s.log.spans s.missed
+
+-- the source before its first read
+abbrev pub fresh : StreamSource → State
+fresh s = stream_state s.told s.start s.kept.now s.chunk.now [] None
 
 -- what is known of an input, with its length
 abbrev parts : Frame → ℕ × (List Span × List ℕ)
 parts f = (f.told, unwrap_or (parts_of f.backing) ([], []))
 
--- a call over a source, as the code has it
-module _ (a b : StreamSource) (told start : ℕ) (kept unread : List ℕ)
-    (new : state_of a ≡ stream_state told start kept unread [] None)
-    (frame : (state_of b).frame ≡ (state_of a).frame) where
-  same_parts : parts (state_of b).frame ≡ (told, (came start kept unread, kept ++ unread))
-  same_parts = ap parts (frame ∙ ap (λ (s : State). s.frame) new)
+-- where the first span ends
+abbrev first_end : List Span → ℕ
+first_end [] = 0
+first_end (s ∷ spans) = s.start + s.len
 
-  pub over : (P : State → State → Type 0) → P (state_of a) (state_of b)
-      → P (stream_state told start kept unread [] None) (stream_state told start kept unread b.log.spans b.missed)
-  over P holds = subst (λ s. P s (stream_state told start kept unread b.log.spans b.missed)) new
-      (subst (λ (p : ℕ × (List Span × List ℕ)). P (state_of a) (parts_state p.0 p.1.0 p.1.1 b.log.spans b.missed)) same_parts holds)
+-- The source a was made of these bytes. The source b is a after a call, and reads the same bytes.
+pub record Called (a b : StreamSource) (n low : ℕ) (kept unread : List ℕ) : Type 0 where
+  pub new : state_of a ≡ fresh b
+  pub told : n ≡ b.told
+  pub start : low ≡ b.start
+  pub ends : low + (length kept + length unread) ≡ b.start + (length b.kept.now + length b.chunk.now)
+  pub bytes : kept ++ unread ≡ b.kept.now ++ b.chunk.now
 
-  pub heard : start + (length kept + length unread) ≤ told → told < 2 ^ 63
-      → Heard told start kept unread b.log.spans b.missed
-  heard fits short = record {
-    seen = subst (λ (p : ℕ × (List Span × List ℕ)). AllKnown p.0 p.1.0 p.1.1 b.log.spans) same_parts b.seen;
-    lacks = subst (λ (p : ℕ × (List Span × List ℕ)). ForSome b.missed (Lacks p.0 p.1.0 p.1.1)) same_parts b.lacks;
-    sure = subst (λ (p : ℕ × (List Span × List ℕ)). ForSome b.missed (EndsSure (start_of p.1.0))) same_parts b.ends;
-    fits = fits;
-    short = short;
-  }
+pub called : (a b : StreamSource) (told start : ℕ) (kept unread : List ℕ)
+    → state_of a ≡ stream_state told start kept unread [] None → (state_of b).frame ≡ (state_of a).frame
+    → Called a b told start kept unread
+called a b told start kept unread new frame = record {
+  new = new ∙ ap (λ (p : ℕ × (List Span × List ℕ)). parts_state p.0 p.1.0 p.1.1 [] None) same;
+  told = ap (λ (p : ℕ × (List Span × List ℕ)). p.0) same;
+  start = ap (λ (p : ℕ × (List Span × List ℕ)). start_of p.1.0) same;
+  ends = ap (λ (p : ℕ × (List Span × List ℕ)). first_end p.1.0) same;
+  bytes = ap (λ (p : ℕ × (List Span × List ℕ)). p.1.1) same;
+} where
+  same : (told, (came start kept unread, kept ++ unread)) ≡ parts (state_of b).frame
+  same = sym (ap parts (frame ∙ ap (λ (s : State). s.frame) new))
+
+pub holds_after : {a b : StreamSource} {told start : ℕ} (front kept unread : List ℕ) → Called a b told start kept unread
+    → Run front kept unread start → Holds front b
+holds_after front kept unread call run = record {
+  is = sym call.bytes ∙ run.is ∙ ap (λ k. drop k front) call.start;
+  ends = sym call.ends ∙ run.ends;
+}
 
 -- a source that counts nothing is stopped by a failure alone
 pub goes_on : {X : Type 0} {a b : State} {r : Result X Halt} {reads : Reads X} → b.frame.counts ≡ false → Runs a b r reads
@@ -64,26 +68,22 @@ pub goes_on : {X : Type 0} {a b : State} {r : Result X Halt} {reads : Reads X} �
 goes_on {X} {a} {b} {r} uncounted runs faultless = by_answer r runs.ended faultless where
   by_answer : (q : Result X Halt) → IfErr q (EndedBy b) → is_faulted q ≡ false → is_stopped q ≡ false
   by_answer (Ok x) ended none = refl
-  by_answer (Err halt) ended none =
-      rw none (false_from_ne_true (is_spent halt) (λ is. false≢true (sym uncounted ∙ (ended.budget is).0)))
+  by_answer (Err halt) ended none = let budget = ended.budget in grind arith
 
-module _ {told start : ℕ} {kept unread : List ℕ} {log : List Span} {missed : Option Missing}
-    (here : Heard told start kept unread log missed) where
-  pub is_honest : (stream_state told start kept unread [] None).held.honest ≡ true
-  is_honest = let short = here.short in grind (arith, nat_tests)
+module _ (b : StreamSource) (short : b.told < 2 ^ 63) where
+  pub is_honest : (fresh b).held.honest ≡ true
+  is_honest = grind (arith, nat_tests)
 
   -- An answer that nothing failed is that of each input that begins with the bytes so far, and rests on the same marks.
-  pub says_begun : {X : Type 0} (f : List ℕ → Reads X) {r : Result X Halt}
-      → Runs (stream_state told start kept unread [] None) (stream_state told start kept unread log missed) r
-      (f (stream_input told start kept unread))
-      → is_faulted r ≡ false → (front : List ℕ) → IsShared f → Run front kept unread start → Says front told f r
+  pub says_begun : {X : Type 0} (f : List ℕ → Reads X) {r : Result X Halt} → Runs (fresh b) (state_of b) r (f (input_of b))
+      → is_faulted r ≡ false → (front : List ℕ) → IsShared f → Holds front b → Says front b.told f r
   says_begun f {r} runs faultless front same run = record {
-    marks = log;
+    marks = b.log.spans;
     is = λ d begins.
-        let fill : List ℕ = stream_input told start kept unread in
         let going = goes_on refl runs faultless in
-        let marked : log ≡ (f fill).marks = ap (λ (s : State). unwrap_or s.recorded [])
-        (runs.state is_honest going ∙ past-parts told (came start kept unread) (kept ++ unread) [] None (f fill).marks) in
-        let shares = begins_shares told run here.fits d log begins here.seen in
-        ap uncounted (same d fill (subst (Shares d fill) marked shares)) ∙ rw (runs.answer is_honest going, ← marked) refl;
+        let marked : b.log.spans ≡ (f (input_of b)).marks = ap (λ (s : State). unwrap_or s.recorded [])
+        (runs.state is_honest going
+        ∙ past-parts b.told (came b.start b.kept.now b.chunk.now) (b.kept.now ++ b.chunk.now) [] None (f (input_of b)).marks) in
+        let shares = subst (Shares d (input_of b)) marked (begins_shares b run d begins) in
+        ap uncounted (same d (input_of b) shares) ∙ rw (runs.answer is_honest going, ← marked) refl;
   }

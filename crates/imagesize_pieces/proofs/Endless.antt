@@ -3,7 +3,7 @@ use Rattle.std.proofs.Common.{◌≡◌, ℕ, zero, suc, ◌+◌, ◌-◌, ◌<�
 use Rattle.std.specs.Char.{is_ascii_whitespace}
 use Rattle.std.specs.List.{list_any}
 use Rattle.std.proofs.lemmas.Bool.Decides.{nat_tests}
-use Rattle.std.proofs.lemmas.List.{drop_more, ext_get_or, length-append, length-drop, length-replicate, get_or-drop, get_or-replicate, take-append-drop}
+use Rattle.std.proofs.lemmas.List.{drop_more, ext_get_or, length-append, length-drop, length-replicate, get_or-drop, get_or-replicate}
 use Rattle.imagesize_source.specs.declared.halt.Halt.TheVariants.{Failed}
 use Rattle.imagesize_source.specs.declared.source.parts.Missing.{Missing}
 use Rattle.imagesize_source.specs.declared.span.Span.{Span}
@@ -13,9 +13,9 @@ use Rattle.imagesize_source.specs.Input.{part, span_at, span_of}
 use Rattle.imagesize_source.specs.Known.{parts_state}
 use Rattle.imagesize_source.specs.Reading.{part_read, text_part, text_read}
 use Rattle.imagesize_source.specs.State.{State, Runs}
-use Rattle.imagesize_source.specs.Text.{delimits, front_through, has_begun, is_ended, text_front}
+use Rattle.imagesize_source.specs.Text.{delimits, has_begun, is_ended, text_front}
 use Rattle.imagesize_source.proofs.Known.{filled_at, length-filled_input}
-use Rattle.imagesize_source.proofs.KnownReadings.{parts_missing}
+use Rattle.imagesize_source.proofs.KnownReadings.{part_split, parts_missing}
 use Rattle.imagesize_source.proofs.Parts.{part_at, part_front, part_length, part_whole}
 use Rattle.imagesize_source.proofs.Texts.{front_all, front_length, front_take, line_front, through-cons, word_ended}
 use Rattle.imagesize_source.proofs.Unended.{line_front_on, line_on, word_on}
@@ -82,8 +82,7 @@ module _ (told start : ℕ) (kept chunk : List ℕ) (fits : start + length kept 
     whole : part fill offset k ≡ part fill offset found ++ drop found (part fill offset wanted)
     whole =
         part_whole fill offset k wanted (long ∙ ap (λ n. min k (n - offset)) (sym as_told))
-        ∙ sym (take-append-drop found (part fill offset wanted))
-        ∙ ap (λ bs. bs ++ drop found (part fill offset wanted)) (part_front fill offset found wanted (omega (arith, short)))
+        ∙ part_split fill offset wanted found (omega (arith, short))
 
     behind_ones : start ≤ offset + found → drop found (part fill offset wanted) ≡ replicate (wanted - found) 1
     behind_ones above =
@@ -92,12 +91,7 @@ module _ (told start : ℕ) (kept chunk : List ℕ) (fits : start + length kept 
         omega (arith, length-drop found (part fill offset wanted), part_length fill offset wanted, as_told, long) in
         ext_get_or 0 (drop found (part fill offset wanted)) (replicate (wanted - found) 1)
         (many ∙ sym (length-replicate (wanted - found) 1))
-        (λ i below.
-        let less : found + i < wanted = omega (arith, below, many) in
-        get_or-drop found (part fill offset wanted) i 0 ∙ part_at fill offset wanted (found + i) less
-        ∙ one_at (offset + (found + i)) (omega (arith, less, long))
-        (not_behind told start kept chunk (offset + (found + i)) (omega (arith, behind)))
-        ∙ sym (get_or-replicate (wanted - found) i 1 0 (omega (arith, less))))
+        (λ i below. grind (arith, get_or-drop {A = ℕ}, part_at, one_at, not_behind, get_or-replicate {A = ℕ}))
 
     -- it has all bytes that the read requests
     pub goes_whole : (t : Text) → is_ended t (part fill offset found) ≡ false → delimits t 1 ≡ false → start ≤ offset + found
@@ -123,8 +117,7 @@ module _ (told start : ℕ) (kept chunk : List ℕ) (fits : start + length kept 
         let split : part fill offset k ≡ part fill offset found ++ 1 ∷ rest =
         whole ∙ ap (λ bs. part fill offset found ++ bs) (drop_more (part fill offset wanted) found 0 there ∙ ap (λ b. b ∷ rest) first) in
         let line : text_front (Line delimiter) (1 ∷ rest) ≡ 1 ∷ [] =
-        line_front delimiter (1 ∷ rest) ∙ through-cons (delimits (Line delimiter)) 1 rest
-        ∙ ap (λ b. cond b (1 ∷ []) (1 ∷ front_through (delimits (Line delimiter)) rest)) hit in
+        line_front delimiter (1 ∷ rest) ∙ grind (arith, through-cons) in
         let all : text_front (Line delimiter) (part fill offset k) ≡ part fill offset found ++ 1 ∷ [] =
         ap (text_front (Line delimiter)) split ∙ line_front_on delimiter (part fill offset found) (1 ∷ rest) still
         ∙ ap (λ bs. part fill offset found ++ bs) line in

@@ -2,7 +2,6 @@ pub mod Asking
 pub mod Beginning
 pub mod Called
 pub mod Endless
-pub mod Going
 pub mod Reaching
 pub mod Keeping
 pub mod Needing

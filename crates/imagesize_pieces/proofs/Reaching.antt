@@ -6,15 +6,14 @@ use Rattle.std.proofs.lemmas.List.Folds.{list_any-append}
 use Rattle.imagesize_source.specs.declared.halt.Halt.{Halt}
 use Rattle.imagesize_source.specs.declared.span.Span.{Span}
 use Rattle.imagesize_source.specs.Agreement.{is_covered, has_offset}
-use Rattle.imagesize_source.specs.Input.{part, span_at, span_of}
+use Rattle.imagesize_source.specs.Input.{span_at, span_of}
 use Rattle.imagesize_source.specs.Layout.{Layout, done, refuse, field, reading, begin_record, layout_reads, bind, accept}
 use Rattle.imagesize_source.specs.Reading.{Reads, Reading, AllOf, PartOf, TextOf, go_on, read_of, most, number_at, text_part}
-use Rattle.imagesize_source.specs.Text.{text_front}
 use Rattle.imagesize_source.proofs.Among.{covered-any}
 use Rattle.imagesize_source.proofs.Answered.{bytes_is}
+use Rattle.imagesize_source.proofs.Counts.{text_length}
 use Rattle.imagesize_source.proofs.Parts.{part_length}
 use Rattle.imagesize_source.proofs.Runs.{part_is}
-use Rattle.imagesize_source.proofs.Texts.{front_length}
 use Rattle.imagesize_pieces.specs.Stream.{Reach}
 
 -- each offset of the spans lies between these
@@ -32,12 +31,11 @@ between_part d start k offset is = let h = between_span start (min k (length d -
     (h.0, omega (arith, h.1))
 
 between_reading : (d : List ℕ) (r : Reading) (start : ℕ) → Between start (start + most r) (read_of d r start).marks
-unfolding text_part
 between_reading d (AllOf k) start offset is = between_part d start k offset is
 between_reading d (PartOf k) start offset is = between_part d start k offset is
 between_reading d (TextOf t k) start offset is =
-    let h = between_span start (length (text_front t (part d start k))) offset is in
-    (h.0, omega (arith, h.1, front_length t (part d start k), part_length d start k))
+    let h = between_span start (length (text_part d t start k)) offset is in
+    (h.0, omega (arith, h.1, text_length d t start k, part_length d start k))
 
 -- spans, and those of what goes on from them
 between_onward : {X Y : Type 0} (low high from to : ℕ) (spans : List Span) (r : Result X Halt) (f : X → Reads Y)
@@ -55,11 +53,9 @@ between_onward low high from to spans (Err e) f first early late rest offset is 
 -- a reading gives no more bytes than it asks for
 read_most : (d : List ℕ) (r : Reading) (start : ℕ) (bs : List ℕ) → (read_of d r start).answer ≡ Ok bs
     → length bs ≤ most r
-unfolding text_part
 read_most d (AllOf k) start bs is = omega (arith, ap length (bytes_is d bs start k is), part_length d start k)
 read_most d (PartOf k) start bs is = omega (arith, ap length (part_is is), part_length d start k)
-read_most d (TextOf t k) start bs is =
-    omega (arith, ap length (part_is is), front_length t (part d start k), part_length d start k)
+read_most d (TextOf t k) start bs is = omega (arith, ap length (part_is is), text_length d t start k, part_length d start k)
 
 pub reach_covered : {X : Type 0} (d : List ℕ) (low high : ℕ) (t : Layout X) → Reach low high t → (offset : ℕ)
     → is_covered (layout_reads d t).marks offset ≡ true → (low ≤ offset) × (offset < high)

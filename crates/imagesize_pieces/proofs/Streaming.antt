@@ -1,11 +1,9 @@
 -- What came of an input from an offset on, as one part.
-use Rattle.std.proofs.Common.{◌≡◌, ℕ, zero, suc, ◌+◌, ◌-◌, ◌<◌, ◌≤◌, min, true, false, List, ◌++◌, length, take, drop, get_or, Option, Some, is_some, refl, sym, ap, ◌∙◌, arith}
+use Rattle.std.proofs.Common.{◌≡◌, ℕ, zero, suc, ◌+◌, ◌-◌, ◌<◌, ◌≤◌, min, true, false, List, ◌++◌, length, take, drop, get_or, Some, is_some, refl, sym, ap, ◌∙◌, arith}
 use Rattle.std.proofs.lemmas.Bool.Decides.{nat_tests}
 use Rattle.std.proofs.lemmas.List.{length-append, length-drop, get_or-append_right, get_or_append_left, get_or-drop, get_or-take}
-use Rattle.imagesize_source.specs.declared.source.parts.Missing.{Missing}
-use Rattle.imagesize_source.specs.declared.span.Span.{Span}
 use Rattle.imagesize_source.specs.Input.{part}
-use Rattle.imagesize_pieces.specs.Stream.{byte_at, came, run_at, stream_input, stream_state}
+use Rattle.imagesize_pieces.specs.Stream.{byte_at, came, run_at, stream_input}
 use Rattle.imagesize_source.proofs.Known.{known_below}
 use Rattle.imagesize_source.proofs.Gathering.{run_part}
 use Rattle.imagesize_source.proofs.Parts.{part_none}
@@ -71,11 +69,6 @@ module _ (n start : ℕ) (kept chunk : List ℕ) where
   run_ends run offset is some =
       let long = ap length is in
       (grind (arith, nat_tests, length-drop {A = ℕ}), grind (arith, nat_tests, length-drop {A = ℕ}))
-
--- two sources of the same bytes
-pub stream_is : {n m s t : ℕ} {xs ys zs ws : List ℕ} {log more : List Span} {missed also : Option Missing} → n ≡ m → s ≡ t
-    → xs ≡ ys → zs ≡ ws → log ≡ more → missed ≡ also → stream_state n s xs zs log missed ≡ stream_state m t ys ws more also
-stream_is told start kept chunk spans misses = rw (told, start, kept, chunk, spans, misses) refl
 
 -- the first of some known bytes
 pub first_known : (n start : ℕ) (kept chunk run found : List ℕ) (offset count i : ℕ)

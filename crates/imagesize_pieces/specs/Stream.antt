@@ -5,8 +5,7 @@ use Rattle.imagesize_source.specs.Known.{byte_in_parts, filled_input, parts_stat
 use Rattle.imagesize_source.specs.Layout.{Layout, done, refuse, field, reading, begin_record}
 use Rattle.imagesize_source.specs.Reading.{Reads, just, most, put_behind, uncounted}
 use Rattle.imagesize_source.specs.State.{State}
-use Rattle.imagesize_source.specs.Chain.{Said, chain_from}
-use Rattle.imagesize_source.specs.Walk.{chain_of}
+use Rattle.imagesize_source.specs.Walk.{Step, run}
 use Rattle.imagesize_source.specs.declared.halt.Halt.{Halt}
 use Rattle.imagesize_source.specs.declared.source.parts.Missing.{Missing}
 use Rattle.imagesize_source.specs.declared.span.Span.{Span}
@@ -91,13 +90,11 @@ end_of None = 0
 end_of (Some m) = m.start + m.most
 
 -- The first `passed` bytes of an input of at most `told` bytes arrived. Those from `start` on are kept. The next record
--- of the walk is at `offset`. For every input that begins so, the reads are some spans, then those from that record on.
-pub record Streams {C X : Type 0} (first : ℕ) (said : List C → ℕ → Layout (Said C X)) (P : List C → Type 0) (start offset told passed : ℕ)
-    (kept : List ℕ) (whole : List ℕ → Reads X) (front : List ℕ) : Type 0 where
-  pub held : List C
-  pub known : P held
+-- of the walk, after the state s, is at `offset`. For every input that begins so, the reads are some spans, then those from that
+-- record on.
+pub record Streams {S X : Type 0} (step : Step S X) (s : S) (start offset told passed : ℕ) (kept : List ℕ) (whole : List ℕ → Reads X)
+    (front : List ℕ) : Type 0 where
   pub as_many : passed ≡ length front
   pub rest : kept ≡ drop start front
   pub before : List Span
-  pub resumes : (d : List ℕ) → Begins front told d
-      → uncounted (whole d) ≡ put_behind before (uncounted (chain_from (chain_of first said) d (record { held = held; offset = offset })))
+  pub resumes : (d : List ℕ) → Begins front told d → uncounted (whole d) ≡ put_behind before (uncounted (run step s offset d))

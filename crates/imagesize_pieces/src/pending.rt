@@ -77,6 +77,7 @@ fn is_pending(text: Text, searched: usize, kept: &[u8], chunk: &[u8]) -> bool
 
 // Whether a text that the first bytes do not end is not ended by those after them either.
 #[inline]
+#[tactic(auto, using(imagesize_source::proofs::Unended::line_on))]
 fn stays_pending(text: Text, first: &[u8], rest: &[u8]) -> bool
     requires { is_ended text first.now ≡ false }
     ensures { result ≡ not (is_ended text (first.now ++ rest.now)) }
@@ -89,6 +90,7 @@ fn stays_pending(text: Text, first: &[u8], rest: &[u8]) -> bool
 
 // Whether a word that the first bytes do not end is not ended by those after them either.
 #[inline]
+#[tactic(auto, using(imagesize_source::proofs::Unended::word_on))]
 fn word_stays_pending(first: &[u8], rest: &[u8]) -> bool
     requires { is_ended Text.Word first.now ≡ false }
     ensures { result ≡ not (is_ended Text.Word (first.now ++ rest.now)) }
@@ -101,6 +103,7 @@ fn word_stays_pending(first: &[u8], rest: &[u8]) -> bool
 
 // Whether a word that these bytes do not end has begun. If it has, the last of them is a byte of the word.
 #[inline(always)]
+#[tactic(auto, using(imagesize_source::proofs::Unended::begun_at))]
 fn has_begun(bytes: &[u8]) -> bool
     requires { is_ended Text.Word bytes.now ≡ false }
     ensures { result ≡ has_begun bytes.now }

@@ -150,6 +150,7 @@ impl<'a> StreamSource<'a> {
     }
 
     // Copies the known bytes of a read into the buffer, up to the first missing byte, and returns how many it copied.
+    #[tactic(auto, using(imagesize_source::proofs::Parts::part_none))]
     fn gather(&self, offset: u64, buffer: &mut [u8]) -> usize
         requires { length buffer.old ≤ self.now.told - offset }
         ensures within { result ≤ length buffer.old }
@@ -265,6 +266,7 @@ impl<'a> StreamSource<'a> {
 
     // Whether these bytes from an offset on are the last of the chunk, and a read of at most `most` bytes requests more.
     #[inline(always)]
+    #[tactic(auto, using(crate::proofs::Streaming::last_none))]
     fn ends_within(&self, offset: u64, run: &[u8], most: usize) -> bool
         requires { run.now ≡ run_at self.now.start self.now.kept.now self.now.chunk.now offset }
         ensures short { result ≡ true → length run.now < min most (self.now.told - offset) }

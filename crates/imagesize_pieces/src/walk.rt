@@ -2,7 +2,7 @@
 ghost use Rattle.std.specs.Prelude.{◌≡◌, ℕ, ◌+◌, ◌-◌, ◌<◌, ◌≤◌, ◌++◌, Bool, List, length, false, max, min, None, IfSome};
 ghost use Rattle.imagesize_source.specs.Agreement.{AllRead};
 ghost use Rattle.imagesize_source.specs.Reading.{Reads, is_faulted, is_stopped};
-ghost use Rattle.imagesize_source.specs.Walk.{CanFollow, chain_of};
+ghost use Rattle.imagesize_source.specs.Walk.{CanFollow};
 ghost use Rattle.imagesize_pieces.specs.Standing.{Stands};
 ghost use Rattle.imagesize_pieces.specs.Stream.{AllBelow, Begins, Needs, Reach, Says};
 
@@ -20,16 +20,14 @@ pub fn read_on<R: Records>(
     buffer: &mut [u8],
     chunk: &[u8],
 ) -> Option<Result<R::Answer, Halt>>
-    requires follows { CanFollow (chain_of 0 (R.said records.old)) }
-    requires keeps { (held : List R.Held) × R.keeps records.old held stand.old.offset }
-    requires reaches { (held : List R.Held) (offset : ℕ)
-        → Reach offset (offset + (length buffer.old + 1)) (R.said records.old held offset) }
+    requires follows { CanFollow R.step }
+    requires holds { R.holds records.old stand.old.offset }
+    requires reaches { (s : R.State) (offset : ℕ) → Reach offset (offset + (length buffer.old + 1)) (R.step s offset) }
     requires buffer { stand.old.passed - stand.old.start ≤ length buffer.old }
     requires fits { stand.old.passed + length chunk.now ≤ stand.old.told }
-    ensures same { R.said records.new ≡ R.said records.old }
     ensures told { stand.new.told ≡ stand.old.told }
     ensures passed { result ≡ None → stand.new.passed ≡ stand.old.passed + length chunk.now }
-    ensures keeps { result ≡ None → (held : List R.Held) × R.keeps records.new held stand.new.offset }
+    ensures holds { result ≡ None → R.holds records.new stand.new.offset }
     ensures buffer { result ≡ None → stand.new.passed - stand.new.start ≤ length buffer.new }
     ensures stays { IfSome result (λ _. (stand.new ≡ stand.old) × (buffer.new ≡ buffer.old)) }
     ensures unstopped { IfSome result (λ answer. is_stopped answer ≡ false) }
@@ -42,31 +40,30 @@ pub fn read_on<R: Records>(
     ensures whole { stand.old.told ≤ stand.old.passed + length chunk.now → result ≡ None → ⊥ }
 
     // For each list of bytes that may have arrived before:
-    ensures goes_on { result ≡ None → (first : ℕ) (whole : List ℕ → Reads R.Answer) (front : List ℕ)
-        → Stands first (R.said records.old) (R.keeps records.old) stand.old buffer.old whole front
-        → Stands first (R.said records.old) (R.keeps records.new) stand.new buffer.new whole (front ++ chunk.now) }
-    ensures says { (first : ℕ) (whole : List ℕ → Reads R.Answer) (front : List ℕ)
-        → Stands first (R.said records.old) (R.keeps records.old) stand.old buffer.old whole front
+    ensures goes_on { result ≡ None → (whole : List ℕ → Reads R.Answer) (front : List ℕ)
+        → Stands R.step (R.state records.old) stand.old buffer.old whole front
+        → Stands R.step (R.state records.new) stand.new buffer.new whole (front ++ chunk.now) }
+    ensures says { (whole : List ℕ → Reads R.Answer) (front : List ℕ)
+        → Stands R.step (R.state records.old) stand.old buffer.old whole front
         → IfSome result (Says (front ++ chunk.now) stand.old.told whole) }
-    ensures complete { result ≡ None → (first : ℕ) (whole : List ℕ → Reads R.Answer) (front : List ℕ)
-        → Stands first (R.said records.old) (R.keeps records.old) stand.old buffer.old whole front
+    ensures complete { result ≡ None → (whole : List ℕ → Reads R.Answer) (front : List ℕ)
+        → Stands R.step (R.state records.old) stand.old buffer.old whole front
         → (d : List ℕ) → Begins (front ++ chunk.now) stand.old.told d → length d ≡ stand.old.told
         → AllBelow (length front + length chunk.now) (whole d).marks → ⊥ }
 
     // The buffer holds the bytes from the next record on, and not all bytes up to which that record is read.
     ensures starts { result ≡ None → stand.new.start ≡ stand.new.offset }
     ensures few { result ≡ None → (high : ℕ)
-        → ((held : List R.Held) → R.keeps records.new held stand.new.offset
-        → Reach stand.new.offset high (R.said records.new held stand.new.offset))
+        → Reach stand.new.offset high (R.step (R.state records.new) stand.new.offset)
         → stand.new.passed < high }
 
     // The result depends on a byte that has not arrived. It is in the next record, and the read that missed a byte requests it.
     // It is before each offset `high` up to which that record is read. If the record reads no text, that read ends at
     // `stand.new.end`.
-    ensures marked { result ≡ None → (texts : Bool) (high : ℕ) → ((held : List R.Held) → R.keeps records.new held stand.new.offset
-        → AllRead texts (R.said records.new held stand.new.offset) × Reach stand.new.offset high (R.said records.new held stand.new.offset))
-        → (first : ℕ) (whole : List ℕ → Reads R.Answer) (front : List ℕ)
-        → Stands first (R.said records.old) (R.keeps records.old) stand.old buffer.old whole front
+    ensures marked { result ≡ None → (texts : Bool) (high : ℕ) → AllRead texts (R.step (R.state records.new) stand.new.offset)
+        → Reach stand.new.offset high (R.step (R.state records.new) stand.new.offset)
+        → (whole : List ℕ → Reads R.Answer) (front : List ℕ)
+        → Stands R.step (R.state records.old) stand.old buffer.old whole front
         → (d : List ℕ) → Begins (front ++ chunk.now) stand.old.told d → length d ≡ stand.old.told
         → Needs texts (max stand.new.passed stand.new.start) (min stand.new.end high) (whole d).marks }
 {

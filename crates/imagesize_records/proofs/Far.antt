@@ -1,21 +1,28 @@
 -- How far the record that is awaited is read.
-use Rattle.std.proofs.Common.{ℕ, ◌+◌, ◌*◌, ◌<◌, ◌≤◌, Bool, eqb, List, length, take, arith}
+use Rattle.std.proofs.Common.{ℕ, ◌+◌, ◌*◌, ◌<◌, ◌≤◌, eqb, List, length, take, arith}
 use Rattle.imagesize_pieces.proofs.Reaching.{reach_accept, reach_bind, reach_if, reach_more}
 use Rattle.imagesize_pieces.specs.Stream.{Reach}
 use Rattle.imagesize_source.specs.Layout.{Layout, bind}
 use Rattle.imagesize_source.specs.Layout.Layout.{refuse}
 use Rattle.imagesize_source.specs.declared.halt.Halt.TheVariants.{DataWindowNotFound, NoDimensionsInIfd}
-use Rattle.imagesize_records.specs.Steps.{Awaits, awaited_said, is_text, kept_front, last_awaited, names_of, reach_at, reach_of, step}
+use Rattle.imagesize_source.specs.Chain.{Said}
+use Rattle.imagesize_source.specs.Walk.{after, decides}
+use Rattle.imagesize_records.specs.Steps.{is_text, reach_at, reach_of, step}
 use Rattle.imagesize_records.specs.declared.awaited.Awaited.{Awaited}
-use Rattle.imagesize_records.specs.declared.awaited.Awaited.TheVariants.{Attribute, Box, Entry}
+use Rattle.imagesize_records.specs.declared.awaited.Awaited.TheVariants.{Exr, Jxl, Tiff}
 use Rattle.imagesize_texts.proofs.Texts.{line_ok}
 use Rattle.imagesize_texts.specs.Contents.{line_text}
-use Rattle.imagesize_texts.specs.Exr.{exr_attribute, exr_named, exr_typed}
+use Rattle.imagesize_texts.specs.Exr.{exr_attribute, exr_named, exr_step, exr_typed, names_of}
 use Rattle.imagesize_texts.specs.Texts.{line_at}
 use Rattle.imagesize_boxes.specs.Jxl.{box_content, box_head, jxl_box, piece_at}
 use Rattle.imagesize_boxes.specs.declared.formats.jxl.boxes.BoxHead.{BoxHead}
 use Rattle.imagesize_walked.specs.Tiff.{entry_behind, entry_bytes, field_type_in, field_type_of, tiff_entry, tiff_head, tiff_value}
+use Rattle.imagesize_boxes.specs.Walks.{front_of, jxl_step}
+use Rattle.imagesize_types.specs.declared.size.ImageSize.{ImageSize}
+use Rattle.imagesize_walked.specs.Walks.{listed_step, tiff_step}
+use Rattle.imagesize_walked.specs.declared.formats.tiff.Directory.TheVariants.{Entry}
 use Rattle.imagesize_walked.specs.declared.formats.tiff.Header.{Header}
+use Rattle.imagesize_walked.specs.declared.formats.tiff.Listed.{Listed}
 
 -- a line has no more bytes than are read of it
 line_reach : {X : Type 0} (low high offset most : ℕ) (g : List ℕ → Layout X) → low ≤ offset → offset + most ≤ high
@@ -61,19 +68,33 @@ content_reach : (held : List ℕ) (offset : ℕ) (head : BoxHead) → head.lengt
 unfolding piece_at
 content_reach held offset head short = grind arith
 
--- each record
-step_reach : (next : Awaited) (offset : ℕ) → Reach offset (offset + reach_at next) (step next offset)
-step_reach (Attribute long) offset =
-    reach_bind offset (offset + (2 * names_of long + 20)) (exr_attribute (names_of long) offset) _
-    (attribute_reach (names_of long) offset) (λ said. grind arith)
-step_reach (Entry l) offset =
+-- a record of one format, as one of all
+reach_into : {Q : Type 0} (into : Q → Awaited) (offset high : ℕ) (t : Layout (Said Q ImageSize)) → Reach offset high t
+    → Reach offset high (bind t (after into decides))
+reach_into into offset high t reach = reach_bind offset high t (after into decides) reach (λ said. grind arith)
+
+listed_reach : (l : Listed) (offset : ℕ) → Reach offset (offset + entry_bytes l.header.version) (listed_step l offset)
+listed_reach l offset =
     let high : ℕ = offset + entry_bytes l.header.version in
     reach_bind offset high (entry_behind l.header l.count l.seen l.width l.height offset) _
     (reach_if (eqb l.seen l.count) offset high (refuse NoDimensionsInIfd) (bind (tiff_entry l.header offset) _) tt
     (reach_bind offset high (tiff_entry l.header offset) _ (entry_reach l.header offset) (λ entry. tt)))
     (λ said. grind arith)
-step_reach (Box kept) offset = reach_bind offset (offset + 36) (jxl_box (kept_front kept) offset) _
-    (head_reach offset (box_content (kept_front kept) offset) (content_reach (kept_front kept) offset)) (λ said. grind arith)
+
+-- each record
+pub step_reach : (next : Awaited) (offset : ℕ) → Reach offset (offset + reach_at next) (step next offset)
+step_reach (Exr long) offset =
+    let high : ℕ = offset + (2 * names_of long + 20) in
+    reach_into Exr offset high (exr_step long offset)
+    (reach_bind offset high (exr_attribute (names_of long) offset) _ (attribute_reach (names_of long) offset) (λ said. grind arith))
+step_reach (Tiff (Entry l)) offset =
+    let high : ℕ = offset + entry_bytes l.header.version in
+    reach_into Tiff offset high (tiff_step (Entry l) offset)
+    (reach_bind offset high (listed_step l offset) _ (listed_reach l offset) (λ said. grind arith))
+step_reach (Jxl boxes) offset =
+    reach_into Jxl offset (offset + 36) (jxl_step boxes offset)
+    (reach_bind offset (offset + 36) (jxl_box (front_of boxes) offset) _
+    (head_reach offset (box_content (front_of boxes) offset) (content_reach (front_of boxes) offset)) (λ said. grind arith))
 step_reach next offset = grind arith
 
 -- a text is read no further than 1,024 bytes, any other record no further than 132
@@ -92,8 +113,3 @@ reach_most next = grind arith
 pub step_far : (next : Awaited) (offset high : ℕ) → offset + 1024 ≤ high → Reach offset high (step next offset)
 step_far next offset high enough = reach_more offset (offset + reach_at next) high (step next offset)
     (omega (arith, enough, reach_most next)) (step_reach next offset)
-
--- the record that is awaited
-pub awaits_far : {texts : Bool} {next : Awaited} (held : List Awaited) (offset : ℕ) → Awaits texts next held offset
-    → Reach offset (offset + reach_at next) (awaited_said held offset)
-awaits_far {texts} {next} held offset awaits = rw (← awaits.0) (step_reach (last_awaited held) offset)

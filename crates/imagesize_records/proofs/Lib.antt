@@ -1,8 +1,6 @@
 pub mod Opened
-pub mod Running
-pub mod Words
 pub mod Saying
-pub mod Behind
+pub mod Sized
 pub mod Plain
 pub mod Reaches
 pub mod Steps

@@ -1,5 +1,5 @@
 -- Which of the readings of a stream read no text.
-use Rattle.std.proofs.Common.{◌≡◌, ℕ, Bool, true, false, cond, List, Option, None, Some, Result, Ok, Err, refl, ap, ◌∙◌}
+use Rattle.std.proofs.Common.{◌≡◌, ℕ, Bool, true, false, cond, List, Option, None, Some, Result, Ok, Err, refl}
 use Rattle.imagesize.proofs.Detection.{kind_cost, with_costs}
 use Rattle.imagesize.specs.Kind.{first_row, with_compression}
 use Rattle.imagesize.specs.Parted.{has_texts}
@@ -8,7 +8,10 @@ use Rattle.imagesize.specs.declared.types.ImageType.{ImageType}
 use Rattle.imagesize.specs.declared.types.ImageType.TheVariants.{Exr, Hdr, Pnm}
 use Rattle.imagesize_boxes.specs.Heif.{property_found}
 use Rattle.imagesize_boxes.specs.Jxl.{box_head, piece_at}
+use Rattle.imagesize_boxes.specs.Walks.{heif_step, property_or_result}
 use Rattle.imagesize_boxes.specs.declared.formats.heif.Gathered.{Gathered}
+use Rattle.imagesize_boxes.specs.declared.formats.heif.Sought.{Sought}
+use Rattle.imagesize_boxes.specs.declared.formats.heif.Sought.TheVariants.{Ipco, Iprp, Meta, Property}
 use Rattle.imagesize_boxes.specs.declared.formats.heif.Property as heif
 use Rattle.imagesize_source.proofs.Agreement.{costed_texts, with_texts}
 use Rattle.imagesize_source.specs.Agreement.{AllRead}
@@ -17,14 +20,18 @@ use Rattle.imagesize_source.specs.Layout.{Layout, accept, bind}
 use Rattle.imagesize_source.specs.Layout.Layout.{begin_record, field, reading, refuse, «done»}
 use Rattle.imagesize_source.specs.declared.endian.Endian.{Endian}
 use Rattle.imagesize_source.specs.declared.halt.Halt.{Halt}
-use Rattle.imagesize_records.specs.Steps.{Awaits, after, awaited_said, is_text, last_awaited, property_step, step}
+use Rattle.imagesize_source.specs.Walk.{after}
+use Rattle.imagesize_records.specs.Steps.{is_text, step}
 use Rattle.imagesize_records.specs.Streamed.{first_by, first_layout, jxl_opened, opening}
 use Rattle.imagesize_records.specs.declared.awaited.Awaited.{Awaited}
-use Rattle.imagesize_records.specs.declared.awaited.Awaited.TheVariants.{Attribute, Comment, Height, Line, Word}
+use Rattle.imagesize_records.specs.declared.awaited.Awaited.TheVariants as awaited
 use Rattle.imagesize_records.specs.declared.front.First.TheVariants as first
 use Rattle.imagesize_types.specs.declared.size.ImageSize.{ImageSize}
 use Rattle.imagesize_walked.specs.Ico.{icon_answer, icon_entry}
 use Rattle.imagesize_walked.specs.Tiff.{stated_offset, tiff_entry, tiff_head, tiff_header, tiff_value}
+use Rattle.imagesize_walked.specs.Walks.{tiff_step}
+use Rattle.imagesize_walked.specs.declared.formats.tiff.Directory.{Directory}
+use Rattle.imagesize_walked.specs.declared.formats.tiff.Directory.TheVariants.{Count, Entry}
 use Rattle.imagesize_walked.specs.declared.formats.tiff.Version.{Version}
 use Rattle.imagesize_walked.specs.declared.formats.tiff.Version.TheVariants.{BigTiff, Tiff as Tiff_version}
 
@@ -49,7 +56,7 @@ ruleset plain = (plain_if, plain_accept, plain_bind)
 
 -- ---- the records
 
-plain_after : {C Y : Type 0} (on : C → Awaited) (verdict : Y → Layout (Said Awaited ImageSize))
+plain_after : {C S Y : Type 0} (on : C → S) (verdict : Y → Layout (Said S ImageSize))
     → ((y : Y) → AllRead false (verdict y)) → (said : Said C Y) → AllRead false (after on verdict said)
 plain_after on verdict each (Decided y) = each y
 plain_after on verdict each (Next v offset) = tt
@@ -66,29 +73,34 @@ found_plain : (left offset : ℕ) (found : Option (List ℕ)) → AllRead false 
 found_plain left offset None = tt
 found_plain left offset (Some head) = search plain
 
-listed_plain : (g : Gathered) (offset : ℕ) (found : Option heif.Property) → AllRead false (property_step g offset found)
+listed_plain : (g : Gathered) (offset : ℕ) (found : Option heif.Property) → AllRead false (property_or_result g offset found)
 listed_plain g offset None = search plain
 listed_plain g offset (Some property) = tt
 
 ruleset records = (plain, plain_after, icon_plain, entry_plain, found_plain, listed_plain)
 
+directory_plain : (s : Directory) (offset : ℕ) → AllRead false (tiff_step s offset)
+unfolding tiff_entry tiff_head tiff_value
+directory_plain (Count header) offset = search records
+directory_plain (Entry l) offset = search records depth 12 fits 3000
+
+sought_plain : (s : Sought) (offset : ℕ) → AllRead false (heif_step s offset)
+sought_plain Meta offset = search records
+sought_plain Iprp offset = search records
+sought_plain Ipco offset = search records
+sought_plain (Property g) offset = search records depth 12 fits 3000
+
 -- a record that is no text
 step_plain : (next : Awaited) (offset : ℕ) → is_text next ≡ false → AllRead false (step next offset)
-unfolding tiff_entry tiff_head tiff_value box_head piece_at
-step_plain (Attribute long) offset other = absurd cc
-step_plain Line offset other = absurd cc
-step_plain Word offset other = absurd cc
-step_plain Comment offset other = absurd cc
-step_plain (Height width) offset other = absurd cc
-step_plain next offset other = search records depth 12 fits 3000
+unfolding box_head piece_at
+step_plain (awaited.Exr long) offset other = absurd cc
+step_plain awaited.Hdr offset other = absurd cc
+step_plain (awaited.Pnm s) offset other = absurd cc
+step_plain next offset other = search (records, directory_plain, sought_plain) depth 12 fits 3000
 
-step_read : (texts : Bool) (next : Awaited) (offset : ℕ) → is_text next ≡ texts → AllRead texts (step next offset)
+pub step_read : (texts : Bool) (next : Awaited) (offset : ℕ) → is_text next ≡ texts → AllRead texts (step next offset)
 step_read true next offset is = with_texts (step next offset)
 step_read false next offset is = step_plain next offset is
-
-pub awaits_read : {texts : Bool} {next : Awaited} (held : List Awaited) (offset : ℕ) → Awaits texts next held offset
-    → AllRead texts (awaited_said held offset)
-awaits_read {texts} held offset awaits = step_read texts (last_awaited held) offset (ap is_text awaits.0 ∙ awaits.2)
 
 -- ---- the first bytes
 

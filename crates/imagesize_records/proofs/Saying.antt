@@ -1,56 +1,33 @@
--- What a layout says, whatever its readings answer.
-use Rattle.std.proofs.Common.{◌≡◌, ℕ, Bool, List, Option, Some, None, Result, Ok, Err, refl, subst, arith}
+-- What the first bytes say of the first record.
+use Rattle.std.proofs.Common.{◌≡◌, ℕ, Bool, List, Option, Some, None, refl, arith}
 use Rattle.imagesize.specs.Parted.{has_texts}
 use Rattle.imagesize.specs.declared.types.ImageType.{ImageType}
-use Rattle.imagesize.specs.declared.types.ImageType.TheVariants.{Jxl}
-use Rattle.imagesize_source.proofs.Answered.{on_answer}
-use Rattle.imagesize_source.specs.Input.{span_of}
-use Rattle.imagesize_source.specs.Layout.{Layout, accept, bind, layout_reads}
+use Rattle.imagesize.specs.declared.types.ImageType.TheVariants.{Jxl, Tiff}
+use Rattle.imagesize_source.proofs.Saying.{Saying, saying_accept, saying_bind}
+use Rattle.imagesize_source.specs.Layout.{Layout, bind}
 use Rattle.imagesize_source.specs.Layout.Layout.{begin_record, field, reading, refuse, «done»}
-use Rattle.imagesize_source.specs.Reading.{number_at, read_of}
-use Rattle.imagesize_source.specs.declared.halt.Halt.{Halt}
+use Rattle.imagesize_walked.specs.Tiff.{tiff_header}
+use Rattle.imagesize_walked.specs.declared.formats.tiff.Directory.TheVariants.{Count}
+use Rattle.imagesize_records.specs.declared.awaited.Awaited.TheVariants as awaited
 use Rattle.imagesize_boxes.specs.Jxl.{jxl_start}
 use Rattle.imagesize_records.specs.Steps.{IsSteady, is_text}
-use Rattle.imagesize_records.specs.Streamed.{jxl_opened, opening}
+use Rattle.imagesize_records.specs.Streamed.{jxl_opened, opening, opens_at}
 use Rattle.imagesize_records.specs.declared.front.Opening.{Opening}
 use Rattle.imagesize_records.specs.declared.front.Opening.TheVariants as opened
-
--- whatever its readings answer, each thing that a layout says has the property
-abbrev pub Saying : {X : Type 0} → (X → Type 0) → Layout X → Type 0
-Saying P (done x) = P x
-Saying P (refuse e) = Unit {0}
-Saying P (field order offset k f) = (v : ℕ) → Saying P (f v)
-Saying P (reading r offset f) = (bs : List ℕ) → Saying P (f bs)
-Saying P (begin_record t) = Saying P t
-
-pub saying : {X : Type 0} (P : X → Type 0) (d : List ℕ) (t : Layout X) (x : X) → Saying P t
-    → (layout_reads d t).answer ≡ Ok x → P x
-saying P d (done y) x h is = let same : y ≡ x = cc in subst P same h
-saying P d (refuse e) x h is = absurd cc
-saying P d (field order offset k f) x h is = on_answer (λ r. r.answer ≡ Ok x → P x) (span_of d offset k)
-    (number_at d order offset k) (λ v. layout_reads d (f v)) (λ v _. saying P d (f v) x (h v)) (λ e _ no. absurd cc) is
-saying P d (reading r offset f) x h is = on_answer (λ r. r.answer ≡ Ok x → P x) (read_of d r offset).marks
-    (read_of d r offset).answer (λ bs. layout_reads d (f bs)) (λ bs _. saying P d (f bs) x (h bs)) (λ e _ no. absurd cc) is
-saying P d (begin_record t) x h is = saying P d t x h is
-
--- what goes on from a layout says what it says of each thing
-pub saying_bind : {X Y : Type 0} (P : Y → Type 0) (t : Layout X) (g : X → Layout Y) → ((x : X) → Saying P (g x))
-    → Saying P (bind t g)
-saying_bind P (done x) g each = each x
-saying_bind P (refuse e) g each = tt
-saying_bind P (field order offset k f) g each = λ v. saying_bind P (f v) g each
-saying_bind P (reading r offset f) g each = λ bs. saying_bind P (f bs) g each
-saying_bind P (begin_record t) g each = saying_bind P t g each
-
-saying_accept : {X Y : Type 0} (P : Y → Type 0) (r : Result X Halt) (g : X → Layout Y) → ((x : X) → Saying P (g x))
-    → Saying P (accept r g)
-saying_accept P (Ok x) g each = each x
-saying_accept P (Err e) g each = tt
 
 -- the record that the first bytes tell stands well, and is a text if the format has texts
 abbrev pub OpensSteady : Bool → Opening → Type 0
 OpensSteady texts (opened.Size size) = Unit {0}
 OpensSteady texts (opened.Records next offset) = IsSteady next offset × (is_text next ≡ texts)
+
+-- what goes on from two layouts, one after the other
+saying_both : {X Y Z : Type 0} (P : Z → Type 0) (t : Layout X) (f : X → Layout Y) (g : Y → Layout Z)
+    → ((x : X) → Saying P (bind (f x) g)) → Saying P (bind (bind t f) g)
+saying_both P (done x) f g each = each x
+saying_both P (refuse e) f g each = tt
+saying_both P (field order offset k h) f g each = λ v. saying_both P (h v) f g each
+saying_both P (reading r offset h) f g each = λ bs. saying_both P (h bs) f g each
+saying_both P (begin_record t) f g each = saying_both P t f g each
 
 ruleset steady = (arith, saying_bind, saying_accept)
 
@@ -60,4 +37,6 @@ jxl_steady None = (omega arith, refl)
 
 pub opening_steady : (type : ImageType) → Saying (OpensSteady (has_texts type)) (opening type)
 opening_steady Jxl = saying_bind (OpensSteady (has_texts Jxl)) jxl_start jxl_opened jxl_steady
+opening_steady Tiff = saying_both (OpensSteady (has_texts Tiff)) tiff_header
+    (λ header. done (record { records = Count header; offset = header.directory })) (opens_at awaited.Tiff) (λ header. (tt, refl))
 opening_steady type = search steady

@@ -1,28 +1,29 @@
 -- What the first bytes of an image say: its type, and its size or the first record on the way to it.
-use Rattle.std.specs.Prelude.{ℕ, List, [], length, nat_lt, if◌then◌else◌, Option, None, Some}
+use Rattle.std.specs.Prelude.{ℕ, List, length, if◌then◌else◌, Option, None, Some}
 use Rattle.imagesize.specs.Kind.{first_row, tga_or_none, with_compression}
 use Rattle.imagesize.specs.Types.{rows, way_of}
 use Rattle.imagesize.specs.declared.types.ImageType.{ImageType}
-use Rattle.imagesize.specs.declared.types.ImageType.TheVariants.{Exr, Hdr, Heif, Ico, Ilbm, Jpeg, Jxl, Pnm, Tiff}
+use Rattle.imagesize.specs.declared.types.ImageType.TheVariants as type
 use Rattle.imagesize_fixed.specs.Tga.{is_tga, may_be_tga}
 use Rattle.imagesize_source.specs.Layout.{Layout, accept, bind, bytes, layout_reads}
-use Rattle.imagesize_source.specs.Layout.Layout.{field, refuse, «done»}
+use Rattle.imagesize_source.specs.Layout.Layout.{refuse, «done»}
 use Rattle.imagesize_source.specs.Reading.{Reads, gives}
 use Rattle.imagesize_source.specs.Way.{Way, Fixed, Recorded, Texts}
-use Rattle.imagesize_source.specs.declared.endian.Endian.TheVariants.{Big, Little}
 use Rattle.imagesize_source.specs.declared.halt.Halt.TheVariants.{NotSupported}
+use Rattle.imagesize_source.specs.declared.walk.Start.{Start}
 use Rattle.imagesize_boxes.specs.Jxl.{jxl_size, jxl_start}
-use Rattle.imagesize_records.specs.Steps.{kept_of}
+use Rattle.imagesize_boxes.specs.Walks.{heif_open, no_boxes}
 use Rattle.imagesize_records.specs.declared.awaited.Awaited.{Awaited}
-use Rattle.imagesize_records.specs.declared.awaited.Awaited.TheVariants.{Attribute, Box, Chunk, Directory, Icon, Line, Meta, Segment, Word}
+use Rattle.imagesize_records.specs.declared.awaited.Awaited.TheVariants.{Exr, Hdr, Heif, Ico, Ilbm, Jpeg, Jxl, Pnm, Tiff}
 use Rattle.imagesize_records.specs.declared.front.First.{First}
 use Rattle.imagesize_records.specs.declared.front.First.TheVariants as first
 use Rattle.imagesize_records.specs.declared.front.Opening.{Opening}
 use Rattle.imagesize_records.specs.declared.front.Opening.TheVariants as opened
-use Rattle.imagesize_texts.specs.Exr.{name_room}
-use Rattle.imagesize_texts.specs.Hdr.{hdr_identifier}
+use Rattle.imagesize_texts.specs.Exr.{exr_open}
+use Rattle.imagesize_texts.specs.Hdr.{hdr_open}
+use Rattle.imagesize_texts.specs.declared.formats.pnm.Part.TheVariants.{Word}
 use Rattle.imagesize_types.specs.declared.size.ImageSize.{ImageSize}
-use Rattle.imagesize_walked.specs.Tiff.{tiff_header}
+use Rattle.imagesize_walked.specs.Walks.{ico_open, jpeg_first, tiff_open}
 
 -- what the first bytes say about the type, by the first row that holds of them
 abbrev pub first_by : List ℕ → Option ImageType → Layout First
@@ -44,46 +45,27 @@ sized layout = bind layout (λ size. done (opened.Size size))
 abbrev pub opens : Awaited → ℕ → Layout Opening
 opens next offset = done (opened.Records next offset)
 
--- the version of an EXR, which says whether its names may be long
-abbrev pub open_exr : Layout Opening
-open_exr = field Little 4 4 (λ version. opens (Attribute (nat_lt 32 (name_room version))) 8)
-
--- the first line of a Radiance picture
-abbrev pub open_hdr : Layout Opening
-open_hdr = bind hdr_identifier (λ first. opens Line first)
-
--- the size of the first box
-abbrev pub open_heif : Layout Opening
-open_heif = field Big 0 4 (λ first. opens Meta first)
+-- the first record of a format whose first bytes say where it is
+abbrev pub opens_at : {Q : Type 0} → (Q → Awaited) → Start Q → Layout Opening
+opens_at into s = opens (into s.records) s.offset
 
 -- a JPEG XL codestream without boxes, or the boxes
 abbrev pub jxl_opened : Option (List ℕ) → Layout Opening
 jxl_opened (Some front) = accept (jxl_size front) (λ size. done (opened.Size size))
-jxl_opened None = opens (Box (kept_of [])) 12
-
-abbrev pub open_jxl : Layout Opening
-open_jxl = bind jxl_start jxl_opened
-
--- the count of the icons
-abbrev pub open_ico : Layout Opening
-open_ico = field Little 4 2 (λ count. opens (Icon count 0 None) 6)
-
--- the header of a TIFF
-abbrev pub open_tiff : Layout Opening
-open_tiff = bind tiff_header (λ header. opens (Directory header) header.directory)
+jxl_opened None = opens (Jxl no_boxes) 12
 
 -- the first record of a type that stores its size in records
 abbrev pub opening_records : ImageType → Layout Opening
-opening_records Exr = open_exr
-opening_records Hdr = open_hdr
-opening_records (Heif _) = open_heif
-opening_records Ico = open_ico
-opening_records Ilbm = opens Chunk 12
-opening_records Jpeg = opens (Segment 0) 2
-opening_records Jxl = open_jxl
-opening_records Pnm = opens Word 2
-opening_records Tiff = open_tiff
-opening_records type = refuse NotSupported
+opening_records type.Exr = bind exr_open (opens_at Exr)
+opening_records type.Hdr = bind hdr_open (opens_at (λ _. Hdr))
+opening_records (type.Heif _) = bind heif_open (opens_at Heif)
+opening_records type.Ico = bind ico_open (opens_at Ico)
+opening_records type.Ilbm = opens (Ilbm (record {})) 12
+opening_records type.Jpeg = opens (Jpeg jpeg_first) 2
+opening_records type.Jxl = bind jxl_start jxl_opened
+opening_records type.Pnm = opens (Pnm Word) 2
+opening_records type.Tiff = bind tiff_open (opens_at Tiff)
+opening_records _ = refuse NotSupported
 
 -- what holds for the layout of a size at fixed offsets
 abbrev pub IfFixed : Way ImageSize → (Layout ImageSize → Type 0) → Type 0

@@ -2,25 +2,35 @@
 ghost use Rattle.imagesize_fixed.specs.Tga.{tga, tga_by_header};
 ghost use Rattle.imagesize_source.specs.State.{Follows};
 ghost use Rattle.imagesize.specs.Types.{way_of};
-ghost use Rattle.imagesize_records.specs.Streamed.{IfFixed, first_layout, open_exr, open_hdr, open_heif, open_ico, open_jxl, open_tiff, opening, opens, sized};
+ghost use Rattle.imagesize_boxes.specs.Jxl.{jxl_start};
+ghost use Rattle.imagesize_boxes.specs.Walks.{heif_open};
+ghost use Rattle.imagesize_source.specs.Layout.{bind};
+ghost use Rattle.imagesize_texts.specs.Exr.{exr_open};
+ghost use Rattle.imagesize_texts.specs.Hdr.{hdr_open};
+ghost use Rattle.imagesize_walked.specs.Walks.{ico_open, tiff_open};
+ghost use Rattle.imagesize_records.specs.Streamed.{IfFixed, first_layout, jxl_opened, opening, opens, opens_at, sized};
+ghost use Rattle.imagesize_records.specs.declared.awaited.Awaited.TheVariants as awaited;
 
-use crate::awaited::{Awaited, keep};
+use crate::awaited::Awaited;
 use imagesize::ImageType;
 use imagesize::formats::{first_row, with_compression};
-use imagesize_boxes::formats::jxl::front::Front;
+use imagesize_boxes::formats::heif;
+use imagesize_boxes::formats::jxl::boxes::Boxes;
 use imagesize_boxes::formats::jxl::read_start;
 use imagesize_fixed::formats::tga::{has_sound_header, may_be_tga};
 use imagesize_fixed::formats::{
     aseprite, astc, atc, bmp, dds, farbfeld, gif, ktx2, pkm, psd, pvrtc, qoi, tga, vtf, webp,
 };
 use imagesize_pieces::front::Fixed;
-use imagesize_source::readings::{read_exact_at, read_u16, read_u32};
+use imagesize_source::Halt;
+use imagesize_source::readings::read_exact_at;
 use imagesize_source::source::Source;
-use imagesize_source::{Endian, Halt};
-use imagesize_texts::formats::exr::name_room;
-use imagesize_texts::formats::hdr::read_identifier;
+use imagesize_texts::formats::pnm::Part;
+use imagesize_texts::formats::{exr, hdr};
 use imagesize_types::size::ImageSize;
-use imagesize_walked::formats::tiff::read_header;
+use imagesize_walked::formats::ilbm::Chunks;
+use imagesize_walked::formats::jpeg::Segments;
+use imagesize_walked::formats::{ico, tiff};
 
 /// What the first bytes say about the type.
 #[derive(Drop)]
@@ -82,10 +92,10 @@ impl Fixed for FirstSize {
             ImageType::Hdr => open_hdr(source),
             ImageType::Heif(_) => open_heif(source),
             ImageType::Ico => open_ico(source),
-            ImageType::Ilbm => open_at(source, Awaited::Chunk, 12),
-            ImageType::Jpeg => open_at(source, Awaited::Segment { depth: 0 }, 2),
+            ImageType::Ilbm => open_at(source, Awaited::Ilbm(Chunks), 12),
+            ImageType::Jpeg => open_at(source, Awaited::Jpeg(Segments { depth: 0 }), 2),
             ImageType::Jxl => open_jxl(source),
-            ImageType::Pnm => open_at(source, Awaited::Word, 2),
+            ImageType::Pnm => open_at(source, Awaited::Pnm(Part::Word), 2),
             ImageType::Tiff => open_tiff(source),
             image => open_fixed(source, image),
         }
@@ -165,69 +175,66 @@ fn open_at<S: Source>(source: &mut S, next: Awaited, offset: u64) -> Result<Open
     Ok(Opening::Records { next, offset })
 }
 
-#[tactic(auto, using(imagesize_source::proofs::Runs::steps))]
+#[tactic(auto, using(imagesize_source::proofs::Runs::steps, imagesize_source::proofs::Layouts::binding))]
 fn open_exr<S: Source>(source: &mut S) -> Result<Opening, Halt>
-    ensures { Follows (S.state source.old) (S.state source.new) result open_exr }
+    ensures { Follows (S.state source.old) (S.state source.new) result (bind exr_open (opens_at awaited.Exr)) }
 {
-    let version = read_u32(source, 4, Endian::Little)?;
-    let long = name_room(version) > 32;
+    let start = exr::open(source)?;
     Ok(Opening::Records {
-        next: Awaited::Attribute { long },
-        offset: 8,
+        next: Awaited::Exr {
+            long: start.records,
+        },
+        offset: start.offset,
     })
 }
 
 #[tactic(auto, using(imagesize_source::proofs::Runs::steps, imagesize_source::proofs::Layouts::binding))]
 fn open_hdr<S: Source>(source: &mut S) -> Result<Opening, Halt>
-    ensures { Follows (S.state source.old) (S.state source.new) result open_hdr }
+    ensures { Follows (S.state source.old) (S.state source.new) result (bind hdr_open (opens_at (λ _. awaited.Hdr))) }
 {
-    let offset = read_identifier(source)?;
+    let start = hdr::open(source)?;
     Ok(Opening::Records {
-        next: Awaited::Line,
-        offset,
+        next: Awaited::Hdr,
+        offset: start.offset,
     })
 }
 
-#[tactic(auto, using(imagesize_source::proofs::Runs::steps))]
+#[tactic(auto, using(imagesize_source::proofs::Runs::steps, imagesize_source::proofs::Layouts::binding))]
 fn open_ico<S: Source>(source: &mut S) -> Result<Opening, Halt>
-    ensures { Follows (S.state source.old) (S.state source.new) result open_ico }
+    ensures { Follows (S.state source.old) (S.state source.new) result (bind ico_open (opens_at awaited.Ico)) }
 {
-    let count = read_u16(source, 4, Endian::Little)?;
+    let start = ico::open(source)?;
     Ok(Opening::Records {
-        next: Awaited::Icon {
-            count,
-            seen: 0,
-            largest: None,
-        },
-        offset: 6,
+        next: Awaited::Ico(start.records),
+        offset: start.offset,
     })
 }
 
 #[tactic(auto, using(imagesize_source::proofs::Runs::steps, imagesize_source::proofs::Layouts::binding))]
 fn open_tiff<S: Source>(source: &mut S) -> Result<Opening, Halt>
-    ensures { Follows (S.state source.old) (S.state source.new) result open_tiff }
+    ensures { Follows (S.state source.old) (S.state source.new) result (bind tiff_open (opens_at awaited.Tiff)) }
 {
-    let header = read_header(source)?;
+    let start = tiff::open(source)?;
     Ok(Opening::Records {
-        next: Awaited::Directory { header },
-        offset: header.directory,
+        next: Awaited::Tiff(start.records),
+        offset: start.offset,
     })
 }
 
-#[tactic(auto, using(imagesize_source::proofs::Runs::steps))]
+#[tactic(auto, using(imagesize_source::proofs::Runs::steps, imagesize_source::proofs::Layouts::binding))]
 fn open_heif<S: Source>(source: &mut S) -> Result<Opening, Halt>
-    ensures { Follows (S.state source.old) (S.state source.new) result open_heif }
+    ensures { Follows (S.state source.old) (S.state source.new) result (bind heif_open (opens_at awaited.Heif)) }
 {
-    let first = read_u32(source, 0, Endian::Big)?;
+    let start = heif::open(source)?;
     Ok(Opening::Records {
-        next: Awaited::Meta,
-        offset: first as u64,
+        next: Awaited::Heif(start.records),
+        offset: start.offset,
     })
 }
 
 #[tactic(auto, using(imagesize_source::proofs::Runs::steps, imagesize_source::proofs::Layouts::binding))]
 fn open_jxl<S: Source>(source: &mut S) -> Result<Opening, Halt>
-    ensures { Follows (S.state source.old) (S.state source.new) result open_jxl }
+    ensures { Follows (S.state source.old) (S.state source.new) result (bind jxl_start jxl_opened) }
 {
     match read_start(source)? {
         Some(front) => {
@@ -235,7 +242,7 @@ fn open_jxl<S: Source>(source: &mut S) -> Result<Opening, Halt>
             Ok(Opening::Size(size))
         }
         None => Ok(Opening::Records {
-            next: Awaited::Box(keep(&Front::new())),
+            next: Awaited::Jxl(Boxes::new()),
             offset: 12,
         }),
     }

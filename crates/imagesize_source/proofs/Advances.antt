@@ -1,8 +1,11 @@
 -- How a chain is seen to advance: by the layouts of its records.
-use Rattle.std.proofs.Common.{◌≡◌, ℕ, ◌<◌, ◌≤◌, List, [], ◌∷◌, length, Ok, refl, sym, ap, ◌∙◌, arith}
+use Rattle.std.proofs.Common.{◌≡◌, ℕ, ◌<◌, ◌≤◌, List, [], ◌∷◌, length, Option, None, Some, Result, Ok, Err, refl, sym, ap, ◌∙◌, arith}
+use Rattle.std.specs.List.{last_or}
+use Rattle.imagesize_source.specs.declared.halt.Halt.{Halt}
 use Rattle.imagesize_source.specs.Chain.{Said, Decided, Next, Chain, Advances}
-use Rattle.imagesize_source.specs.Layout.{Layout, done, refuse, field, reading, begin_record, layout_reads}
+use Rattle.imagesize_source.specs.Layout.{Layout, accept, bind, done, refuse, field, reading, begin_record, layout_reads}
 use Rattle.imagesize_source.specs.Reading.{Reading, AllOf, PartOf, TextOf, read_of}
+use Rattle.imagesize_source.specs.Walk.{CanFollow, Step, decides, said_from, states}
 use Rattle.imagesize_source.proofs.Extension.{bytes_ok, number_ok, onward_ok}
 use Rattle.imagesize_source.proofs.Runs.{part_is}
 use Rattle.imagesize_source.proofs.Counts.{text_length}
@@ -67,3 +70,52 @@ advances c up first d t v offset is = (
   tells (λ p. t.offset < p) d (c.said t.held t.offset) v offset (up t.held t.offset) is,
   begins d (c.said t.held t.offset) v t.offset offset (first t.held t.offset) is,
 )
+
+-- what goes on from a record tells the offsets that it tells
+pub tells_bind : {C Y D Z : Type 0} (P : ℕ → Type 0) (t : Layout (Said C Y)) (g : Said C Y → Layout (Said D Z)) → Tells P t
+    → ((y : Y) → Tells P (g (Decided y))) → ((v : C) (q : ℕ) → P q → Tells P (g (Next v q))) → Tells P (bind t g)
+tells_bind P (done (Decided y)) g tells decided next = decided y
+tells_bind P (done (Next v q)) g tells decided next = next v q tells
+tells_bind P (refuse e) g tells decided next = tt
+tells_bind P (field order offset k f) g tells decided next = λ v. tells_bind P (f v) g (tells v) decided next
+tells_bind P (reading r offset f) g tells decided next = λ bs. tells_bind P (f bs) g (tells bs) decided next
+tells_bind P (begin_record t) g tells decided next = tells_bind P t g tells decided next
+
+or_some : (r : Reading) {P Q : Type 0} → (P → Q) → OrSome r P → OrSome r Q
+or_some (AllOf k) on some = some
+or_some (PartOf k) on some = on some
+or_some (TextOf t k) on some = on some
+
+-- and begins where it begins
+pub begins_bind : {C Y D Z : Type 0} (q : ℕ) (t : Layout (Said C Y)) (g : Said C Y → Layout (Said D Z)) → Begins q t
+    → ((y : Y) → Begins q (g (Decided y))) → ((y : Y) → Tells (λ _. ⊥) (g (Decided y))) → Begins q (bind t g)
+begins_bind q (done (Decided y)) g begins decided none = decided y
+begins_bind q (done (Next v offset)) g begins decided none = absurd begins
+begins_bind q (refuse e) g begins decided none = tt
+begins_bind q (field order offset k f) g begins decided none = begins
+begins_bind q (reading r offset f) g begins decided none =
+    (begins.0, or_some r (λ tells. tells_bind (λ _. ⊥) (f []) g tells none (λ v p no. absurd no)) begins.1)
+begins_bind q (begin_record t) g begins decided none = begins_bind q t g begins decided none
+
+-- a result that is accepted tells no next offset
+pub accepted_tells : (S : Type 0) {X : Type 0} (P : ℕ → Type 0) (r : Result X Halt) → Tells {C = S} P (accept r decides)
+accepted_tells S P (Ok x) = tt
+accepted_tells S P (Err e) = tt
+
+pub accepted_begins : (S : Type 0) {X : Type 0} (offset : ℕ) (r : Result X Halt) → Begins {C = S} offset (accept r decides)
+accepted_begins S offset (Ok x) = tt
+accepted_begins S offset (Err e) = tt
+
+-- Records over a state can be followed, each of which begins at its offset or behind it and tells only greater offsets.
+pub states_follow : {S X : Type 0} (step : Step S X) → ((s : S) (offset : ℕ) → Tells (λ p. offset < p) (step s offset))
+    → ((s : S) (offset : ℕ) → Begins offset (step s offset)) → CanFollow step
+states_follow {S} step up first = advances (states step) (λ held. tells_from (last_or None held))
+    (λ held. begins_from (last_or None held))
+  where
+    tells_from : (last : Option S) (offset : ℕ) → Tells (λ p. offset < p) (said_from step last offset)
+    tells_from None offset = tt
+    tells_from (Some s) offset = up s offset
+
+    begins_from : (last : Option S) (offset : ℕ) → Begins offset (said_from step last offset)
+    begins_from None offset = tt
+    begins_from (Some s) offset = first s offset

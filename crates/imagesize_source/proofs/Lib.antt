@@ -24,10 +24,12 @@ pub mod Places
 pub mod Reached
 pub mod Recordings
 pub mod Runs
+pub mod Saying
 pub mod Sharing
 pub mod Shown
 pub mod Slices
 pub mod Spends
+pub mod States
 pub mod Strides
 pub mod Tests
 pub mod TextEnds

@@ -11,10 +11,12 @@ use Rattle.imagesize_source.specs.Input.{part, span_at, span_of}
 use Rattle.imagesize_source.specs.Layout.{Layout, field, reading, begin_record, layout_reads}
 use Rattle.imagesize_source.specs.Reading.{Reads, Reading, after_records, and_then, uncounted, go_on, put_behind, bytes_at, number_at, number_read, text_part, read_of}
 use Rattle.imagesize_source.specs.Sharing.{Shares}
+use Rattle.imagesize_source.specs.Walk.{Step, run, states}
 use Rattle.imagesize_source.proofs.Agreement.{covered-left, covered-right, covered-one}
 use Rattle.imagesize_source.proofs.ChainLaws.{chain_induction}
-use Rattle.imagesize_source.proofs.Chains.{chain_next, chain_unfolds, follows}
+use Rattle.imagesize_source.proofs.Chains.{chain_unfolds, follows}
 use Rattle.imagesize_source.proofs.Marks.{behind-behind}
+use Rattle.imagesize_source.proofs.States.{run_next}
 use Rattle.imagesize_source.proofs.Parts.{part_length, part_at, part_front, part_whole}
 use Rattle.imagesize_source.proofs.Texts.{front_same, front_length, front_take}
 
@@ -102,7 +104,7 @@ module _ {C X : Type 0} (c : Chain C X) (d e : List ℕ) (adv_d : Advances c d) 
       → Shares d e (chain_from c e t).marks → chain_from c d t ≡ chain_from c e t
   by_record t rest a = grind (arith, chain_unfolds, shared_then, shared)
 
-  pub chain_shared : (t : Along C) → Shares d e (chain_from c e t).marks → chain_from c d t ≡ chain_from c e t
+  chain_shared : (t : Along C) → Shares d e (chain_from c e t).marks → chain_from c d t ≡ chain_from c e t
   chain_shared = chain_induction c e
       (λ t. Shares d e (chain_from c e t).marks → chain_from c d t ≡ chain_from c e t) adv
       (λ t v offset is later. by_record t (λ x also. let same : x ≡ Next v offset = cc in rw same later))
@@ -113,16 +115,21 @@ module _ {C X : Type 0} (c : Chain C X) (d e : List ℕ) (adv_d : Advances c d) 
       decided held (Decided x) r is = refl
       decided held (Next v offset) r is = absurd cc
 
+-- and of records over a state
+module _ {S X : Type 0} (step : Step S X) (d e : List ℕ) (adv_d : Advances (states step) d) where
+  pub run_shared : Advances (states step) e → (s : S) (offset : ℕ) → Shares d e (run step s offset e).marks
+      → run step s offset d ≡ run step s offset e
+  unfolding run
+  run_shared adv s offset a = chain_shared (states step) d e adv_d adv (record { held = s ∷ []; offset = offset }) a
+
   -- an input that shares the marks of the readings up to a record comes to it, and goes on from there
-  pub leads_on : (t u : Along C) (made : List Span) (v : C) (offset : ℕ)
-      → (Shares d e made → uncounted (chain_from c d t) ≡ put_behind made (uncounted (chain_from c d u)))
-      → (next_record c e u).answer ≡ Ok (Next v offset) → Shares d e (made ++ (next_record c e u).marks)
-      → uncounted (chain_from c d t) ≡ put_behind (made ++ (next_record c e u).marks)
-      (uncounted (chain_from c d (record { held = u.held ++ v ∷ []; offset = offset })))
-  leads_on t u made v offset so_far is a =
-      let on : Reads X = uncounted (chain_from c d (record { held = u.held ++ v ∷ []; offset = offset })) in
-      let here = shared d e (c.said u.held u.offset) (shares-right made (next_record c e u).marks a) in
-      so_far (shares-left made (next_record c e u).marks a)
-      ∙ ap (λ w. put_behind made (uncounted w)) (chain_next c d u v offset adv_d (ap (λ w. w.answer) here ∙ is))
-      ∙ ap (λ w. put_behind made (put_behind w.marks on)) here
-      ∙ behind-behind made (next_record c e u).marks on
+  pub leads_on : (s t v : S) (first offset q : ℕ) (made : List Span)
+      → (Shares d e made → uncounted (run step s first d) ≡ put_behind made (uncounted (run step t offset d)))
+      → (layout_reads e (step t offset)).answer ≡ Ok (Next v q) → Shares d e (made ++ (layout_reads e (step t offset)).marks)
+      → uncounted (run step s first d) ≡ put_behind (made ++ (layout_reads e (step t offset)).marks) (uncounted (run step v q d))
+  leads_on s t v first offset q made so_far is a =
+      let here = shared d e (step t offset) (shares-right made (layout_reads e (step t offset)).marks a) in
+      so_far (shares-left made (layout_reads e (step t offset)).marks a)
+      ∙ ap (λ w. put_behind made (uncounted w)) (run_next step d adv_d t v offset q (ap (λ w. w.answer) here ∙ is))
+      ∙ ap (λ w. put_behind made (put_behind w.marks (uncounted (run step v q d)))) here
+      ∙ behind-behind made (layout_reads e (step t offset)).marks (uncounted (run step v q d))

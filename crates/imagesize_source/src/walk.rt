@@ -1,62 +1,71 @@
 //! A walk along a sequence of records, such as segments, chunks, boxes or entries.
-ghost use Rattle.std.specs.Prelude.{◌≡◌, ℕ, ◌≤◌, true, false, List, [], IfOk, IfErr, IfSome, None};
-ghost use Rattle.imagesize_source.specs.Chain.{Along, Said, chain_at, chain_from};
-ghost use Rattle.imagesize_source.specs.Layout.{Layout, layout_reads};
+ghost use Rattle.std.specs.Prelude.{◌≡◌, ℕ, ◌≤◌, true, false, IfOk, IfErr, IfSome, None};
+ghost use Rattle.imagesize_source.specs.Layout.{layout_reads};
 ghost use Rattle.imagesize_source.specs.Paying.{Nears, ahead_of};
 ghost use Rattle.imagesize_source.specs.Reading.{is_failure, is_faulted, is_stopped, map_answer};
 ghost use Rattle.imagesize_source.specs.Sharing.{Stood};
 ghost use Rattle.imagesize_source.specs.State.{State, Runs};
 ghost use Rattle.imagesize_source.specs.Strides.{Strides};
-ghost use Rattle.imagesize_source.specs.Walk.{CanFollow, EndsBy, KeepsOn, chain_of, said_at};
+ghost use Rattle.imagesize_source.specs.Walk.{CanFollow, EndsBy, HoldsOn, Step, run, said_at};
 
 use crate::Halt;
 use crate::source::Source;
 
 /// What a walk finds at a record.
 #[derive(Drop)]
-pub enum Found<C, X> {
+pub enum Found<X> {
     /// The result of the walk.
     Answer(X),
-    /// No result yet: what the record holds, and how many bytes after its own offset the next record begins.
-    Other { held: C, length: u64 },
+    /// No result yet: how many bytes after its own offset the next record begins.
+    Other { length: u64 },
 }
 
-/// A sequence of records.
+/// Where a sequence of records begins.
+#[derive(Drop)]
+pub struct Start<R> {
+    /// The state before the first record.
+    pub records: R,
+    /// The offset of the first record.
+    pub offset: u64,
+}
+
+/// A sequence of records. The value is the state before the next record, and a read makes it the state after that.
 pub trait Records {
-    /// What a record holds.
-    type Held: Drop;
+    /// What the records before an offset leave. It decides about the next record.
+    type State;
 
     /// The result of the walk.
     type Answer: Drop;
 
-    /// The layout of the record at an offset, after records that hold these values.
-    ghost said: { Self → List Self.Held → ℕ → Layout (Said Self.Held Self.Answer) };
+    /// The layout of the next record.
+    ghost step: { Step Self.State Self.Answer };
 
-    /// What the value keeps about the records before an offset, which hold these values.
-    ghost keeps: { Self → List Self.Held → ℕ → Type 0 };
+    /// What the records before left.
+    ghost state: { Self → Self.State };
+
+    /// What always holds before the record at an offset.
+    ghost holds: { Self → ℕ → Type 0 };
 
     /// Reads the record at an offset.
     fn read_record<S: Source>(
         &mut self,
         source: &mut S,
         offset: u64,
-    ) -> Result<Found<Self::Held, Self::Answer>, Halt>
-        requires { (held : List Self.Held) × keeps self.now held offset }
-        ensures same { said self.new ≡ said self.old }
-        ensures nears { IfOk result (λ found. Nears (S.state source.old) (S.state source.new) offset (said_at offset found)) }
-        ensures keeps { (held : List Self.Held) → keeps self.old held offset
-            → IfOk result (λ found. KeepsOn (keeps self.new) held (said_at offset found)) }
+    ) -> Result<Found<Self::Answer>, Halt>
+        requires { holds self.now offset }
+        ensures nears { IfOk result (λ found. Nears (S.state source.old) (S.state source.new) offset
+            (said_at (state self.new) offset found)) }
+        ensures holds { IfOk result (HoldsOn (holds self.new) offset) }
 
         // If the read fails, the same value can read the record again.
-        ensures stays { (held : List Self.Held) → keeps self.old held offset → IfErr result (λ _. keeps self.new held offset) }
-        ensures runs { (held : List Self.Held) → keeps self.old held offset → Runs (S.state source.old) (S.state source.new)
-            (map_answer (said_at offset) result)
-            (layout_reads (S.state source.old).held.input (said self.old held offset)) };
+        ensures stays { IfErr result (λ _. (state self.new ≡ state self.old) × holds self.new offset) }
+        ensures runs { Runs (S.state source.old) (S.state source.new) (map_answer (said_at (state self.new) offset) result)
+            (layout_reads (S.state source.old).held.input (step (state self.old) offset)) };
 
     /// The result at the end of the input, where no record is left.
     fn at_end(&self) -> Result<Self::Answer, Halt>
         ensures goes_on { is_stopped result ≡ false }
-        ensures ends { (held : List Self.Held) (offset : ℕ) → keeps self.now held offset → EndsBy (said self.now) held result };
+        ensures ends { (offset : ℕ) → holds self.now offset → EndsBy step (state self.now) result };
 }
 
 /// Walks along the records from the first one, which is at this offset, and returns the result.
@@ -66,10 +75,10 @@ pub fn walk<S: Source, R: Records + Drop>(
     source: &mut S,
     first: u64,
 ) -> Result<R::Answer, Halt>
-    requires follows { CanFollow (chain_of first (R.said records)) }
-    requires keeps { R.keeps records [] first }
+    requires follows { CanFollow R.step }
+    requires holds { R.holds records first }
     ensures { Runs (S.state source.old) (S.state source.new) result
-        (chain_at (chain_of first (R.said records)) (S.state source.old).held.input) }
+        (run R.step (R.state records) first (S.state source.old).held.input) }
 {
     let mut offset = first;
     walk_on(&mut records, &mut offset, source)
@@ -84,18 +93,13 @@ pub fn walk_on<S: Source, R: Records>(
     offset: &mut u64,
     source: &mut S,
 ) -> Result<R::Answer, Halt>
-    requires follows { CanFollow (chain_of 0 (R.said records.old)) }
-    requires keeps { (held : List R.Held) × R.keeps records.old held offset.old }
-    ensures same { R.said records.new ≡ R.said records.old }
-
-    // For each list of values that the records before may hold:
-    ensures runs { (first : ℕ) (held : List R.Held) → R.keeps records.old held offset.old
-        → Runs (S.state source.old) (S.state source.new) result
-        (chain_from (chain_of first (R.said records.old)) (S.state source.old).held.input (record { held = held; offset = offset.old })) }
-    ensures stands { (first : ℕ) (held : List R.Held) → R.keeps records.old held offset.old → is_faulted result ≡ true
-        → Stood (chain_of first (R.said records.old)) (λ behind. R.keeps records.new behind offset.new) (S.state source.old)
-        (S.state source.new)
-        (record { held = held; offset = offset.old }) offset.new }
+    requires follows { CanFollow R.step }
+    requires holds { R.holds records.old offset.old }
+    ensures runs { Runs (S.state source.old) (S.state source.new) result
+        (run R.step (R.state records.old) offset.old (S.state source.old).held.input) }
+    ensures holds { is_faulted result ≡ true → R.holds records.new offset.new }
+    ensures stands { is_faulted result ≡ true → Stood R.step (S.state source.old) (S.state source.new) (R.state records.old) offset.old
+        (R.state records.new) offset.new }
 {
     let mut at = *offset;
     loop {
@@ -104,7 +108,7 @@ pub fn walk_on<S: Source, R: Records>(
         }
         match records.read_record(source, at) {
             Ok(Found::Answer(answer)) => return Ok(answer),
-            Ok(Found::Other { length, .. }) => match at.checked_add(length) {
+            Ok(Found::Other { length }) => match at.checked_add(length) {
                 Some(next) => at = next,
                 None => return records.at_end(),
             },
@@ -126,20 +130,19 @@ fn walk_held<S: Source, R: Records>(
     offset: &mut u64,
     source: &mut S,
 ) -> Option<Result<R::Answer, Halt>>
-    requires follows { CanFollow (chain_of 0 (R.said records.old)) }
-    requires keeps { (held : List R.Held) × R.keeps records.old held offset.old }
-    ensures same { R.said records.new ≡ R.said records.old }
-    ensures keeps { result ≡ None → (held : List R.Held) × R.keeps records.new held offset.new }
+    requires follows { CanFollow R.step }
+    requires holds { R.holds records.old offset.old }
+    ensures holds { result ≡ None → R.holds records.new offset.new }
     ensures nearer { result ≡ None → ahead_of (S.state source.new) offset.new ≤ ahead_of (S.state source.old) offset.old }
     ensures plain { IfSome result (λ r. is_faulted r ≡ false) }
 
     // A walk that has come to the offset has come to the new one then, or has this result.
-    ensures strides { result ≡ None → (first : ℕ) (a : State) (t : Along R.Held)
-        → Strides (chain_of first (R.said records.old)) (λ held. R.keeps records.old held offset.old) a (S.state source.old) t offset.old
-        → Strides (chain_of first (R.said records.old)) (λ held. R.keeps records.new held offset.new) a (S.state source.new) t offset.new }
-    ensures runs { IfSome result (λ r. (first : ℕ) (a : State) (t : Along R.Held)
-        → Strides (chain_of first (R.said records.old)) (λ held. R.keeps records.old held offset.old) a (S.state source.old) t offset.old
-        → Runs a (S.state source.new) r (chain_from (chain_of first (R.said records.old)) a.held.input t)) }
+    ensures strides { result ≡ None → (a : State) (s : R.State) (first : ℕ)
+        → Strides R.step a (S.state source.old) s first (R.state records.old) offset.old
+        → Strides R.step a (S.state source.new) s first (R.state records.new) offset.new }
+    ensures runs { IfSome result (λ r. (a : State) (s : R.State) (first : ℕ)
+        → Strides R.step a (S.state source.old) s first (R.state records.old) offset.old
+        → Runs a (S.state source.new) r (run R.step s first a.held.input)) }
 {
     if !S::SHOWS {
         return None;
@@ -154,7 +157,7 @@ fn walk_held<S: Source, R: Records>(
                 source.pass(counts);
                 return Some(Ok(answer));
             }
-            Ok(Found::Other { length, .. }) => match here.checked_add(length) {
+            Ok(Found::Other { length }) => match here.checked_add(length) {
                 Some(next) => here = next,
                 None => {
                     let counts = held.counts();

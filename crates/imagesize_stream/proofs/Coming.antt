@@ -1,12 +1,11 @@
 -- What more bytes leave of what the bytes so far tell.
-use Rattle.std.proofs.Common.{◌≡◌, ℕ, ◌+◌, ◌-◌, ◌≤◌, Bool, List, [], ◌∷◌, ◌++◌, length, take, Option, Some, None, Result, Ok, refl, sym, ap, ◌∙◌, arith}
+use Rattle.std.proofs.Common.{◌≡◌, ℕ, ◌+◌, ◌-◌, ◌≤◌, Bool, List, ◌++◌, length, take, Option, Some, None, Result, Ok, refl, sym, ap, ◌∙◌, arith}
 use Rattle.std.proofs.lemmas.List.{length-append, length-take}
 use Rattle.std.specs.Result.{result_ok}
 use Rattle.imagesize.specs.Meaning.{kind_reads, meaning_reads}
 use Rattle.imagesize.specs.Parted.{has_texts, texts_as, texts_of}
 use Rattle.imagesize.specs.declared.types.ImageType.{ImageType}
 use Rattle.imagesize_pieces.proofs.Beginning.{begins_left}
-use Rattle.imagesize_pieces.specs.Standing.{Stands}
 use Rattle.imagesize_pieces.specs.Stream.{Begins, Says}
 use Rattle.imagesize_pieces.specs.declared.stand.Stand.{Stand}
 use Rattle.imagesize_source.specs.Layout.{layout_reads}
@@ -14,7 +13,7 @@ use Rattle.imagesize_source.specs.Outcome.{stated}
 use Rattle.imagesize_source.proofs.Marks.{behind-behind}
 use Rattle.imagesize_stream.proofs.Hearing.{opened_behind, type_is}
 use Rattle.imagesize_records.proofs.Opened.{opened_rest}
-use Rattle.imagesize_records.specs.Steps.{Awaits, IsSteady, awaited_said, is_text}
+use Rattle.imagesize_records.specs.Steps.{is_text}
 use Rattle.imagesize_records.specs.Streamed.{opening}
 use Rattle.imagesize_records.specs.declared.awaited.Awaited.{Awaited}
 use Rattle.imagesize_records.specs.declared.front.Opening.TheVariants as opened
@@ -37,16 +36,14 @@ says_on front chunk told (Some type) says = type_on front chunk told told (Some 
 
 -- a walk that begins where the first bytes say
 pub opened_came : (buffer : List ℕ) (passed start told offset : ℕ) (next : Awaited) (type : ImageType) → start ≡ 0
-    → passed ≤ length buffer → IsSteady next offset
+    → passed ≤ length buffer
     → Says (take passed buffer) told (λ d. kind_reads d 0) (Ok type)
     → Says (take passed buffer) told (λ d. layout_reads d (opening type)) (Ok (opened.Records next offset))
     → is_text next ≡ has_texts type
     → CameBy (Records next) (Some type) start offset passed told buffer (take passed buffer)
-opened_came buffer passed start told offset next type first within steady says size texts = (
+opened_came buffer passed start told offset next type first within says size texts = (
   type_is (take passed buffer) told (Ok type) says,
   record {
-    held = next ∷ [];
-    known = (refl, steady, texts);
     as_many = omega (arith, length-take passed buffer, within);
     rest = let all : passed - 0 ≡ passed = omega arith in rw (first, all) refl;
     before = says.marks ++ size.marks;
@@ -54,6 +51,7 @@ opened_came buffer passed start told offset next type first within steady says s
         opened_behind (take passed buffer) told type says (Ok (opened.Records next offset)) size d begins
         ∙ behind-behind says.marks size.marks (uncounted (opened_rest d (opened.Records next offset)));
   },
+  texts,
 )
 
 pub awaiting_all : {P : Type 0} (stage : Stage) → P → IfAwaiting stage P
@@ -74,10 +72,7 @@ texts_known kind front d told type begins = ap texts_by (sym (type d begins)) �
 module _ (kind : Option ImageType) (texts : Bool) (next : Awaited) (old : Stand) (buffer front chunk : List ℕ)
     (is : is_text next ≡ texts) (came : CameTo (Records next) kind old buffer front) where
   pub texts_same : texts_by kind ≡ texts
-  texts_same = sym came.1.known.2 ∙ is
-
-  pub stands : Stands 0 awaited_said (λ held offset. Awaits texts next held offset) old buffer (λ d. meaning_reads d 0) front
-  stands = rw texts_same at came.1
+  texts_same = sym came.2 ∙ is
 
   -- where the walk ends
   pub walked : (now : ℕ) (size : Result ImageSize Halt) → now ≡ old.told → old.passed + length chunk ≤ old.told

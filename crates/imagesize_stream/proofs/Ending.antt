@@ -40,13 +40,12 @@ pub came_last : (kind : Option ImageType) (stage : Stage) (start offset passed t
 came_last kind (Records next) start offset passed told buffer front within none came = (
   (λ d begins. came.0 d (begins_last front d passed told within begins)),
   record {
-    held = came.1.held;
-    known = came.1.known;
     as_many = came.1.as_many;
     rest = came.1.rest;
     before = came.1.before;
     resumes = λ d begins. came.1.resumes d (begins_last front d passed told within begins);
   },
+  came.2,
 )
 came_last kind stage start offset passed told buffer front within none came = grind (arith, begins_last)
 

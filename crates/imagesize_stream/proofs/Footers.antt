@@ -23,7 +23,7 @@ use Rattle.imagesize_source.proofs.Layouts.{over-bind}
 use Rattle.imagesize_stream.proofs.Given.{footer_known}
 use Rattle.imagesize_stream.proofs.Heads.{whole_needed}
 use Rattle.imagesize_stream.proofs.Hearing.{kind_behind, kind_refused, meaning_any}
-use Rattle.imagesize_records.proofs.Saying.{Saying, saying, saying_bind}
+use Rattle.imagesize_source.proofs.Saying.{Saying, saying, saying_bind}
 use Rattle.imagesize_stream.specs.Heard.{IsByFooter, RestsOnMore, SizeIs, TypeIs, TypeRests}
 use Rattle.imagesize_records.specs.Streamed.{first_by, first_layout}
 use Rattle.imagesize_records.specs.declared.front.First.{First}

@@ -130,13 +130,12 @@ known_over (Records next) kind start offset passed end told buffer d as_long ove
     let many : start ≡ length (take start d) = omega (arith, length-take start d, as_long, ahead.1.0, ahead.1.1.0) in (
       (λ e begins. known.0 e (begins_less d e told passed start (omega (arith, over)) begins)),
       record {
-        held = known.1.held;
-        known = known.1.known;
         as_many = many;
         rest = rw none (sym (drop_all start (take start d) (omega (arith, many))));
         before = known.1.before;
         resumes = λ e begins. known.1.resumes e (begins_less d e told passed start (omega (arith, over)) begins);
       },
+      known.2,
     )
 known_over (Footer size) kind start offset passed end told buffer d as_long over holds ahead known = (
   known.0,

@@ -18,7 +18,8 @@ use Rattle.imagesize_source.proofs.Among.{any_right}
 use Rattle.imagesize_source.specs.Outcome.{stated}
 use Rattle.imagesize_records.proofs.Firsts.{type_by_first}
 use Rattle.imagesize_records.proofs.Opened.{opened_as, opened_rest}
-use Rattle.imagesize_records.proofs.Saying.{OpensSteady, opening_steady, saying}
+use Rattle.imagesize_records.proofs.Saying.{OpensSteady, opening_steady}
+use Rattle.imagesize_source.proofs.Saying.{saying}
 use Rattle.imagesize_stream.specs.Heard.{RestsBetween, RestsOnMore, SizeIs, TypeIs, TypeRests}
 use Rattle.imagesize_records.specs.Steps.{IsSteady, is_text}
 use Rattle.imagesize_records.specs.Streamed.{first_layout, opening, type_behind}

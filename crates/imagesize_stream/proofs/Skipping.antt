@@ -11,19 +11,19 @@ use Rattle.imagesize_pieces.proofs.Needing.{needs_any, needs_behind, onward_any}
 use Rattle.imagesize_pieces.specs.Stream.{Begins, Needs}
 use Rattle.imagesize_pieces.specs.declared.stand.Stand.{Stand}
 use Rattle.imagesize_source.proofs.Agreement.{span-some}
-use Rattle.imagesize_source.proofs.Chains.{chain_unfolds, follows}
+use Rattle.imagesize_source.proofs.States.{goes, run_unfolds}
 use Rattle.imagesize_source.specs.Agreement.{has_offset}
-use Rattle.imagesize_source.specs.Chain.{Along, chain_from, next_record}
+use Rattle.imagesize_source.specs.Walk.{run}
 use Rattle.imagesize_source.specs.Input.{span_of}
 use Rattle.imagesize_source.specs.Layout.{Layout, begin_record, field, layout_reads, reading}
 use Rattle.imagesize_source.specs.Layout.Layout.{«done», refuse}
 use Rattle.imagesize_source.specs.Reading.{AllOf, PartOf, TextOf, Reads, number_read, read_of}
 use Rattle.imagesize_source.specs.declared.span.Span.{Span}
-use Rattle.imagesize_records.proofs.Steps.{awaited_advances}
+use Rattle.imagesize_records.proofs.Steps.{step_follows}
 use Rattle.imagesize_stream.specs.Probe.{CameTo}
 use Rattle.imagesize_records.specs.FirstReads.{ReadsFirst}
 use Rattle.imagesize_stream.specs.Skips.{PassesOver}
-use Rattle.imagesize_records.specs.Steps.{awaited_chain, awaited_said, step}
+use Rattle.imagesize_records.specs.Steps.{step}
 use Rattle.imagesize_records.specs.declared.awaited.Awaited.{Awaited}
 use Rattle.imagesize_stream.specs.declared.stage.Stage.TheVariants.{Records}
 
@@ -64,15 +64,13 @@ span_needs texts d offset n some below =
     )
 
 -- what is needed of some spans of a record is needed by a walk that goes on from it
-pub walk_needs : (texts : Bool) (d : List ℕ) (held : List Awaited) (offset low high : ℕ) (spans : List Span)
-    → ((P : Span → Bool) → list_any P spans ≡ true → list_any P (layout_reads d (awaited_said held offset)).marks ≡ true)
-    → Needs texts low high spans
-    → Needs texts low high (chain_from awaited_chain d (record { held = held; offset = offset })).marks
-walk_needs texts d held offset low high spans any needs =
-    let t : Along Awaited = record { held = held; offset = offset } in
+pub walk_needs : (texts : Bool) (d : List ℕ) (next : Awaited) (offset low high : ℕ) (spans : List Span)
+    → ((P : Span → Bool) → list_any P spans ≡ true → list_any P (layout_reads d (step next offset)).marks ≡ true)
+    → Needs texts low high spans → Needs texts low high (run step next offset d).marks
+walk_needs texts d next offset low high spans any needs =
     needs_any texts low high spans _
-    (λ P here. subst (λ w. list_any P w.marks ≡ true) (sym (chain_unfolds awaited_chain d t (awaited_advances d)))
-    (onward_any (next_record awaited_chain d t).marks (next_record awaited_chain d t).answer (follows awaited_chain d held) P
+    (λ P here. subst (λ w. list_any P w.marks ≡ true) (sym (run_unfolds step d (step_follows d) next offset))
+    (onward_any (layout_reads d (step next offset)).marks (layout_reads d (step next offset)).answer (goes step d (step_follows d)) P
     (any P here)))
     needs
 
@@ -87,14 +85,11 @@ module _ (next : Awaited) (old new : Stand) (kind : Option ImageType) (buffer fr
   over_needs d begins as_long =
       let streams = came.1 in
       let resumes = streams.resumes d (begins_left front chunk old.told d begins) in
-      let first : ReadsFirst old.offset over.most (awaited_said streams.held old.offset) =
-      subst (λ a. ReadsFirst old.offset over.most (step a old.offset)) (sym streams.known.0) over.first in
-      let needs = walk_needs (texts_of d) d streams.held old.offset old.offset (min (old.offset + over.most) (length d))
+      let needs = walk_needs (texts_of d) d next old.offset old.offset (min (old.offset + over.most) (length d))
       (span_of d old.offset over.most)
-      (first_any d old.offset over.most (awaited_said streams.held old.offset) first)
+      (first_any d old.offset over.most (step next old.offset) over.first)
       (span_needs (texts_of d) d old.offset over.most over.some (omega (arith, as_long, over.here, over.within))) in
       needs_behind (texts_of d) _ _ streams.before _ (meaning_reads d 0).marks
       (ap (λ (w : Reads _). w.marks) resumes)
-      (subst (λ low. Needs (texts_of d) low (min (old.offset + over.most) (length d))
-      (chain_from awaited_chain d (record { held = streams.held; offset = old.offset })).marks)
+      (subst (λ low. Needs (texts_of d) low (min (old.offset + over.most) (length d)) (run step next old.offset d).marks)
       (omega (arith, over.passed, over.start, over.before, over.here)) needs)

@@ -27,7 +27,7 @@ use Rattle.imagesize_stream.proofs.Skipping.{walk_needs}
 use Rattle.imagesize_stream.specs.Probe.{CameTo, HoldsAt, IsAhead, SearchedBy}
 use Rattle.imagesize_records.specs.FirstReads.{ReadsText}
 use Rattle.imagesize_records.proofs.Far.{reach_few, reach_most}
-use Rattle.imagesize_records.specs.Steps.{awaited_said, first_text, is_text, reach_at, step}
+use Rattle.imagesize_records.specs.Steps.{first_text, is_text, reach_at, step}
 use Rattle.imagesize_records.specs.declared.awaited.Awaited.{Awaited}
 use Rattle.imagesize_stream.specs.declared.stage.Stage.{Stage}
 use Rattle.imagesize_stream.specs.declared.stage.Stage.TheVariants.{Records}
@@ -83,13 +83,12 @@ module _ (next : Awaited) (text : Text) (most : ℕ) (old new : Stand) (kind : O
   text_came = rw (keeps.told, keeps.offset, keeps.start) (
     type_on front chunk old.told old.told kind refl came.0,
     record {
-      held = came.1.held;
-      known = came.1.known;
       as_many = omega (arith, keeps.passed, came.1.as_many, length-append front chunk);
       rest = rw (rw keeps.start at keeps.kept, came.1.rest, came.1.as_many, drop_both old.start front chunk) refl;
       before = came.1.before;
       resumes = λ d begins. came.1.resumes d (begins_left front chunk old.told d begins);
     },
+    came.2,
   )
 
   pub text_many : new.passed ≡ length (front ++ chunk)
@@ -102,16 +101,15 @@ module _ (next : Awaited) (text : Text) (most : ℕ) (old new : Stand) (kind : O
   unfolding part
   pending_needs is few d begins as_long =
       let streams = came.1 in
-      let texts : true ≡ texts_of d = sym is ∙ streams.known.2
+      let texts : true ≡ texts_of d = sym is ∙ came.2
       ∙ texts_known kind front d old.told came.0 (begins_left front chunk old.told d begins) in
       let found : ℕ = new.passed - old.offset in
       let same : take (new.passed - new.start) after ≡ part d old.offset found =
       rw (text_came.1.rest, keeps.start, keeps.here, ← begins.first, dropped (length (front ++ chunk)) old.offset d, text_many) refl in
       let resumes = streams.resumes d (begins_left front chunk old.told d begins) in
-      let reads : ReadsText old.offset text most (awaited_said streams.held old.offset) = rw streams.known.0 (first old.offset) in
-      let needs = walk_needs true d streams.held old.offset (old.offset + found)
+      let needs = walk_needs true d next old.offset (old.offset + found)
       (min (old.offset + most) (length d)) (span_at old.offset (length (text_part d text old.offset most)))
-      (text_any d old.offset most text (awaited_said streams.held old.offset) reads)
+      (text_any d old.offset most text (step next old.offset) (first old.offset))
       (text_needs d old.offset most found text (ap (is_ended text) (sym same) ∙ keeps.unended)
       (omega (arith, keeps.few, keeps.start, keeps.here)) (omega (arith, keeps.more, as_long, keeps.start, keeps.here))) in
       needs_behind (texts_of d) _ _ streams.before _ (meaning_reads d 0).marks

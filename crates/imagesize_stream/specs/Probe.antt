@@ -12,7 +12,7 @@ use Rattle.imagesize_source.specs.Text.{is_ended}
 use Rattle.imagesize_source.specs.declared.halt.Halt.{Halt}
 use Rattle.imagesize_source.specs.declared.span.Span.{Span}
 use Rattle.imagesize_stream.specs.Heard.{IsByFooter, OutOfHeader, SizeIs, TypeIs, TypeMissing, TypeRests}
-use Rattle.imagesize_records.specs.Steps.{Awaits, IsSteady, awaited_said, first_text, is_text, reach_at, reach_of, steady_prop}
+use Rattle.imagesize_records.specs.Steps.{IsSteady, first_text, is_text, reach_at, reach_of, steady_prop, step}
 use Rattle.imagesize_records.specs.declared.awaited.Awaited.{Awaited}
 use Rattle.imagesize_stream.specs.declared.stage.Stage.{Stage}
 use Rattle.imagesize_stream.specs.declared.stage.Stage.TheVariants.{Done, First, Footer, Records}
@@ -40,8 +40,8 @@ abbrev pub CameBy : Stage → Option ImageType → ℕ → ℕ → ℕ → ℕ �
 CameBy First kind start offset passed told buffer front = (take passed buffer ≡ front) × TypeSays front told kind
 CameBy (Records next) kind start offset passed told buffer front =
     TypeIs front told kind
-    × Streams 0 awaited_said (λ held. Awaits (texts_by kind) next held offset) start offset told passed (take (passed - start) buffer)
-    (λ d. meaning_reads d 0) front
+    × Streams step next start offset told passed (take (passed - start) buffer) (λ d. meaning_reads d 0) front
+    × (is_text next ≡ texts_by kind)
 CameBy (Footer size) kind start offset passed told buffer front =
     (passed ≡ length front) × (take 18 buffer ≡ drop (length front - 18) front) × TypeSays front told kind
     × ((d : List ℕ) → Begins front told d → IsByFooter size d)

@@ -1,5 +1,5 @@
 -- EXR: how a walk along its attributes goes, how many bytes they are read from, and what it sees of an input.
-use Rattle.std.proofs.Common.{drop, ◌≡◌, ℕ, ◌+◌, ◌-◌, ◌<◌, ◌≤◌, Bool, cond, eqb, List, [], ◌∷◌, length, take, Option, Some, None, true, false, refl, sym, ap, ◌∙◌, arith, slice_index_or}
+use Rattle.std.proofs.Common.{bit_and, ltb, drop, ◌≡◌, ℕ, ◌+◌, ◌-◌, ◌<◌, ◌≤◌, Bool, cond, eqb, List, [], ◌∷◌, length, take, Option, Some, None, true, false, Err, refl, sym, ap, ◌∙◌, arith, slice_index_or}
 use Rattle.std.proofs.lemmas.Bool.{and_parts}
 use Rattle.std.proofs.Math.Nat.{add-zero}
 use Rattle.std.proofs.lemmas.List.{get_or-drop, length-drop}
@@ -15,18 +15,21 @@ use Rattle.imagesize_source.specs.Counts.{AtMost}
 use Rattle.imagesize_source.specs.Extension.{Plain}
 use Rattle.imagesize_source.specs.Layout.{Layout, layout_reads, bytes, done, refuse}
 use Rattle.imagesize_source.specs.Numbers.{number}
-use Rattle.imagesize_source.specs.Reading.{number_read, refuses, uncounted}
+use Rattle.imagesize_source.specs.Reading.{and_then, number_read, uncounted}
 use Rattle.imagesize_source.specs.State.{total}
-use Rattle.imagesize_source.proofs.Advances.{Begins, Tells, advances}
+use Rattle.imagesize_source.specs.Walk.{CanFollow, EndsBy, after, decides, run}
+use Rattle.imagesize_source.proofs.Advances.{Begins, Tells, advances, begins_bind, states_follow, tells_bind}
 use Rattle.imagesize_source.proofs.Ahead.{Ahead, chain_ahead}
 use Rattle.imagesize_source.proofs.ChainLaws.{local_chain, lasts_chain, chain_bounded}
 use Rattle.imagesize_source.proofs.Counts.{Bounded, at_most, at_most_more, bounded_then, then_within, total-span_of}
 use Rattle.imagesize_source.proofs.Agreement.{local_then, local_number, with_texts}
+use Rattle.imagesize_source.proofs.Layouts.{then_then}
 use Rattle.imagesize_source.proofs.Numbers.{little_4}
 use Rattle.imagesize_source.proofs.Spends.{said_to}
+use Rattle.imagesize_source.proofs.States.{ends_after, run_is}
 use Rattle.imagesize_source.proofs.Tests.{on_test}
 use Rattle.imagesize_source.proofs.Way.{RecordedLaws, answers_last}
-use Rattle.imagesize_texts.specs.Exr.{exr, exr_attributes, exr_attribute, exr_named, exr_typed, exr_value, exr_window, name_room, window_size, is_data_window, is_box, signed_at}
+use Rattle.imagesize_texts.specs.Exr.{exr, exr_attributes, exr_attribute, exr_named, names_of, exr_open, exr_step, exr_typed, exr_value, exr_window, name_room, window_size, is_data_window, is_box, signed_at}
 use Rattle.imagesize_texts.specs.Texts.{line_at}
 use Rattle.imagesize_texts.proofs.Texts.{lasts_then, line_made, number_lasts, text_begins, text_beyond, text_onto, text_plain, text_tells, text_total}
 
@@ -87,7 +90,7 @@ abbrev value_behind : List ℕ → List ℕ → ℕ
 value_behind name type_name = length name + 1 + (length type_name + 1) + 4
 
 -- an attribute tells an offset behind its own
-pub attribute_tells : (buffer offset : ℕ) → Tells (λ p. offset < p) (exr_attribute buffer offset)
+attribute_tells : (buffer offset : ℕ) → Tells (λ p. offset < p) (exr_attribute buffer offset)
 attribute_tells buffer offset = text_tells (line_made 0 buffer) offset (exr_named buffer offset) (λ p. offset < p)
     (λ name _. by_name (Tells (λ p. offset < p)) buffer offset name tt
     (text_tells (line_made 0 buffer) (offset + (length name + 1)) (exr_typed offset name) (λ p. offset < p)
@@ -97,10 +100,10 @@ attribute_tells buffer offset = text_tells (line_made 0 buffer) offset (exr_name
     (omega arith))
     (omega arith))))
 
-pub attribute_begins : (buffer offset : ℕ) → Begins offset (exr_attribute buffer offset)
+attribute_begins : (buffer offset : ℕ) → Begins offset (exr_attribute buffer offset)
 attribute_begins buffer offset = text_begins (line_made 0 buffer) offset (exr_named buffer offset) offset (omega arith)
 
-pub attribute_advances : (buffer : ℕ) (d : List ℕ) → Advances (exr_attributes buffer) d
+attribute_advances : (buffer : ℕ) (d : List ℕ) → Advances (exr_attributes buffer) d
 attribute_advances buffer =
     advances (exr_attributes buffer) (λ passed offset. attribute_tells buffer offset)
     (λ passed offset. attribute_begins buffer offset)
@@ -202,7 +205,38 @@ exr_laws = record {
       (λ passed offset. attribute_plain (name_room version) offset)));
 }
 
+-- a walk along the attributes
+pub exr_tells : (long : Bool) (offset : ℕ) → Tells (λ p. offset < p) (exr_step long offset)
+exr_tells long offset = tells_bind (λ p. offset < p) (exr_attribute (names_of long) offset) (after (λ _. long) decides)
+    (attribute_tells (names_of long) offset) (λ size. tt) (λ v q above. above)
+
+pub exr_begins : (long : Bool) (offset : ℕ) → Begins offset (exr_step long offset)
+exr_begins long offset = begins_bind offset (exr_attribute (names_of long) offset) (after (λ _. long) decides)
+    (attribute_begins (names_of long) offset) (λ size. tt) (λ size. tt)
+
+pub exr_follows : CanFollow exr_step
+exr_follows = states_follow exr_step exr_tells exr_begins
+
+some_names : (long : Bool) → 0 < names_of long
+some_names true = omega arith
+some_names false = omega arith
+
 -- from the end of the input on there is no attribute
-pub exr_ends : (d : List ℕ) (buffer offset : ℕ) → 0 < buffer → length d ≤ offset
-    → uncounted (layout_reads d (exr_attribute buffer offset)) ≡ refuses Ended
-exr_ends d buffer offset some h = ap uncounted (text_beyond (line_made 0 buffer) offset (exr_named buffer offset) d h some)
+pub exr_ends : (long : Bool) → EndsBy exr_step long (Err Ended)
+exr_ends long d offset far = ends_after d (exr_attribute (names_of long) offset) (λ _. long) (Err Ended)
+    (ap uncounted (text_beyond (line_made 0 (names_of long)) offset (exr_named (names_of long) offset) d far (some_names long)))
+
+names_as : (version : ℕ) → names_of (ltb 32 (name_room version)) ≡ name_room version
+unfolding name_room
+names_as version = on_test (λ n. names_of (ltb 32 n) ≡ n) (eqb (bit_and version 0x400) 0) 32 256 (λ _. refl) (λ _. refl)
+
+-- the size is that of this walk
+pub exr_is : (d : List ℕ) → exr d ≡ and_then (layout_reads d exr_open) (λ s. run exr_step s.records s.offset d)
+exr_is d = then_then (number_read d Little 4 4)
+    (λ version. layout_reads d (done (record { records = ltb 32 (name_room version); offset = 8 })))
+    (λ s. run exr_step s.records s.offset d) (λ version. chain_at (exr_attributes (name_room version)) d)
+    (λ version. ap (λ names. chain_at (exr_attributes names) d) (sym (names_as version)) ∙ sym (walked (ltb 32 (name_room version))))
+  where
+    walked : (long : Bool) → run exr_step long 8 d ≡ chain_at (exr_attributes (names_of long)) d
+    walked long = run_is exr_step d (exr_follows d) (exr_attributes (names_of long)) (λ (_ : Unit {0}). long) (λ _ _. tt)
+        (λ _ _. Unit {0}) (attribute_advances (names_of long) d) (λ held x offset known. refl) (λ held x offset v q known got. tt) tt tt

@@ -1,24 +1,26 @@
 -- HDR: how a walk along its lines goes, how many bytes they are read from, and what it sees of an input.
-use Rattle.std.proofs.Common.{◌≡◌, ◌≢◌, ℕ, ◌+◌, ◌<◌, ◌≤◌, List, [], ◌∷◌, length, Some, None, true, refl, ap, arith}
+use Rattle.std.proofs.Common.{◌≡◌, ◌≢◌, ℕ, ◌+◌, ◌<◌, ◌≤◌, List, [], ◌∷◌, length, Some, None, true, Err, refl, sym, ap, ◌∙◌, arith}
 use Rattle.std.proofs.lemmas.Bool.Decides.{nat_tests}
 use Rattle.imagesize_types.specs.declared.size.ImageSize.{ImageSize}
 use Rattle.imagesize_source.specs.declared.halt.Halt.{Halt}
 use Rattle.imagesize_source.specs.declared.halt.Halt.TheVariants.{Ended, InvalidHdrIdentifier}
-use Rattle.imagesize_source.specs.Reading.{refuses, uncounted}
+use Rattle.imagesize_source.specs.Reading.{and_then, uncounted}
 use Rattle.imagesize_source.specs.Chain.{Said, Decided, Next, Advances, chain_at}
 use Rattle.imagesize_source.specs.Extension.{Plain}
 use Rattle.imagesize_source.specs.Layout.{Layout, layout_reads, done, refuse, accept}
 use Rattle.imagesize_source.specs.State.{total}
-use Rattle.imagesize_source.proofs.Advances.{Begins, Tells, advances}
+use Rattle.imagesize_source.specs.Walk.{CanFollow, EndsBy, run}
+use Rattle.imagesize_source.proofs.Advances.{Begins, Tells, advances, states_follow}
 use Rattle.imagesize_source.proofs.Ahead.{Ahead}
 use Rattle.imagesize_source.proofs.ChainLaws.{local_chain, lasts_chain}
 use Rattle.imagesize_source.proofs.Agreement.{local_then, local_layout, with_texts}
 use Rattle.imagesize_source.proofs.Extension.{more}
+use Rattle.imagesize_source.proofs.Layouts.{over-bind, then_then}
 use Rattle.imagesize_source.proofs.Spends.{Onto, said_to, spends, spends_then, chain_onto}
 use Rattle.imagesize_source.proofs.Tests.{on_test}
 use Rattle.imagesize_source.proofs.Way.{TextsLaws, answers_last}
-use Rattle.imagesize_texts.specs.Texts.{line_at}
-use Rattle.imagesize_texts.specs.Hdr.{hdr, hdr_identifier, check_identifier, hdr_lines, hdr_line, is_identifier, is_resolution, resolution, second_and_fourth}
+use Rattle.imagesize_texts.specs.Hdr.{hdr, hdr_identifier, check_identifier, hdr_lines, hdr_line, hdr_open, hdr_step, is_identifier, is_resolution, resolution, second_and_fourth}
+use Rattle.imagesize_texts.proofs.Alike.{alone}
 use Rattle.imagesize_texts.proofs.Texts.{found_by, lasts_then, line_made, text_begins, text_beyond, text_onto, text_plain, text_tells}
 
 -- what holds of each line
@@ -39,16 +41,19 @@ by_identifier P text is none =
     (λ _. none)
 
 -- a line tells an offset behind its own
-pub hdr_tells : (offset : ℕ) → Tells (λ p. offset < p) (line_at 0x0A offset 256 (hdr_line offset))
-hdr_tells offset = text_tells (line_made 0x0A 256) offset (hdr_line offset) (λ p. offset < p)
+pub hdr_tells : (s : Unit {0}) (offset : ℕ) → Tells (λ p. offset < p) (hdr_step s offset)
+hdr_tells s offset = text_tells (line_made 0x0A 256) offset (hdr_line offset) (λ p. offset < p)
     (λ text _. by_line (Tells (λ p. offset < p)) offset text
     (λ size. tt) (λ e. tt) (omega arith))
 
-pub hdr_begins : (offset : ℕ) → Begins offset (line_at 0x0A offset 256 (hdr_line offset))
-hdr_begins offset = text_begins (line_made 0x0A 256) offset (hdr_line offset) offset (omega arith)
+pub hdr_begins : (s : Unit {0}) (offset : ℕ) → Begins offset (hdr_step s offset)
+hdr_begins s offset = text_begins (line_made 0x0A 256) offset (hdr_line offset) offset (omega arith)
 
-pub hdr_advances : (first : ℕ) (d : List ℕ) → Advances (hdr_lines first) d
-hdr_advances first = advances (hdr_lines first) (λ passed offset. hdr_tells offset) (λ passed offset. hdr_begins offset)
+pub hdr_follows : CanFollow hdr_step
+hdr_follows = states_follow hdr_step hdr_tells hdr_begins
+
+hdr_advances : (first : ℕ) (d : List ℕ) → Advances (hdr_lines first) d
+hdr_advances first = advances (hdr_lines first) (λ passed offset. hdr_tells tt offset) (λ passed offset. hdr_begins tt offset)
 
 -- the lines are read from at most the bytes of the input
 hdr_within : (d : List ℕ) → total (hdr d).marks ≤ length d
@@ -79,9 +84,18 @@ hdr_laws = record {
 }
 
 -- from the end of the input on there is no line
-pub hdr_ends : (d : List ℕ) (offset : ℕ) → length d ≤ offset
-    → uncounted (layout_reads d (line_at 0x0A offset 256 (hdr_line offset))) ≡ refuses Ended
-hdr_ends d offset h = ap uncounted (text_beyond (line_made 0x0A 256) offset (hdr_line offset) d h (omega arith))
+pub hdr_ends : (s : Unit {0}) → EndsBy hdr_step s (Err Ended)
+hdr_ends s d offset far = ap uncounted (text_beyond (line_made 0x0A 256) offset (hdr_line offset) d far (omega arith))
+
+-- the size is that of a walk along the lines behind the first
+pub hdr_is : (d : List ℕ) → hdr d ≡ and_then (layout_reads d hdr_open) (λ s. run hdr_step s.records s.offset d)
+hdr_is d = then_then (layout_reads d hdr_identifier) (λ first. layout_reads d (done (record { records = tt; offset = first })))
+    (λ s. run hdr_step s.records s.offset d) (λ first. chain_at (hdr_lines first) d) (λ first. sym (walked first))
+    ∙ ap (λ r. and_then r (λ s. run hdr_step s.records s.offset d))
+    (sym (over-bind d hdr_identifier (λ first. done (record { records = tt; offset = first }))))
+  where
+    walked : (first : ℕ) → run hdr_step tt first d ≡ chain_at (hdr_lines first) d
+    walked first = alone hdr_step hdr_follows (hdr_lines first) d (hdr_advances first d) (λ held offset. refl)
 
 -- of another number of words than four none are the second and the fourth
 pub other_words : (ws : List (List ℕ)) → length ws ≢ 4 → second_and_fourth ws ≡ None

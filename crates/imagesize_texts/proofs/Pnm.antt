@@ -1,14 +1,15 @@
 -- PNM: how a walk along its words goes, how many bytes they are read from, and what it sees of an input.
-use Rattle.std.proofs.Common.{◌≡◌, ℕ, ◌+◌, ◌<◌, ◌≤◌, eqb, List, length, Option, None, true, Err, ap, arith}
+use Rattle.std.proofs.Common.{◌≡◌, ℕ, ◌+◌, ◌<◌, eqb, List, Option, None, true, Err, refl, sym, ap, arith}
 use Rattle.std.specs.Str.{trim}
 use Rattle.imagesize_types.specs.declared.size.ImageSize.{ImageSize}
 use Rattle.imagesize_source.specs.declared.halt.Halt.{Halt}
 use Rattle.imagesize_source.specs.Chain.{Said, Decided, Advances}
 use Rattle.imagesize_source.specs.Extension.{Plain}
 use Rattle.imagesize_source.specs.declared.halt.Halt.TheVariants.{Ended}
-use Rattle.imagesize_source.specs.Layout.{Layout, done, accept, layout_reads}
-use Rattle.imagesize_source.specs.Reading.{refuses, uncounted}
-use Rattle.imagesize_source.proofs.Advances.{Begins, Tells, advances}
+use Rattle.imagesize_source.specs.Layout.{Layout, done, accept}
+use Rattle.imagesize_source.specs.Reading.{uncounted}
+use Rattle.imagesize_source.specs.Walk.{CanFollow, EndsBy, run}
+use Rattle.imagesize_source.proofs.Advances.{Begins, Tells, advances, states_follow}
 use Rattle.imagesize_source.proofs.Ahead.{Ahead, chain_ahead}
 use Rattle.imagesize_source.proofs.Agreement.{with_texts}
 use Rattle.imagesize_source.proofs.ChainLaws.{local_chain, lasts_chain}
@@ -16,8 +17,9 @@ use Rattle.imagesize_source.proofs.Spends.{said_to}
 use Rattle.imagesize_source.proofs.Tests.{on_test}
 use Rattle.imagesize_source.proofs.Way.{TextsLaws, answers_last}
 use Rattle.imagesize_texts.specs.Contents.{WordRead, number_text}
-use Rattle.imagesize_texts.specs.Pnm.{pnm, pnm_words, pnm_word, pnm_comment, pnm_passed, pnm_height, pnm_size, is_comment, is_blank}
-use Rattle.imagesize_texts.specs.Texts.{passed_line, word}
+use Rattle.imagesize_texts.specs.Pnm.{pnm, words_step, pnm_words, pnm_word, pnm_comment, pnm_passed, pnm_height, pnm_size, is_comment, is_blank}
+use Rattle.imagesize_texts.specs.Texts.{passed_line}
+use Rattle.imagesize_texts.proofs.Alike.{alone}
 use Rattle.imagesize_texts.proofs.Texts.{found_by, length_made, text_begins, text_onto, text_plain, text_tells, word_beyond, word_made}
 
 -- what holds of each way that a word can go
@@ -39,8 +41,8 @@ by_size P width height decided refused =
     found_by P (pnm_size width height) (λ size. done (Decided size)) (λ size _. decided size) refused
 
 -- a word tells an offset behind its own
-pub pnm_tells : (offset : ℕ) → Tells (λ p. offset < p) (word offset (pnm_word offset))
-pnm_tells offset = text_tells word_made offset (pnm_word offset) (λ p. offset < p)
+words_tell : (s : Unit {0}) (offset : ℕ) → Tells (λ p. offset < p) (words_step s offset)
+words_tell s offset = text_tells word_made offset (pnm_word offset) (λ p. offset < p)
     (λ w some. by_word (Tells (λ p. offset < p)) offset w (omega arith)
     (text_tells (length_made 0x0A 1024) (offset + w.taken) (λ rest. pnm_passed offset (w.taken + rest)) (λ p. offset < p)
     (λ n _. omega arith))
@@ -49,11 +51,14 @@ pnm_tells offset = text_tells word_made offset (pnm_word offset) (λ p. offset <
     (λ next _. by_size (Tells (λ p. offset < p)) (number_text w.text) (number_text (trim next.text)) (λ size. tt)
     (λ e. tt))))
 
-pub pnm_begins : (offset : ℕ) → Begins offset (word offset (pnm_word offset))
-pnm_begins offset = text_begins word_made offset (pnm_word offset) offset (omega arith)
+words_begin : (s : Unit {0}) (offset : ℕ) → Begins offset (words_step s offset)
+words_begin s offset = text_begins word_made offset (pnm_word offset) offset (omega arith)
+
+pub words_follow : CanFollow words_step
+words_follow = states_follow words_step words_tell words_begin
 
 pub pnm_advances : (d : List ℕ) → Advances pnm_words d
-pnm_advances = advances pnm_words (λ passed offset. pnm_tells offset) (λ passed offset. pnm_begins offset)
+pnm_advances = advances pnm_words (λ passed offset. words_tell tt offset) (λ passed offset. words_begin tt offset)
 
 pub pnm_laws : TextsLaws 12 true true pnm
 pnm_laws = record {
@@ -82,6 +87,9 @@ pnm_laws = record {
 }
 
 -- from the end of the input on there is no word
-pub pnm_ends : (d : List ℕ) (offset : ℕ) → length d ≤ offset
-    → uncounted (layout_reads d (word offset (pnm_word offset))) ≡ refuses Ended
-pnm_ends d offset h = ap uncounted (word_beyond d offset (pnm_word offset) h)
+pub words_end : (s : Unit {0}) → EndsBy words_step s (Err Ended)
+words_end s d offset far = ap uncounted (word_beyond d offset (pnm_word offset) far)
+
+-- the size is that of a walk along the words
+pub words_are : (d : List ℕ) → pnm d ≡ run words_step tt 2 d
+words_are d = sym (alone words_step words_follow pnm_words d (pnm_advances d) (λ held offset. refl))

@@ -1,5 +1,5 @@
 -- OpenEXR, by "OpenEXR File Layout".
-use Rattle.std.specs.Prelude.{ℕ, ◌+◌, Bool, ◌&&◌, List, [], ◌∷◌, length, codes, ◌==◌, if◌then◌else◌, Option, None, Some, ℤ, ◌-ℤ◌, int_le, unsigned_abs, bit_and}
+use Rattle.std.specs.Prelude.{nat_lt, ℕ, ◌+◌, Bool, ◌&&◌, List, [], ◌∷◌, length, codes, ◌==◌, if◌then◌else◌, Option, None, Some, ℤ, ◌-ℤ◌, int_le, unsigned_abs, bit_and}
 use Rattle.std.specs.Int.{w32, cast_signed}
 use Rattle.imagesize_types.specs.Head.{begins, four_at}
 use Rattle.imagesize_types.specs.Sides.{size_if_known}
@@ -7,10 +7,12 @@ use Rattle.imagesize_types.specs.declared.size.ImageSize.{ImageSize}
 use Rattle.imagesize_source.specs.declared.halt.Halt.TheVariants.{DataWindowNotFound}
 use Rattle.imagesize_source.specs.declared.endian.Endian.TheVariants.{Little}
 use Rattle.imagesize_source.specs.Chain.{Said, Decided, Next, Chain, chain_at}
-use Rattle.imagesize_source.specs.Layout.{Layout, bytes}
+use Rattle.imagesize_source.specs.Layout.{Layout, bind, bytes}
 use Rattle.imagesize_source.specs.Layout.Layout.{begin_record, field, refuse, «done»}
 use Rattle.imagesize_source.specs.Numbers.{number}
 use Rattle.imagesize_source.specs.Reading.{Reads, and_then, number_read}
+use Rattle.imagesize_source.specs.Walk.{Step, after, decides}
+use Rattle.imagesize_source.specs.declared.walk.Start.{Start}
 use Rattle.imagesize_texts.specs.Texts.{line_at}
 
 -- whether the input begins with the magic number ("Magic Number")
@@ -77,3 +79,15 @@ exr_attributes buffer = record { first = 8; said = λ passed offset. exr_attribu
 -- the first data window that is not reversed
 abbrev pub exr : List ℕ → Reads ImageSize
 exr d = and_then (number_read d Little 4 4) (λ version. chain_at (exr_attributes (name_room version)) d)
+
+-- how many bytes a name may have, with the zero that ends it, by whether names may be long
+abbrev pub names_of : Bool → ℕ
+names_of long = if long then 256 else 32
+
+-- the next attribute
+abbrev pub exr_step : Step Bool ImageSize
+exr_step long offset = bind (exr_attribute (names_of long) offset) (after (λ _. long) decides)
+
+-- the version, which says whether names may be long; the attributes begin after it
+abbrev pub exr_open : Layout (Start Bool)
+exr_open = field Little 4 4 (λ version. done (record { records = nat_lt 32 (name_room version); offset = 8 }))

@@ -6,9 +6,11 @@ use Rattle.imagesize_types.specs.declared.size.ImageSize.{ImageSize}
 use Rattle.imagesize_source.specs.declared.halt.Halt.{Halt}
 use Rattle.imagesize_source.specs.declared.halt.Halt.TheVariants.{HdrDimensionsNotFound, InvalidHdrDimensionsLine, InvalidHdrIdentifier}
 use Rattle.imagesize_source.specs.Chain.{Said, Decided, Next, Chain, chain_at}
-use Rattle.imagesize_source.specs.Layout.{Layout, layout_reads, accept}
+use Rattle.imagesize_source.specs.Layout.{Layout, layout_reads, accept, bind}
 use Rattle.imagesize_source.specs.Layout.Layout.{refuse, «done»}
 use Rattle.imagesize_source.specs.Reading.{Reads, and_then}
+use Rattle.imagesize_source.specs.Walk.{Step}
+use Rattle.imagesize_source.specs.declared.walk.Start.{Start}
 use Rattle.imagesize_texts.specs.Contents.{number_text, words}
 use Rattle.imagesize_texts.specs.Texts.{line_at}
 
@@ -55,3 +57,11 @@ hdr_lines first = record { first = first; said = λ passed offset. line_at 0x0A 
 -- the first line that gives the resolution
 abbrev pub hdr : List ℕ → Reads ImageSize
 hdr d = and_then (layout_reads d hdr_identifier) (λ first. chain_at (hdr_lines first) d)
+
+-- the next line; the lines before it leave nothing
+abbrev pub hdr_step : Step (Unit {0}) ImageSize
+hdr_step s offset = line_at 0x0A offset 256 (hdr_line offset)
+
+-- the first line; the other lines begin after it
+abbrev pub hdr_open : Layout (Start (Unit {0}))
+hdr_open = bind hdr_identifier (λ first. done (record { records = tt; offset = first }))

@@ -3,3 +3,4 @@ pub mod Exr
 pub mod Hdr
 pub mod Pnm
 pub mod Texts
+pub mod Walks

@@ -10,6 +10,7 @@ use Rattle.imagesize_source.specs.Chain.{Said, Decided, Next, Chain, chain_at}
 use Rattle.imagesize_source.specs.Layout.{Layout, accept}
 use Rattle.imagesize_source.specs.Layout.Layout.{«done»}
 use Rattle.imagesize_source.specs.Reading.{Reads}
+use Rattle.imagesize_source.specs.Walk.{Step}
 use Rattle.imagesize_texts.specs.Contents.{WordRead, number_text}
 use Rattle.imagesize_texts.specs.Texts.{passed_line, word}
 
@@ -58,3 +59,7 @@ pnm_words = record { first = 2; said = λ passed offset. word offset (pnm_word o
 -- the first word that is neither blank nor in a comment is the width
 abbrev pub pnm : List ℕ → Reads ImageSize
 pnm d = chain_at pnm_words d
+
+-- the next word, with what it leads to; the words before it leave nothing
+abbrev pub words_step : Step (Unit {0}) ImageSize
+words_step s offset = word offset (pnm_word offset)

@@ -1,11 +1,12 @@
 -- ICO: how a walk along its entries goes, how many bytes they are read from, and what it sees of an input.
-use Rattle.std.proofs.Common.{◌≡◌, ℕ, ◌+◌, ◌<◌, ◌≤◌, max, Bool, true, false, cond, eqb, leb, List, [], ◌∷◌, ◌++◌, length, Option, Some, None, Result, Ok, Err, IfOk, IfErr, refl, sym, ap, ◌∙◌, subst, arith}
+use Rattle.std.proofs.Common.{◌≡◌, ℕ, ◌+◌, ◌<◌, ◌≤◌, max, Bool, true, false, cond, eqb, leb, List, [], ◌∷◌, ◌++◌, length, Option, Some, None, refl, sym, ap, ◌∙◌, arith}
 use Rattle.std.proofs.lemmas.Bool.Decides.{nat_tests}
 use Rattle.std.proofs.lemmas.List.{append-nil, length_push}
 use Rattle.std.proofs.lemmas.List.Elements.{filter-append}
 use Rattle.std.specs.Prelude.{filter, ok_or}
 use Rattle.std.specs.List.{last_or}
-use Rattle.imagesize_walked.specs.Walks.{IconsOn, Seen}
+use Rattle.imagesize_walked.specs.Walks.{ico_open, ico_step, icons_with}
+use Rattle.imagesize_walked.specs.declared.formats.ico.Entries.{Entries}
 use Rattle.imagesize_walked.specs.Ico.{ico, icon_entries, icon_entry, icon_in, icon_answer, icon_size}
 use Rattle.imagesize_types.specs.Largest.{greatest_area, last_largest, area_if_some, later_largest}
 use Rattle.imagesize_types.specs.Order.{area_of}
@@ -14,15 +15,14 @@ use Rattle.imagesize_source.specs.declared.halt.Halt.TheVariants.{Corrupted}
 use Rattle.imagesize_source.specs.declared.endian.Endian.TheVariants.{Little}
 use Rattle.imagesize_source.specs.Chain.{Said, Decided, Next, Advances, chain_at}
 use Rattle.imagesize_source.specs.Counts.{AtMost, Each}
-use Rattle.imagesize_source.specs.Layout.{Layout, begin_record, layout_reads, if_there, refuse, done, whole}
+use Rattle.imagesize_source.specs.Layout.{Layout, begin_record, bind, layout_reads, if_there, refuse, done, whole}
+use Rattle.imagesize_source.specs.declared.walk.Start.{Start}
 use Rattle.imagesize_source.proofs.PastTheEnd.{there_beyond}
-use Rattle.imagesize_source.specs.Reading.{just, map_answer, number_read, uncounted}
-use Rattle.imagesize_source.specs.State.{State, Runs}
-use Rattle.imagesize_source.specs.Walk.{KeepsOn, said_at}
-use Rattle.imagesize_source.specs.declared.halt.Halt.{Halt}
-use Rattle.imagesize_source.specs.declared.walk.Found.{Found}
-use Rattle.imagesize_source.specs.declared.walk.Found.TheVariants as found
-use Rattle.imagesize_source.proofs.Advances.{Tells, Begins, advances}
+use Rattle.imagesize_source.specs.Reading.{Reads, and_then, gives, just, map_answer, number_read, uncounted}
+use Rattle.imagesize_source.specs.Walk.{CanFollow, EndsBy, after, decides, run}
+use Rattle.imagesize_source.proofs.Advances.{Tells, Begins, advances, begins_bind, states_follow, tells_bind}
+use Rattle.imagesize_source.proofs.Layouts.{then_then}
+use Rattle.imagesize_source.proofs.States.{ends_after, run_is}
 use Rattle.imagesize_source.proofs.Ahead.{Ahead, chain_ahead}
 use Rattle.imagesize_source.proofs.ChainLaws.{local_chain, chain_cost}
 use Rattle.imagesize_source.proofs.Counts.{bounded_then, then_within, total-span_of}
@@ -46,7 +46,7 @@ largest_by best sizes size greatest false test area is most =
     let same : greatest ≡ greatest_area sizes = grind (arith, nat_tests) in
     (rw (not_here, append-nil (filter (λ s. eqb (area_of s) greatest) sizes), same) is, grind (arith, nat_tests))
 
-pub largest_on : (best : Option ImageSize) (sizes : List ImageSize) (size : ImageSize) → last_largest sizes ≡ best
+largest_on : (best : Option ImageSize) (sizes : List ImageSize) (size : ImageSize) → last_largest sizes ≡ best
     → greatest_area sizes ≡ area_if_some best
     → (last_largest (sizes ++ size ∷ []) ≡ later_largest best size) ×
     (greatest_area (sizes ++ size ∷ []) ≡ area_if_some (later_largest best size))
@@ -77,11 +77,11 @@ module _ (count seen : ℕ) (best : Option ImageSize) (offset : ℕ) where
   by_count P none some entry =
       on_test P (eqb seen count) (icon_answer best) _ (λ _. by_answer P best none some) (λ _. entry)
 
-  pub icon_tells : Tells (λ p. offset < p) (icon_in count seen best offset)
+  icon_tells : Tells (λ p. offset < p) (icon_in count seen best offset)
   icon_tells = by_count (Tells (λ p. offset < p)) tt (λ size. tt)
       (λ bs. by_entry (Tells (λ p. offset < p)) best offset (whole 2 bs) tt (λ size. tt) (λ size. omega arith))
 
-  pub icon_begins : Begins offset (icon_in count seen best offset)
+  icon_begins : Begins offset (icon_in count seen best offset)
   icon_begins = by_count (Begins offset) tt (λ size. tt)
       (omega arith, by_answer (Tells (λ _. ⊥)) best tt (λ size. tt))
 
@@ -101,40 +101,10 @@ icon_advances count = advances (icon_entries count)
     (λ sizes offset. icon_tells count (length sizes) (last_largest sizes) offset)
     (λ sizes offset. icon_begins count (length sizes) (last_largest sizes) offset)
 
--- an entry that was read leads on
-pub icons_on : (seen after : ℕ) (best largest : Option ImageSize) (sizes : List ImageSize) (offset : ℕ)
-    (r : Result (Found ImageSize ImageSize) Halt)
-    → Seen seen best sizes → IfOk r (λ found. IconsOn seen best after largest (said_at offset found))
-    → IfOk r (λ found. KeepsOn (λ held q. Seen after largest held) sizes (said_at offset found))
-icons_on seen after best largest sizes offset (Ok (found.Answer x)) h on = tt
-icons_on seen after best largest sizes offset (Ok (found.Other size length)) h on =
-    let more = largest_on best sizes size h.is h.area in record {
-      many = length_push sizes size ∙ ap (λ n. n + 1) h.many ∙ sym on.0;
-      is = more.0 ∙ sym on.1;
-      area = more.1 ∙ ap area_if_some (sym on.1);
-      icon = on.2;
-    }
-icons_on seen after best largest sizes offset (Err e) h on = tt
-
-pub icons_stay : (seen after : ℕ) (best largest : Option ImageSize) (sizes : List ImageSize)
-    (r : Result (Found ImageSize ImageSize) Halt)
-    → Seen seen best sizes → IfErr r (λ _. (after ≡ seen) × (largest ≡ best)) → IfErr r (λ _. Seen after largest sizes)
-icons_stay seen after best largest sizes (Ok found) h same = tt
-icons_stay seen after best largest sizes (Err e) h same = rw (same.0, same.1) h
-
--- it is the record behind these entries
-pub icon_as : {a b : State} {r : Result (Said ImageSize ImageSize) Halt} (count seen : ℕ) (best : Option ImageSize)
-    (offset : ℕ)
-    → Runs a b r (layout_reads a.held.input (icon_in count seen best offset)) → (sizes : List ImageSize)
-    → Seen seen best sizes
-    → Runs a b r (layout_reads a.held.input ((icon_entries count).said sizes offset))
-icon_as {a} {b} {r} count seen best offset run sizes h =
-    subst (λ w. Runs a b r w) (λ i. layout_reads a.held.input (icon_in count (sym h.many i) (sym h.is i) offset)) run
-
 -- from the end of the input on there is no entry
-pub icon_in_ends : (count seen : ℕ) (best : Option ImageSize) (d : List ℕ) (offset : ℕ) → length d ≤ offset
+icon_ends : (count seen : ℕ) (best : Option ImageSize) (d : List ℕ) (offset : ℕ) → length d ≤ offset
     → uncounted (layout_reads d (icon_in count seen best offset)) ≡ just (map_answer Decided (ok_or best Corrupted)) []
-icon_in_ends count seen best d offset far =
+icon_ends count seen best d offset far =
     on_test (λ t. uncounted (layout_reads d t) ≡ just (map_answer Decided (ok_or best Corrupted)) [])
     (eqb seen count) (icon_answer best) _ (λ _. ap uncounted (ends best))
     (λ _. ap uncounted (there_beyond d offset 2 (icon_entry best offset) far ∙ ends best)) where
@@ -143,13 +113,47 @@ icon_in_ends count seen best d offset far =
       ends None = refl
       ends (Some size) = refl
 
-pub icon_ends : (count seen : ℕ) (best : Option ImageSize) (sizes : List ImageSize) → Seen seen best sizes
-    → (d : List ℕ) (offset : ℕ) → length d ≤ offset
-    → uncounted (layout_reads d ((icon_entries count).said sizes offset))
-    ≡ just (map_answer Decided (ok_or best Corrupted)) []
-icon_ends count seen best sizes h d offset far =
-    icon_in_ends count (length sizes) (last_largest sizes) d offset far
-    ∙ ap (λ o. just (map_answer Decided (ok_or o Corrupted)) []) h.is
+-- ---- the entries over how many were read, and the largest of these
+
+pub ico_tells : (s : Entries) (offset : ℕ) → Tells (λ p. offset < p) (ico_step s offset)
+ico_tells s offset = tells_bind (λ p. offset < p) (icon_in s.count s.seen s.largest offset) (after (icons_with s) decides)
+    (icon_tells s.count s.seen s.largest offset) (λ y. tt) (λ v q up. up)
+
+pub ico_begins : (s : Entries) (offset : ℕ) → Begins offset (ico_step s offset)
+ico_begins s offset = begins_bind offset (icon_in s.count s.seen s.largest offset) (after (icons_with s) decides)
+    (icon_begins s.count s.seen s.largest offset) (λ y. tt) (λ y. tt)
+
+pub ico_follows : CanFollow ico_step
+ico_follows = states_follow ico_step ico_tells ico_begins
+
+pub ico_ends : (s : Entries) → EndsBy ico_step s (ok_or s.largest Corrupted)
+ico_ends s d offset far = ends_after d (icon_in s.count s.seen s.largest offset) (icons_with s) (ok_or s.largest Corrupted)
+    (icon_ends s.count s.seen s.largest d offset far)
+
+-- what is known after entries of these sizes
+record Seen (sizes : List ImageSize) (s : Entries) : Type 0 where
+  many : length sizes ≡ s.seen
+  is : last_largest sizes ≡ s.largest
+  area : greatest_area sizes ≡ area_if_some s.largest
+
+abbrev icons_first : ℕ → Entries
+icons_first count = record { count = count; seen = 0; largest = None }
+
+entries_are : (count : ℕ) (d : List ℕ) → run ico_step (icons_first count) 6 d ≡ chain_at (icon_entries count) d
+entries_are count d = run_is ico_step d (ico_follows d) (icon_entries count) (λ s. record s { count = count }) icons_with Seen
+    (icon_advances count d)
+    (λ sizes s offset known i. layout_reads d (bind (icon_in count (sym known.many i) (sym known.is i) offset)
+    (after (icons_with (record s { count = count })) decides)))
+    (λ sizes s offset v q known got. let on = largest_on s.largest sizes v known.is known.area in
+    record { many = length_push sizes v ∙ ap (λ n. n + 1) known.many; is = on.0; area = on.1 })
+    (icons_first count) (record { many = refl; is = refl; area = refl })
+
+-- the size of an icon is what the entries give, after their number
+pub ico_is : (d : List ℕ) → ico d ≡ and_then (layout_reads d ico_open) (λ s. run ico_step s.records s.offset d)
+ico_is d = then_then (number_read d Little 4 2) opens (λ s. run ico_step s.records s.offset d)
+    (λ count. chain_at (icon_entries count) d) (λ count. sym (entries_are count d)) where
+      opens : ℕ → Reads (Start Entries)
+      opens count = gives (record { records = icons_first count; offset = 6 })
 
 entry_each : (count : ℕ) (sizes : List ImageSize) (offset : ℕ) → Each 2 ((icon_entries count).said sizes offset)
 entry_each count sizes offset = icon_each count (length sizes) (last_largest sizes) offset

@@ -1,6 +1,8 @@
 -- ILBM: how a walk along its chunks goes, how many bytes they are read from, and what it sees of an input.
-use Rattle.std.proofs.Common.{◌≡◌, false, ℕ, ◌+◌, ◌<◌, ◌≤◌, true, List, length, ap, arith}
+use Rattle.std.proofs.Common.{◌≡◌, false, ℕ, ◌+◌, ◌<◌, ◌≤◌, true, List, length, Err, ap, sym, refl, arith}
 use Rattle.imagesize_walked.specs.Ilbm.{ilbm, ilbm_chunks, ilbm_named, bitmap_header, chunk_bytes, chunk_length, is_bitmap_header, is_body, ilbm_chunk}
+use Rattle.imagesize_walked.specs.Walks.{ilbm_step}
+use Rattle.imagesize_walked.specs.declared.formats.ilbm.Chunks.{Chunks}
 use Rattle.imagesize_types.specs.declared.size.ImageSize.{ImageSize}
 use Rattle.imagesize_source.specs.declared.halt.Halt.TheVariants.{Corrupted, Ended}
 use Rattle.imagesize_source.specs.Reading.{refuses, uncounted}
@@ -8,11 +10,13 @@ use Rattle.imagesize_source.specs.Chain.{Said, Next, Advances}
 use Rattle.imagesize_source.specs.Counts.{AtMost}
 use Rattle.imagesize_source.specs.Extension.{Plain}
 use Rattle.imagesize_source.specs.Layout.{Layout, refuse, done, layout_reads}
-use Rattle.imagesize_source.proofs.Advances.{Begins, Tells, advances}
+use Rattle.imagesize_source.specs.Walk.{CanFollow, EndsBy, after, decides, run}
+use Rattle.imagesize_source.proofs.Advances.{Begins, Tells, advances, begins_bind, states_follow, tells_bind}
 use Rattle.imagesize_source.proofs.Ahead.{Ahead, chain_ahead}
 use Rattle.imagesize_source.proofs.PastTheEnd.{bytes_beyond}
 use Rattle.imagesize_source.proofs.Agreement.{without_texts}
 use Rattle.imagesize_source.proofs.ChainLaws.{local_chain, lasts_chain, chain_cost}
+use Rattle.imagesize_source.proofs.States.{ends_after, run_is}
 use Rattle.imagesize_source.proofs.Tests.{on_test}
 use Rattle.imagesize_source.proofs.Way.{RecordedLaws, answers_last}
 
@@ -26,10 +30,10 @@ by_name P offset head body header other =
     (λ _. other))
 
 -- a chunk tells an offset behind its own
-pub chunk_tells : (offset : ℕ) → Tells (λ p. offset < p) (ilbm_chunk offset)
+chunk_tells : (offset : ℕ) → Tells (λ p. offset < p) (ilbm_chunk offset)
 chunk_tells offset head = by_name (Tells (λ p. offset < p)) offset head tt (λ width height. tt) (omega arith)
 
-pub chunk_begins : (offset : ℕ) → Begins offset (ilbm_chunk offset)
+chunk_begins : (offset : ℕ) → Begins offset (ilbm_chunk offset)
 chunk_begins offset = (omega arith, omega arith)
 
 pub ilbm_advances : (d : List ℕ) → Advances ilbm_chunks d
@@ -41,9 +45,28 @@ chunk_at_most passed offset =
     (omega arith, λ head. by_name (AtMost 4) offset head tt (omega arith, λ width. (omega arith, λ height. tt)) tt)
 
 -- from the end of the input on there is no chunk
-pub ilbm_ends : (d : List ℕ) (offset : ℕ) → length d ≤ offset
+chunk_ends : (d : List ℕ) (offset : ℕ) → length d ≤ offset
     → uncounted (layout_reads d (ilbm_chunk offset)) ≡ refuses Ended
-ilbm_ends d offset h = ap uncounted (bytes_beyond d offset 8 (λ head. ilbm_named offset head) h (omega arith))
+chunk_ends d offset h = ap uncounted (bytes_beyond d offset 8 (λ head. ilbm_named offset head) h (omega arith))
+
+pub ilbm_tells : (s : Chunks) (offset : ℕ) → Tells (λ p. offset < p) (ilbm_step s offset)
+ilbm_tells s offset = tells_bind (λ p. offset < p) (ilbm_chunk offset) (after (λ _. s) decides) (chunk_tells offset) (λ y. tt)
+    (λ v q up. up)
+
+pub ilbm_begins : (s : Chunks) (offset : ℕ) → Begins offset (ilbm_step s offset)
+ilbm_begins s offset =
+    begins_bind offset (ilbm_chunk offset) (after (λ _. s) decides) (chunk_begins offset) (λ y. tt) (λ y. tt)
+
+pub ilbm_follows : CanFollow ilbm_step
+ilbm_follows = states_follow ilbm_step ilbm_tells ilbm_begins
+
+pub ilbm_ends : (s : Chunks) → EndsBy ilbm_step s (Err Ended)
+ilbm_ends s d offset far = ends_after d (ilbm_chunk offset) (λ _. s) (Err Ended) (chunk_ends d offset far)
+
+-- the size of an interleaved bitmap is what its chunks give, from the first one on
+pub ilbm_is : (s : Chunks) (d : List ℕ) → ilbm d ≡ run ilbm_step s 12 d
+ilbm_is s d = sym (run_is ilbm_step d (ilbm_follows d) ilbm_chunks (λ x. x) (λ x _. x) (λ _ _. Unit {0}) (ilbm_advances d)
+    (λ passed x offset _. refl) (λ passed x offset v q _ got. tt) s tt)
 
 -- With its type it is read from at most 28 bytes more than the input has: the chunks stand behind the form's type.
 pub ilbm_laws : RecordedLaws 12 18 20 true false ilbm

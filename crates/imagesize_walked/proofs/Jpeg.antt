@@ -1,37 +1,37 @@
 -- JPEG: how a walk along its segments goes, how many bytes they are read from, and what it sees of an input.
-use Rattle.std.proofs.Common.{false, zero-add, ◌≡◌, ℕ, ◌+◌, ◌-◌, ◌*◌, ◌^◌, ◌<◌, ◌≤◌, Bool, true, cond, eqb, leb, List, [], ◌∷◌, ◌++◌, length, take, drop, Result, Ok, Err, IfOk, refl, sym, ap, ◌∙◌, subst, arith, slice_index, IfErr}
+use Rattle.std.proofs.Common.{false, zero-add, ◌≡◌, ℕ, ◌+◌, ◌-◌, ◌*◌, ◌^◌, ◌<◌, ◌≤◌, Bool, true, cond, eqb, leb, List, [], ◌∷◌, ◌++◌, length, take, drop, Ok, Err, refl, sym, ap, ◌∙◌, subst, arith, slice_index}
 use Rattle.std.proofs.lemmas.Bool.Decides.{nat_tests}
 use Rattle.std.proofs.lemmas.List.Sums.{sum_by-append}
 use Rattle.std.specs.Prelude.{count_by}
-use Rattle.imagesize_walked.specs.Jpeg.{jpeg, jpeg_segments, jpeg_segment, jpeg_marked, jpeg_frame, jpeg_other, is_own_frame, is_own_end, depth}
-use Rattle.imagesize_walked.specs.Walks.{depth_behind, is_plain, LeadsTo, LeadsOn, Nested, Stands}
+use Rattle.imagesize_walked.specs.Jpeg.{jpeg, jpeg_segments, jpeg_segment, jpeg_marked, jpeg_frame, jpeg_other, is_own_frame, is_own_end, count_starts, count_ends, depth}
+use Rattle.imagesize_walked.specs.Walks.{depth_behind, is_plain, jpeg_first, jpeg_step}
+use Rattle.imagesize_walked.specs.declared.formats.jpeg.Segments.{Segments}
 use Rattle.imagesize_types.specs.declared.size.ImageSize.{ImageSize}
-use Rattle.imagesize_source.specs.declared.halt.Halt.{Halt}
 use Rattle.imagesize_source.specs.declared.halt.Halt.TheVariants.{Corrupted, Ended}
-use Rattle.imagesize_source.specs.Chain.{Along, Said, Next, Advances, start}
+use Rattle.imagesize_source.specs.Chain.{Said, Decided, Next, Advances, start}
 use Rattle.imagesize_source.specs.Counts.{AtMost}
 use Rattle.imagesize_source.specs.Extension.{Plain}
 use Rattle.imagesize_source.specs.Input.{part, span_of}
 use Rattle.imagesize_source.specs.Numbers.{number}
 use Rattle.imagesize_source.specs.Strides.{Strides}
 use Rattle.imagesize_source.specs.declared.endian.Endian.TheVariants.{Big}
-use Rattle.imagesize_source.specs.Layout.{Layout, layout_reads, refuse, done}
-use Rattle.imagesize_source.specs.Reading.{Reads, map_answer, put_behind, bytes_at, number_at, refuses, uncounted}
-use Rattle.imagesize_source.specs.Paying.{Nears}
-use Rattle.imagesize_source.specs.State.{State, IsSlice, Runs, total}
-use Rattle.imagesize_source.specs.Walk.{KeepsOn, said_at}
-use Rattle.imagesize_source.specs.declared.walk.Found.{Found}
-use Rattle.imagesize_source.specs.declared.walk.Found.TheVariants as found
-use Rattle.imagesize_source.proofs.Advances.{Begins, Tells, advances, tells}
+use Rattle.imagesize_source.specs.Layout.{Layout, bind, layout_reads, refuse, done}
+use Rattle.imagesize_source.specs.Reading.{Reads, go_on, map_answer, put_behind, bytes_at, number_at, refuses, uncounted}
+use Rattle.imagesize_source.specs.State.{State, IsSlice, total}
+use Rattle.imagesize_source.specs.Walk.{CanFollow, EndsBy, after, decides, run}
+use Rattle.imagesize_source.proofs.Advances.{Begins, Tells, advances, begins_bind, states_follow, tells, tells_bind}
 use Rattle.imagesize_source.proofs.PastTheEnd.{bytes_beyond}
 use Rattle.imagesize_source.proofs.Agreement.{without_texts}
 use Rattle.imagesize_source.proofs.ChainLaws.{local_chain, lasts_chain, chain_cost, chain_within}
 use Rattle.imagesize_source.proofs.Counts.{at_most, total-span_of}
 use Rattle.imagesize_source.proofs.Answered.{bytes_is, part_first, big_pair, on_answer}
 use Rattle.imagesize_source.proofs.Extension.{bytes_ok, number_ok}
+use Rattle.imagesize_source.proofs.Layouts.{over-bind}
 use Rattle.imagesize_source.proofs.Parts.{part_behind, part_front, part_length}
 use Rattle.imagesize_source.proofs.Runs.{total-append}
+use Rattle.imagesize_source.proofs.Saying.{Saying, saying}
 use Rattle.imagesize_source.proofs.Slices.{slice_gives}
+use Rattle.imagesize_source.proofs.States.{ends_after, run_is}
 use Rattle.imagesize_source.proofs.Strides.{strides_on}
 use Rattle.imagesize_source.proofs.Tests.{on_test}
 use Rattle.imagesize_source.proofs.Way.{RecordedLaws, answers_last}
@@ -51,11 +51,11 @@ by_head P k offset head none frame other =
     (λ _. none)
 
 -- a segment tells an offset behind its own
-pub segment_tells : (k offset : ℕ) → Tells (λ p. offset < p) (jpeg_segment k offset)
+segment_tells : (k offset : ℕ) → Tells (λ p. offset < p) (jpeg_segment k offset)
 segment_tells k offset head =
     by_head (Tells (λ p. offset < p)) k offset head tt (λ height width. tt) (λ marker length. omega arith)
 
-pub segment_begins : (k offset : ℕ) → Begins offset (jpeg_segment k offset)
+segment_begins : (k offset : ℕ) → Begins offset (jpeg_segment k offset)
 segment_begins k offset = (omega arith, omega arith)
 
 pub jpeg_advances : (d : List ℕ) → Advances jpeg_segments d
@@ -76,58 +76,59 @@ counts_on p markers marker = sum_by-append (λ m. cond (p m) 1 0) markers (marke
     ∙ ap (λ n. count_by p markers + n)
     (zero-add (cond (p marker) 1 0))
 
-pub nested_on : (k marker : ℕ) (markers : List ℕ) → (marker ≡ 0xD9 → 0 < k) → Nested k markers
-    → Nested (depth_behind k marker)
-    (markers ++ marker ∷ [])
+-- After these markers, k images are started and not ended. No image was ended that was not started.
+record Nested (k : ℕ) (markers : List ℕ) : Type 0 where
+  is : depth markers ≡ k
+  balanced : count_ends markers ≤ count_starts markers
+
+nested_on : (k marker : ℕ) (markers : List ℕ) → (marker ≡ 0xD9 → 0 < k) → Nested k markers
+    → Nested (depth_behind k marker) (markers ++ marker ∷ [])
 nested_on k marker markers inner h =
     let starts = counts_on (λ m. eqb m 0xD8) markers marker in
     let ends = counts_on (λ m. eqb m 0xD9) markers marker in
     let was = h.is in let before = h.balanced in
     record { is = grind (arith, nat_tests); balanced = grind (arith, nat_tests) }
 
--- a segment leads no more than one image deeper
-pub depth_rises : (k marker : ℕ) → depth_behind k marker ≤ k + 1
-depth_rises k marker = grind (arith, nat_tests)
+-- from the end of the input on there is no segment
+segment_ends : (d : List ℕ) (k offset : ℕ) → length d ≤ offset
+    → uncounted (layout_reads d (jpeg_segment k offset)) ≡ refuses Ended
+segment_ends d k offset h = ap uncounted (bytes_beyond d offset 2 (λ head. cond (eqb (slice_index head 0) 0xFF)
+    (jpeg_marked k offset (slice_index head 1)) (refuse Corrupted)) h (omega arith))
 
--- the first segment stands in the image itself
-pub stands_first : Stands 0 [] 2
-stands_first = record { nested = record { is = refl; balanced = omega arith }; shallow = omega arith }
+-- ---- the segments over a depth
 
--- and an offset of 64 bits stands no deeper than a number of 64 bits
-pub shallow : (k offset : ℕ) → (markers : List ℕ) × Stands k markers offset → offset < 2 ^ 64 → k + 1 < 2 ^ 64
-shallow k offset h small = let less = h.1.shallow in omega arith
+pub jpeg_tells : (s : Segments) (offset : ℕ) → Tells (λ p. offset < p) (jpeg_step s offset)
+jpeg_tells s offset = tells_bind {D = Segments} {Z = ImageSize} (λ p. offset < p) (jpeg_segment s.depth offset)
+    (after (λ marker. record { depth = depth_behind s.depth marker }) decides) (segment_tells s.depth offset) (λ y. tt) (λ v q up. up)
 
--- behind a segment the next one stands as deep as that leads
-pub stands_on : (k behind offset : ℕ) (markers : List ℕ) (r : Result (Found ℕ ImageSize) Halt) (a b : State)
-    → Stands k markers offset
-    → IfOk r (λ found. LeadsOn k behind (said_at offset found)) → IfOk r (λ found. Nears a b offset (said_at offset found))
-    → IfOk r (λ found. KeepsOn (Stands behind) markers (said_at offset found))
-unfolding LeadsTo
-stands_on k behind offset markers (Ok (found.Answer size)) a b h leads nears = tt
-stands_on k behind offset markers (Ok (found.Other marker length)) a b h leads nears = record {
-  nested = rw leads.0 (nested_on k marker markers leads.1 h.nested);
-  shallow = omega (arith, depth_rises k marker, h.shallow, nears.0, leads.0);
-}
-stands_on k behind offset markers (Err why) a b h leads nears = tt
+pub jpeg_begins : (s : Segments) (offset : ℕ) → Begins offset (jpeg_step s offset)
+jpeg_begins s offset = begins_bind {D = Segments} {Z = ImageSize} offset (jpeg_segment s.depth offset)
+    (after (λ marker. record { depth = depth_behind s.depth marker }) decides) (segment_begins s.depth offset) (λ y. tt) (λ y. tt)
 
--- it is the segment behind these markers
-pub segment_as : {a b : State} {r : Result (Said ℕ ImageSize) Halt} (k offset : ℕ)
-    → Runs a b r (layout_reads a.held.input (jpeg_segment k offset)) → (markers : List ℕ) → Stands k markers offset
-    → Runs a b r (layout_reads a.held.input (jpeg_segment (depth markers) offset))
-segment_as {a} {b} {r} k offset run markers h =
-    subst (λ n. Runs a b r (layout_reads a.held.input (jpeg_segment n offset))) (sym h.nested.is) run
+pub jpeg_follows : CanFollow jpeg_step
+jpeg_follows = states_follow jpeg_step jpeg_tells jpeg_begins
 
--- a segment that was not read leaves the depth
-pub stands_stay : (k behind offset : ℕ) (markers : List ℕ) (r : Result (Found ℕ ImageSize) Halt) → Stands k markers offset
-    → IfErr r (λ _. behind ≡ k) → IfErr r (λ _. Stands behind markers offset)
-stands_stay k behind offset markers (Ok found) h same = tt
-stands_stay k behind offset markers (Err why) h same = rw same h
+pub jpeg_ends : (s : Segments) → EndsBy jpeg_step s (Err Ended)
+jpeg_ends s d offset far = ends_after d (jpeg_segment s.depth offset) _ (Err Ended) (segment_ends d s.depth offset far)
 
--- from the end of the input on there is none
-pub jpeg_ends : (d : List ℕ) (depth offset : ℕ) → length d ≤ offset
-    → uncounted (layout_reads d (jpeg_segment depth offset)) ≡ refuses Ended
-jpeg_ends d depth offset h = ap uncounted (bytes_beyond d offset 2 (λ head. cond (eqb (slice_index head 0) 0xFF)
-    (jpeg_marked depth offset (slice_index head 1)) (refuse Corrupted)) h (omega arith))
+-- a segment that ends an image within the image is in one
+abbrev Inner : ℕ → Said ℕ ImageSize → Type 0
+Inner k (Decided size) = Unit {0}
+Inner k (Next marker offset) = marker ≡ 0xD9 → 0 < k
+
+segment_inner : (k offset : ℕ) → Saying (Inner k) (jpeg_segment k offset)
+segment_inner k offset head = grind (arith, nat_tests)
+
+-- the size of a JPEG is what its segments give, from the first one on
+pub jpeg_is : (d : List ℕ) → jpeg d ≡ run jpeg_step jpeg_first 2 d
+jpeg_is d = sym (run_is jpeg_step d (jpeg_follows d) jpeg_segments (λ k. record { depth = k }) depth_behind
+    (λ markers k. Nested k markers) (jpeg_advances d)
+    (λ markers k offset known i. layout_reads d (bind (jpeg_segment (sym known.is i) offset)
+    (after (λ marker. record { depth = depth_behind k marker }) decides)))
+    (λ markers k offset v q known got. nested_on k v markers
+    (saying (Inner k) d (jpeg_segment k offset) (Next v q) (segment_inner k offset)
+    (subst (λ n. (layout_reads d (jpeg_segment n offset)).answer ≡ Ok (Next v q)) known.is got)) known)
+    0 (record { is = refl; balanced = omega arith }))
 
 -- What may be read from an offset on: the bytes there, and 6 more where a segment can begin. A length below 2
 -- leads to one of its own bytes, which is not FF.
@@ -245,22 +246,27 @@ plain_says d (a ∷ b ∷ high ∷ low ∷ []) offset long is plain =
     rw (head, ff, no_frame, no_end, size) refl
 plain_says d other offset long is plain = absurd (omega (arith, long))
 
--- a walk has come over such a segment
-pub plain_strides : {a s : State} {t : Along ℕ} (head : List ℕ) (offset next : ℕ) → IsSlice s → length s.held.input < 2 ^ 63
-    → offset + 4 ≤ length s.held.input → head ≡ part s.held.input offset 4 → is_plain head ≡ true
-    → next ≡ offset + (2 + number Big (slice_index head 2 ∷ slice_index head 3 ∷ []))
-    → Strides jpeg_segments (λ markers. Stands 0 markers offset) a s t offset
-    → Strides jpeg_segments (λ markers. Stands 0 markers next) a s t next
-plain_strides {a} {s} {t} head offset next slice short fits is plain to w =
-    let long : length head ≡ 4 = omega (arith, ap length is, part_length s.held.input offset 4, fits) in
+-- and leaves the next segment in the image itself
+plain_steps : (d head : List ℕ) (offset : ℕ) → length head ≡ 4 → head ≡ part d offset 4 → is_plain head ≡ true
+    → (layout_reads d (jpeg_step jpeg_first offset)).answer
+    ≡ Ok (Next jpeg_first (offset + (2 + number Big (slice_index head 2 ∷ slice_index head 3 ∷ []))))
+plain_steps d head offset long is plain =
     let marker : ℕ = slice_index head 1 in
-    let says = plain_says s.held.input head offset long is plain ∙ ap (λ n. Ok (Next marker n)) (sym to) in
     let level : depth_behind 0 marker ≡ 0 = grind (arith, nat_tests) in
-    let inner : marker ≡ 0xD9 → 0 < 0 = λ ends. absurd (let no : is_plain head ≡ false = grind (arith, nat_tests) in
-    let both : true ≡ false = sym plain ∙ no in cc) in
-    strides_on jpeg_segments jpeg_advances (λ markers. Stands 0 markers offset) w (λ markers. Stands 0 markers next) marker next
-    (λ markers stands. segment_as 0 offset (slice_gives s (Next marker next) slice short says) markers stands)
-    (λ markers stands. record {
-      nested = subst (λ k. Nested k (markers ++ marker ∷ [])) level (nested_on 0 marker markers inner stands.nested);
-      shallow = omega (arith, to);
-    })
+    let on : Said ℕ ImageSize → Layout (Said Segments ImageSize) =
+    after (λ marker. record { depth = depth_behind 0 marker }) decides in
+    ap (λ r. r.answer) (over-bind d (jpeg_segment 0 offset) on)
+    ∙ ap (λ r. (go_on (layout_reads d (jpeg_segment 0 offset)).marks r (λ said. layout_reads d (on said))).answer)
+    (plain_says d head offset long is plain)
+    ∙ ap (λ k. Ok (Next (record { depth = k }) (offset + (2 + number Big (slice_index head 2 ∷ slice_index head 3 ∷ []))))) level
+
+-- a walk has come over such a segment
+pub plain_strides : {a b : State} {s : Segments} {first : ℕ} (head : List ℕ) (offset next : ℕ) → IsSlice b
+    → length b.held.input < 2 ^ 63
+    → offset + 4 ≤ length b.held.input → head ≡ part b.held.input offset 4 → is_plain head ≡ true
+    → next ≡ offset + (2 + number Big (slice_index head 2 ∷ slice_index head 3 ∷ []))
+    → Strides jpeg_step a b s first jpeg_first offset → Strides jpeg_step a b s first jpeg_first next
+plain_strides {a} {b} head offset next slice short fits is plain to w =
+    let long : length head ≡ 4 = omega (arith, ap length is, part_length b.held.input offset 4, fits) in
+    let says = plain_steps b.held.input head offset long is plain ∙ ap (λ n. Ok (Next jpeg_first n)) (sym to) in
+    strides_on jpeg_step jpeg_follows w jpeg_first next (slice_gives b (Next jpeg_first next) slice short says)

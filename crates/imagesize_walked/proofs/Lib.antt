@@ -2,3 +2,4 @@ pub mod Ico
 pub mod Ilbm
 pub mod Jpeg
 pub mod Tiff
+pub mod Within

@@ -1,15 +1,18 @@
 -- TIFF: how a walk along the entries goes, how many bytes they are read from, and what it sees of an input.
-use Rattle.std.proofs.Common.{◌≡◌, ◌≢◌, ℕ, ◌+◌, ◌-◌, ◌^◌, ◌<◌, ◌≤◌, min, Bool, true, false, cond, eqb, List, [], ◌∷◌, ◌++◌, length, take, Option, Some, None, Result, Ok, Err, IfOk, IfErr, refl, sym, ap, ◌∙◌, subst, arith}
+use Rattle.std.proofs.Common.{◌≡◌, ◌≢◌, ℕ, ◌+◌, ◌-◌, ◌^◌, ◌<◌, ◌≤◌, min, Bool, true, false, cond, eqb, leb, List, [], ◌∷◌, ◌++◌, length, take, Option, Some, None, Result, Ok, Err, refl, sym, ap, ◌∙◌, subst, arith}
 use Rattle.std.proofs.lemmas.Bool.Decides.{nat_tests}
 use Rattle.std.proofs.lemmas.List.{append-nil, length_push}
 use Rattle.std.proofs.lemmas.List.Elements.{filter-append}
 use Rattle.std.specs.Prelude.{filter, option_and_then}
 use Rattle.std.specs.List.{last_or}
-use Rattle.imagesize_walked.specs.Walks.{EntriesOn, Known}
+use Rattle.imagesize_walked.specs.Walks.{listed_end, listed_first, listed_step, listed_with, tiff_end, tiff_open, tiff_step}
 use Rattle.imagesize_types.specs.Sides.{size_if_known}
 use Rattle.imagesize_walked.specs.Tiff.{byte_order, entry_behind, entry_says, side_with, size_or_next, count_bytes, directory_at, entry_bytes, head_bytes, field_type_in, field_type_of, last_value, size_in, stated_offset, tag_in, tiff, tiff_directory, tiff_entries, tiff_entry, tiff_head, tiff_header, tiff_value, value_bytes, value_of, version_of, whole_value}
 use Rattle.imagesize_walked.specs.declared.formats.tiff.Entry.{Entry}
 use Rattle.imagesize_walked.specs.declared.formats.tiff.Header.{Header}
+use Rattle.imagesize_walked.specs.declared.formats.tiff.Listed.{Listed}
+use Rattle.imagesize_walked.specs.declared.formats.tiff.Directory.{Directory}
+use Rattle.imagesize_walked.specs.declared.formats.tiff.Directory.TheVariants as directory
 use Rattle.imagesize_walked.specs.declared.formats.tiff.FieldType.{FieldType}
 use Rattle.imagesize_walked.specs.declared.formats.tiff.Version.{Version}
 use Rattle.imagesize_walked.specs.declared.formats.tiff.Version.TheVariants.{Tiff, BigTiff}
@@ -17,30 +20,29 @@ use Rattle.imagesize_types.specs.declared.size.ImageSize.{ImageSize}
 use Rattle.imagesize_source.specs.declared.halt.Halt.{Halt}
 use Rattle.imagesize_source.specs.declared.halt.Halt.TheVariants.{Ended, InvalidIfdValueLength, NoDimensionsInIfd}
 use Rattle.imagesize_source.specs.declared.endian.Endian.{Endian}
-use Rattle.imagesize_source.specs.Chain.{Said, Decided, Next, Chain, Advances, start, verdict, chain_at}
+use Rattle.imagesize_source.specs.Chain.{Said, Decided, Next, Advances, verdict, chain_at}
 use Rattle.imagesize_source.specs.Counts.{AtMost, Each}
 use Rattle.imagesize_source.specs.Extension.{Lasts, Never, Plain}
 use Rattle.imagesize_source.specs.Input.{span_of}
 use Rattle.imagesize_source.specs.declared.span.Span.{Span}
 use Rattle.imagesize_source.specs.Layout.{Layout, layout_reads, bind, whole, accept}
 use Rattle.imagesize_source.specs.Layout.Layout.{field, refuse, «done»}
-use Rattle.imagesize_source.specs.Reading.{Reads, and_then, just, number_at, number_read, refuses, uncounted, with_answer}
-use Rattle.imagesize_source.specs.Walk.{KeepsOn, said_at}
-use Rattle.imagesize_source.specs.declared.walk.Found.{Found}
-use Rattle.imagesize_source.specs.declared.walk.Found.TheVariants as found
-use Rattle.imagesize_source.proofs.Layouts.{then_gives}
+use Rattle.imagesize_source.specs.Reading.{Reads, and_then, bytes_at, gives, just, map_answer, number_at, number_read, refuses, uncounted, with_answer}
+use Rattle.imagesize_source.specs.Walk.{CanFollow, EndsBy, after, decides, run}
+use Rattle.imagesize_source.specs.declared.walk.Start.{Start}
+use Rattle.imagesize_source.proofs.Layouts.{no_span, over-bind, then_gives, then_then}
 use Rattle.imagesize_source.specs.State.{State, Runs, IsSound, total}
-use Rattle.imagesize_source.proofs.Advances.{Tells, Begins, advances}
+use Rattle.imagesize_source.proofs.Advances.{Tells, Begins, advances, begins_bind, states_follow, tells_bind}
 use Rattle.imagesize_source.proofs.Ahead.{Ahead, chain_ahead}
 use Rattle.imagesize_source.proofs.PastTheEnd.{bytes_beyond, saturated_by}
 use Rattle.imagesize_source.proofs.ChainLaws.{chain_cost, local_chain, lasts_chain}
-use Rattle.imagesize_source.proofs.Chains.{chain_stop}
 use Rattle.imagesize_source.proofs.Counts.{Bounded, at_most, at_most_bind, bounded_layout, bounded_then, then_within, total-span_of, total_behind}
 use Rattle.imagesize_source.proofs.Answered.{on_answer}
 use Rattle.imagesize_source.proofs.Agreement.{each_texts, local_layout, local_number, local_then, without_texts}
 use Rattle.imagesize_source.proofs.Extension.{more, number_ok, onward_more}
 use Rattle.imagesize_source.proofs.Reached.{reads_nothing, runs_bind, refused_bind}
 use Rattle.imagesize_source.proofs.Runs.{total-append}
+use Rattle.imagesize_source.proofs.States.{ends_after, goes, run_is, run_stop, run_unfolds, run_within}
 use Rattle.imagesize_source.proofs.Tests.{on_test}
 use Rattle.imagesize_source.proofs.Way.{RecordedLaws, answers_last}
 use Rattle.imagesize_source.proofs.Lists.{last_push}
@@ -169,20 +171,20 @@ module _ (header : Header) (size : Entry → Option ImageSize) (offset : ℕ) wh
       ap uncounted (bytes_beyond d offset (head_bytes header.version) (λ head. after_head header size offset (take 4 head))
       far (head_some header.version))
 
-pub entries_advance : (header : Header) (count : ℕ) (d : List ℕ) → Advances (tiff_entries header count) d
+entries_advance : (header : Header) (count : ℕ) (d : List ℕ) → Advances (tiff_entries header count) d
 entries_advance header count = advances (tiff_entries header count)
     (λ entries offset. record_tells header (size_after entries) offset (eqb (length entries) count))
     (λ entries offset. record_begins header (size_after entries) offset (eqb (length entries) count))
 
 -- the same by the sides that the entries before give
 module _ (header : Header) (count seen : ℕ) (width height : Option ℕ) where
-  pub behind_tells : (offset : ℕ) → Tells (λ p. offset < p) (entry_behind header count seen width height offset)
+  behind_tells : (offset : ℕ) → Tells (λ p. offset < p) (entry_behind header count seen width height offset)
   behind_tells offset = record_tells header (size_by width height) offset (eqb seen count)
 
-  pub behind_begins : (offset : ℕ) → Begins offset (entry_behind header count seen width height offset)
+  behind_begins : (offset : ℕ) → Begins offset (entry_behind header count seen width height offset)
   behind_begins offset = record_begins header (size_by width height) offset (eqb seen count)
 
-  pub behind_ends : (d : List ℕ) (offset : ℕ) → length d ≤ offset
+  behind_ends : (d : List ℕ) (offset : ℕ) → length d ≤ offset
       → uncounted (layout_reads d (entry_behind header count seen width height offset))
       ≡ just (cond (eqb seen count) (Err NoDimensionsInIfd) (Err Ended)) []
   behind_ends d offset far =
@@ -204,115 +206,186 @@ last_value_on tag entries entry =
       by_tag true = ap (option_and_then (λ e. e.value)) (last_push None (filter (λ e. eqb e.tag tag) entries) entry)
       by_tag false = ap value_in (append-nil (filter (λ e. eqb e.tag tag) entries))
 
--- with one entry more
-pub known_on : (i : ℕ) (width height wide high : Option ℕ) (entries : List Entry) (entry : Entry)
-    → wide ≡ cond (eqb entry.tag 0x100)
-    entry.value width → high ≡ cond (eqb entry.tag 0x101) entry.value height → Known i width height entries
-    → Known (i + 1) wide high
-    (entries ++ entry ∷ [])
-known_on i width height wide high entries entry is_wide is_high h = record {
+-- what is known after these entries
+record Known (entries : List Entry) (l : Listed) : Type 0 where
+  many : length entries ≡ l.seen
+  wide : last_value 0x100 entries ≡ l.width
+  high : last_value 0x101 entries ≡ l.height
+
+known_on : (entries : List Entry) (l : Listed) (entry : Entry) → Known entries l
+    → Known (entries ++ entry ∷ []) (listed_with l entry)
+known_on entries l entry h = record {
   many = length_push entries entry ∙ ap (λ n. n + 1) h.many;
-  wide = last_value_on 0x100 entries entry ∙ ap (cond (eqb entry.tag 0x100) entry.value) h.wide ∙ sym is_wide;
-  high = last_value_on 0x101 entries entry ∙ ap (cond (eqb entry.tag 0x101) entry.value) h.high ∙ sym is_high;
+  wide = last_value_on 0x100 entries entry ∙ ap (cond (eqb entry.tag 0x100) entry.value) h.wide;
+  high = last_value_on 0x101 entries entry ∙ ap (cond (eqb entry.tag 0x101) entry.value) h.high;
 }
 
--- the record behind entries is that behind the sides which they give
-pub entry_as : (d : List ℕ) (header : Header) (count seen : ℕ) (width height : Option ℕ) (offset : ℕ)
-    (entries : List Entry) → Known seen width height entries
-    → layout_reads d ((tiff_entries header count).said entries offset)
-    ≡ layout_reads d (entry_behind header count seen width height offset)
-entry_as d header count seen width height offset entries h =
-    λ i. layout_reads d (record_of header (λ entry. one entry i) offset (eqb (h.many i) count)) where
-      one : (entry : Entry) → size_after entries entry ≡ size_by width height entry
-      one entry = let on = known_on seen width height (side_with 0x100 width entry) (side_with 0x101 height entry)
-          entries entry refl refl h in λ i. size_if_known (on.wide i) (on.high i)
+-- ---- the entries over what those before give
 
-pub entry_runs : {a b : State} {r : Result (Said Entry ImageSize) Halt} (header : Header) (count seen : ℕ)
-    (width height : Option ℕ) (offset : ℕ)
-    → Runs a b r (layout_reads a.held.input (entry_behind header count seen width height offset))
-    → (entries : List Entry) → Known seen width height entries
-    → Runs a b r (layout_reads a.held.input ((tiff_entries header count).said entries offset))
-entry_runs {a} {b} {r} header count seen width height offset run entries h =
-    subst (λ w. Runs a b r w) (sym (entry_as a.held.input header count seen width height offset entries h)) run
+pub listed_tells : (l : Listed) (offset : ℕ) → Tells (λ p. offset < p) (listed_step l offset)
+listed_tells l offset = tells_bind (λ p. offset < p) (entry_behind l.header l.count l.seen l.width l.height offset)
+    (after (listed_with l) decides) (behind_tells l.header l.count l.seen l.width l.height offset) (λ y. tt) (λ v q up. up)
 
--- an entry that was read leads on
-pub entries_on : (header : Header) (seen after : ℕ) (width height wide high : Option ℕ) (entries : List Entry)
-    (offset : ℕ) (r : Result (Found Entry ImageSize) Halt)
-    → Known seen width height entries
-    → IfOk r (λ found. EntriesOn seen width height after wide high (said_at offset found))
-    → IfOk r (λ found. KeepsOn (λ held q. Known after wide high held) entries (said_at offset found))
-entries_on header seen after width height wide high entries offset (Ok (found.Answer x)) h on = tt
-entries_on header seen after width height wide high entries offset (Ok (found.Other entry length)) h on =
-    rw on.0 (known_on seen width height wide high entries entry on.1 on.2 h)
-entries_on header seen after width height wide high entries offset (Err e) h on = tt
+pub listed_begins : (l : Listed) (offset : ℕ) → Begins offset (listed_step l offset)
+listed_begins l offset = begins_bind offset (entry_behind l.header l.count l.seen l.width l.height offset)
+    (after (listed_with l) decides) (behind_begins l.header l.count l.seen l.width l.height offset) (λ y. tt) (λ y. tt)
 
-pub entries_stay : (seen after : ℕ) (width height wide high : Option ℕ) (entries : List Entry)
-    (r : Result (Found Entry ImageSize) Halt)
-    → Known seen width height entries → IfErr r (λ _. (after ≡ seen) × (wide ≡ width) × (high ≡ height))
-    → IfErr r (λ _. Known after wide high entries)
-entries_stay seen after width height wide high entries (Ok found) h same = tt
-entries_stay seen after width height wide high entries (Err e) h same = rw (same.0, same.1, same.2) h
+pub listed_follows : CanFollow listed_step
+listed_follows = states_follow listed_step listed_tells listed_begins
+
+pub listed_ends : (l : Listed) → EndsBy listed_step l (listed_end l)
+listed_ends l d offset far =
+    ends_after d (entry_behind l.header l.count l.seen l.width l.height offset) (listed_with l) (listed_end l)
+    (behind_ends l.header l.count l.seen l.width l.height d offset far ∙ by_all (eqb l.seen l.count))
+  where
+    by_all : (all : Bool) → just (cond all (Err NoDimensionsInIfd) (Err Ended)) []
+        ≡ just (map_answer {Y = Said Entry ImageSize} Decided (cond all (Err NoDimensionsInIfd) (Err Ended))) []
+    by_all true = refl
+    by_all false = refl
+
+-- the size that the entries of a directory give
+pub entries_are : (header : Header) (count : ℕ) (d : List ℕ)
+    → run listed_step (listed_first header count) (header.directory + count_bytes header.version) d
+    ≡ chain_at (tiff_entries header count) d
+entries_are header count d = run_is listed_step d (listed_follows d) (tiff_entries header count) at listed_with Known
+    (entries_advance header count d)
+    (λ entries l offset known i. layout_reads d (bind (cond (eqb (sym known.many i) count) (refuse NoDimensionsInIfd)
+    (bind (tiff_entry header offset) (λ entry. let more = known_on entries l entry known in
+    done (size_or_next (size_if_known (sym more.wide i) (sym more.high i)) entry (offset + entry_bytes header.version)))))
+    (after (listed_with (at l)) decides)))
+    (λ entries l offset v q known got. known_on entries l v known)
+    (listed_first header count) (record { many = refl; wide = refl; high = refl })
+  where
+    at : Listed → Listed
+    at l = record l { header = header; count = count }
+
+-- what an entry leads to, by the size that it completes and by the width and the height with it
+abbrev pub listed_says : Listed → ℕ → Option ℕ → Option ℕ → Option ImageSize → Said Listed ImageSize
+listed_says l offset wide high None =
+    Next (record l { seen = l.seen + 1; width = wide; height = high }) (offset + entry_bytes l.header.version)
+listed_says l offset wide high (Some size) = Decided size
 
 -- no entry is left
-pub none_left : {a : State} (header : Header) (count seen : ℕ) (width height : Option ℕ) (offset : ℕ) → IsSound a
-    → seen ≡ count
-    → Runs {X = Said Entry ImageSize} a a (Err NoDimensionsInIfd)
-    (layout_reads a.held.input (entry_behind header count seen width height offset))
-none_left {a} header count seen width height offset sound many =
-    let all : eqb seen count ≡ true = grind (arith, nat_tests) in
-    rw all (reads_nothing a (Err NoDimensionsInIfd) sound refl
-    (record { budget = λ e. absurd cc; fault = λ e. absurd cc }))
+pub none_left : {a : State} (l : Listed) (offset : ℕ) → IsSound a → l.seen ≡ l.count
+    → Runs {X = Said Listed ImageSize} a a (Err NoDimensionsInIfd) (layout_reads a.held.input (listed_step l offset))
+none_left {a} l offset sound many =
+    let all : eqb l.seen l.count ≡ true = grind (arith, nat_tests) in
+    rw all (reads_nothing a (Err NoDimensionsInIfd) sound refl (record { budget = λ e. absurd cc; fault = λ e. absurd cc }))
 
-module _ {a b : State} (header : Header) (count seen : ℕ) (width height : Option ℕ) (offset : ℕ) where
-  -- one is left, that is read or refused
-  pub next_said : seen ≢ count → (entry : Entry) (wide high : Option ℕ) (size : Option ImageSize)
-      → wide ≡ side_with 0x100 width entry
-      → high ≡ side_with 0x101 height entry → size_if_known wide high ≡ size
-      → Runs a b (Ok entry) (layout_reads a.held.input (tiff_entry header offset))
-      → Runs a b (Ok (size_or_next size entry (offset + entry_bytes header.version)))
-      (layout_reads a.held.input (entry_behind header count seen width height offset))
+-- an entry that is left is read or refused
+module _ {a b : State} (l : Listed) (offset : ℕ) where
+  pub next_said : l.seen ≢ l.count → (entry : Entry) (wide high : Option ℕ) (size : Option ImageSize)
+      → wide ≡ side_with 0x100 l.width entry
+      → high ≡ side_with 0x101 l.height entry → size_if_known wide high ≡ size
+      → Runs a b (Ok entry) (layout_reads a.held.input (tiff_entry l.header offset))
+      → Runs a b (Ok (listed_says l offset wide high size)) (layout_reads a.held.input (listed_step l offset))
   next_said more entry wide high size is_wide is_high is run =
-      let no : eqb seen count ≡ false = grind (arith, nat_tests) in
-      let known : size_by width height entry ≡ size = rw (← is_wide, ← is_high) is in
-      rw no (runs_bind (Ok (size_or_next size entry (offset + entry_bytes header.version))) (tiff_entry header offset)
-      (entry_says header width height offset) run
-      (λ d. ap (λ o. layout_reads d (done (size_or_next o entry (offset + entry_bytes header.version)))) known) refl tt)
+      let no : eqb l.seen l.count ≡ false = grind (arith, nat_tests) in
+      let known : size_by l.width l.height entry ≡ size = rw (← is_wide, ← is_high) is in
+      rw no (runs_bind (Ok (listed_says l offset wide high size))
+      (bind (tiff_entry l.header offset) (entry_says l.header l.width l.height offset)) (after (listed_with l) decides)
+      (runs_bind (Ok (size_or_next size entry (offset + entry_bytes l.header.version))) (tiff_entry l.header offset)
+      (entry_says l.header l.width l.height offset) run
+      (λ d. ap (λ o. layout_reads d (done (size_or_next o entry (offset + entry_bytes l.header.version)))) known) refl tt)
+      (λ d. leads size d) refl tt)
+    where
+      leads : (size : Option ImageSize) (d : List ℕ)
+          → layout_reads d (after (listed_with l) decides (size_or_next size entry (offset + entry_bytes l.header.version)))
+          ≡ just (Ok (listed_says l offset wide high size)) []
+      leads None d = λ i. just (Ok (Next (record l { seen = l.seen + 1; width = sym is_wide i; height = sym is_high i })
+          (offset + entry_bytes l.header.version))) []
+      leads (Some size) d = refl
 
-  pub next_refused : seen ≢ count → (e : Halt)
-      → Runs {X = Entry} a b (Err e) (layout_reads a.held.input (tiff_entry header offset))
-      → Runs {X = Said Entry ImageSize} a b (Err e)
-      (layout_reads a.held.input (entry_behind header count seen width height offset))
+  pub next_refused : l.seen ≢ l.count → (e : Halt)
+      → Runs {X = Entry} a b (Err e) (layout_reads a.held.input (tiff_entry l.header offset))
+      → Runs {X = Said Listed ImageSize} a b (Err e) (layout_reads a.held.input (listed_step l offset))
   next_refused more e run =
-      let no : eqb seen count ≡ false = grind (arith, nat_tests) in
-      rw no (refused_bind (tiff_entry header offset) (entry_says header width height offset) run)
+      let no : eqb l.seen l.count ≡ false = grind (arith, nat_tests) in
+      rw no (refused_bind (bind (tiff_entry l.header offset) (entry_says l.header l.width l.height offset))
+      (after (listed_with l) decides) (refused_bind (tiff_entry l.header offset) (entry_says l.header l.width l.height offset) run))
 
-pub entries_end : (header : Header) (count i : ℕ) (width height : Option ℕ) (entries : List Entry)
-    → Known i width height entries → i ≢ count
-    → (d : List ℕ) (offset : ℕ) → length d ≤ offset
-    → uncounted (layout_reads d ((tiff_entries header count).said entries offset)) ≡ refuses Ended
-entries_end header count i width height entries h more d offset far =
-    let no : eqb (length entries) count ≡ false = let many = h.many in grind (arith, nat_tests) in
-    record_ends header (size_after entries) offset (eqb (length entries) count) d far
-    ∙ ap (λ b. refuses {X = Said Entry ImageSize} (cond b NoDimensionsInIfd Ended)) no
+-- ---- the directory: the number of its entries, then these
+
+count_some : (version : Version) → 0 < count_bytes version
+count_some Tiff = omega arith
+count_some BigTiff = omega arith
+
+-- from the end of the input on there is no number
+number_beyond : {X : Type 0} (d : List ℕ) (order : Endian) (offset k : ℕ) (f : ℕ → Layout X) → length d ≤ offset → 0 < k
+    → layout_reads d (field order offset k f) ≡ refuses Ended
+unfolding number_at bytes_at
+number_beyond d order offset k f far some =
+    let test : leb k (length d - offset) ≡ false = grind (arith, nat_tests) in rw (no_span d offset k far, test) refl
+
+pub tiff_tells : (s : Directory) (offset : ℕ) → Tells (λ p. offset < p) (tiff_step s offset)
+tiff_tells (directory.Count header) offset = λ count. omega (arith, count_some header.version)
+tiff_tells (directory.Entry l) offset =
+    tells_bind (λ p. offset < p) (listed_step l offset) (after directory.Entry decides) (listed_tells l offset) (λ y. tt) (λ v q up. up)
+
+pub tiff_begins : (s : Directory) (offset : ℕ) → Begins offset (tiff_step s offset)
+tiff_begins (directory.Count header) offset = (omega arith, count_some header.version)
+tiff_begins (directory.Entry l) offset =
+    begins_bind offset (listed_step l offset) (after directory.Entry decides) (listed_begins l offset) (λ y. tt) (λ y. tt)
+
+pub tiff_follows : CanFollow tiff_step
+tiff_follows = states_follow tiff_step tiff_tells tiff_begins
+
+pub tiff_ends : (s : Directory) → EndsBy tiff_step s (tiff_end s)
+tiff_ends (directory.Count header) d offset far =
+    ap uncounted (number_beyond d header.order offset (count_bytes header.version)
+    (λ count. done (Next (directory.Entry (listed_first header count)) (offset + count_bytes header.version)))
+    far (count_some header.version))
+tiff_ends (directory.Entry l) d offset far =
+    ends_after d (listed_step l offset) directory.Entry (listed_end l) (listed_ends l d offset far)
+
+directory_is : (header : Header) (d : List ℕ) → run tiff_step (directory.Count header) header.directory d ≡ tiff_directory d header
+directory_is header d =
+    run_unfolds tiff_step d (tiff_follows d) (directory.Count header) header.directory
+    ∙ sym (then_then (number_read d header.order header.directory (count_bytes header.version)) first (goes tiff_step d (tiff_follows d))
+    (λ count. chain_at (tiff_entries header count) d) (λ count. sym (counted count)))
+  where
+    first : ℕ → Reads (Said Directory ImageSize)
+    first count = gives (Next (directory.Entry (listed_first header count)) (header.directory + count_bytes header.version))
+
+    counted : (count : ℕ)
+        → run tiff_step (directory.Entry (listed_first header count)) (header.directory + count_bytes header.version) d
+        ≡ chain_at (tiff_entries header count) d
+    counted count = run_within tiff_step listed_step directory.Entry d (tiff_follows d) (listed_follows d) (λ l offset. refl)
+        (listed_first header count) (header.directory + count_bytes header.version) ∙ entries_are header count d
+
+-- the size of a TIFF is what its directory gives, whose offset is in the header
+pub tiff_is : (d : List ℕ) → tiff d ≡ and_then (layout_reads d tiff_open) (λ s. run tiff_step s.records s.offset d)
+tiff_is d =
+    then_then (layout_reads d tiff_header) (λ header. layout_reads d (done (opened header))) goes_on (tiff_directory d)
+    (λ header. sym (directory_is header d))
+    ∙ ap (λ r. and_then r goes_on) (sym (over-bind d tiff_header (λ header. done (opened header))))
+  where
+    opened : Header → Start Directory
+    opened header = record { records = directory.Count header; offset = header.directory }
+
+    goes_on : Start Directory → Reads ImageSize
+    goes_on s = run tiff_step s.records s.offset d
 
 -- so a directory beyond 64 bits serves as well at the greatest offset
-none_there : (header : Header) (count offset : ℕ) (d : List ℕ) → length d ≤ offset
-    → uncounted (chain_at (record { first = offset; said = (tiff_entries header count).said }) d)
-    ≡ refuses (cond (eqb 0 count) NoDimensionsInIfd Ended)
-none_there header count offset d far =
-    let c : Chain Entry ImageSize = record { first = offset; said = (tiff_entries header count).said } in
-    let why : Halt = cond (eqb 0 count) NoDimensionsInIfd Ended in
-    let none = record_ends header (size_after []) offset (eqb 0 count) d far in
-    ap uncounted (chain_stop c d (start c) (Err why) (ap (λ r. verdict r.answer) none)) ∙ ap (with_answer (Err why)) none
-
 pub entries_saturated : {a b : State} {r : Result ImageSize Halt} (header : Header) (count at : ℕ)
-    → Runs a b r (chain_at (record { first = at; said = (tiff_entries header count).said }) a.held.input)
+    → Runs a b r (run listed_step (listed_first header count) at a.held.input)
     → at ≡ min (header.directory + count_bytes header.version) (2 ^ 64 - 1)
     → Runs a b r (chain_at (tiff_entries header count) a.held.input)
-entries_saturated header count at =
-    saturated_by (λ p d. chain_at (record { first = p; said = (tiff_entries header count).said }) d)
-    (refuses (cond (eqb 0 count) NoDimensionsInIfd Ended))
-    (header.directory + count_bytes header.version) at (λ d p far. none_there header count p d far)
+entries_saturated {a} header count at runs is = rw (← entries_are header count a.held.input)
+    (saturated_by (λ p d. run listed_step (listed_first header count) p d) (just (listed_end (listed_first header count)) [])
+    (header.directory + count_bytes header.version) at none_there runs is)
+  where
+    decided : (r : Result ImageSize Halt) → verdict (map_answer {Y = Said Listed ImageSize} Decided r) ≡ Some r
+    decided (Ok x) = refl
+    decided (Err e) = refl
+
+    none_there : (d : List ℕ) (p : ℕ) → length d ≤ p
+        → uncounted (run listed_step (listed_first header count) p d) ≡ just (listed_end (listed_first header count)) []
+    none_there d p far =
+        let none = listed_ends (listed_first header count) d p far in
+        let why : Result ImageSize Halt = listed_end (listed_first header count) in
+        ap uncounted (run_stop listed_step d (listed_follows d) (listed_first header count) p why
+        (ap (λ r. verdict r.answer) none ∙ decided why)) ∙ ap (with_answer why) none
 
 entry_each : (header : Header) (count : ℕ) (entries : List Entry) (offset : ℕ)
     → Each 20 ((tiff_entries header count).said entries offset)

@@ -1,16 +1,30 @@
--- What the code keeps and returns in its walks, for one record at an offset.
-use Rattle.std.specs.Prelude.{◌≡◌, ℕ, ◌+◌, ◌-◌, ◌<◌, ◌≤◌, ◌==◌, Bool, ◌&&◌, not, List, length, slice_index, nat_le, if◌then◌else◌, Option, None}
-use Rattle.std.specs.Option.{ForSome}
-use Rattle.imagesize_source.specs.Layout.{Layout, if_there}
-use Rattle.imagesize_source.specs.Layout.Layout.{done}
-use Rattle.imagesize_types.specs.Largest.{area_if_some, greatest_area, last_largest, later_largest}
-use Rattle.imagesize_source.specs.Chain.{Said, Decided, Next}
+-- Formats as sequences over a state: what the code keeps between records, and what the next record says by it.
+use Rattle.std.specs.Prelude.{ℕ, ◌+◌, ◌-◌, ◌<◌, ◌≤◌, ◌==◌, Bool, ◌&&◌, not, List, slice_index, nat_le, if◌then◌else◌, Option, None, Some, ◌≡◌, Result, Err, true, false}
+use Rattle.std.specs.Coded.{Unit-prop, le_prop, ×_prop}
+use Rattle.imagesize_source.specs.Layout.{Layout, bind, if_there}
+use Rattle.imagesize_source.specs.Layout.Layout.{field, «done»}
+use Rattle.imagesize_source.specs.Chain.{Next}
+use Rattle.imagesize_source.specs.Walk.{Step, after, decides}
+use Rattle.imagesize_source.specs.declared.endian.Endian.TheVariants.{Little}
+use Rattle.imagesize_source.specs.declared.halt.Halt.{Halt}
+use Rattle.imagesize_source.specs.declared.halt.Halt.TheVariants.{Ended, NoDimensionsInIfd}
+use Rattle.imagesize_source.specs.declared.walk.Start.{Start}
+use Rattle.imagesize_types.specs.Largest.{later_largest}
 use Rattle.imagesize_types.specs.declared.size.ImageSize.{ImageSize}
-use Rattle.imagesize_walked.specs.Tiff.{last_value, side_with}
-use Rattle.imagesize_walked.specs.declared.formats.tiff.Entry.{Entry}
-use Rattle.imagesize_walked.specs.Jpeg.{depth, count_starts, count_ends}
+use Rattle.imagesize_walked.specs.Ico.{icon_in}
+use Rattle.imagesize_walked.specs.Ilbm.{ilbm_chunk}
+use Rattle.imagesize_walked.specs.Jpeg.{is_own_end, is_own_frame, jpeg_segment}
+use Rattle.imagesize_walked.specs.Tiff.{count_bytes, entry_behind, side_with, tiff_header}
+use Rattle.imagesize_walked.specs.declared.formats.ico.Entries.{Entries}
+use Rattle.imagesize_walked.specs.declared.formats.ilbm.Chunks.{Chunks}
 use Rattle.imagesize_walked.specs.declared.formats.jpeg.Role.{Role}
 use Rattle.imagesize_walked.specs.declared.formats.jpeg.Role.TheVariants as role
+use Rattle.imagesize_walked.specs.declared.formats.jpeg.Segments.{Segments}
+use Rattle.imagesize_walked.specs.declared.formats.tiff.Directory.{Directory}
+use Rattle.imagesize_walked.specs.declared.formats.tiff.Directory.TheVariants as directory
+use Rattle.imagesize_walked.specs.declared.formats.tiff.Entry.{Entry}
+use Rattle.imagesize_walked.specs.declared.formats.tiff.Header.{Header}
+use Rattle.imagesize_walked.specs.declared.formats.tiff.Listed.{Listed}
 
 -- whether a segment with these first bytes begins with FF, and its marker is not from C0 to D9
 abbrev pub is_plain : List ℕ → Bool
@@ -20,60 +34,106 @@ is_plain head = slice_index head 0 == 0xFF && not (nat_le 0xC0 (slice_index head
 abbrev pub depth_behind : ℕ → ℕ → ℕ
 depth_behind depth marker = if marker == 0xD8 then depth + 1 else if marker == 0xD9 then depth - 1 else depth
 
--- `behind` is the depth after a segment; an end-of-image marker comes only at a depth above 0
-unfoldable pub LeadsTo : ℕ → ℕ → ℕ → Type 0
-LeadsTo depth marker behind = (behind ≡ depth_behind depth marker) × (marker ≡ 0xD9 → 0 < depth)
+-- what a marker means at this depth: a frame of the image itself, its end, or neither, with the depth after the segment
+abbrev pub HasRole : ℕ → ℕ → Role → Type 0
+HasRole depth marker role.Frame = is_own_frame depth marker ≡ true
+HasRole depth marker role.End = (is_own_frame depth marker ≡ false) × (is_own_end depth marker ≡ true)
+HasRole depth marker (role.Other behind) =
+    (is_own_frame depth marker ≡ false) × (is_own_end depth marker ≡ false) × (behind ≡ depth_behind depth marker)
 
--- the depth after a segment that is not a frame of the image itself
-abbrev pub LeadsOn : ℕ → ℕ → Said ℕ ImageSize → Type 0
-LeadsOn depth behind (Decided size) = Unit {0}
-LeadsOn depth behind (Next marker next) = LeadsTo depth marker behind
+-- the first segment of a JPEG is in the image itself
+abbrev pub jpeg_first : Segments
+jpeg_first = record { depth = 0 }
 
--- After these markers, k images are started and not ended. No image was ended that was not started.
-pub record Nested (k : ℕ) (markers : List ℕ) : Type 0 where
-  pub is : depth markers ≡ k
-  pub balanced : count_ends markers ≤ count_starts markers
+-- the next segment of a JPEG, at the depth that the segments before it leave
+abbrev pub jpeg_step : Step Segments ImageSize
+jpeg_step s offset =
+    bind (jpeg_segment s.depth offset) (after (λ marker. record { depth = depth_behind s.depth marker }) decides)
 
--- the same, at an offset greater than k
-pub record Stands (k : ℕ) (markers : List ℕ) (offset : ℕ) : Type 0 where
-  pub nested : Nested k markers
-  pub shallow : k < offset
+-- each image within the image begins with a segment of its own, so the depth is below the offset
+abbrev pub jpeg_holds : Segments → ℕ → Type 0
+jpeg_holds s offset = s.depth < offset
 
--- the depth after a segment, by what its marker says before the segment is read
-abbrev pub RoleLeadsOn : ℕ → ℕ → Role → Type 0
-RoleLeadsOn depth marker role.Frame = Unit {0}
-RoleLeadsOn depth marker role.End = Unit {0}
-RoleLeadsOn depth marker (role.Other behind) = LeadsTo depth marker behind
+-- the next chunk of an interleaved bitmap
+abbrev pub ilbm_step : Step Chunks ImageSize
+ilbm_step s offset = bind (ilbm_chunk offset) (after (λ _. s) decides)
+
+abbrev pub ilbm_holds : Chunks → ℕ → Type 0
+ilbm_holds s offset = Unit {0}
 
 -- no side of an icon is above 256 pixels
-pub record IsIcon (size : ImageSize) : Type 0 where
-  pub wide : size.width ≤ 256
-  pub high : size.height ≤ 256
+abbrev pub IsIcon : ImageSize → Type 0
+IsIcon size = (size.width ≤ 256) × (size.height ≤ 256)
 
--- `count` entries of icons were read; `largest` is the last size of greatest area among them
-pub record Seen (count : ℕ) (largest : Option ImageSize) (sizes : List ImageSize) : Type 0 where
-  pub many : length sizes ≡ count
-  pub is : last_largest sizes ≡ largest
-  pub area : greatest_area sizes ≡ area_if_some largest
-  pub icon : ForSome largest IsIcon
+abbrev pub IsIconIfSome : Option ImageSize → Type 0
+IsIconIfSome None = Unit {0}
+IsIconIfSome (Some size) = IsIcon size
 
--- one more entry of an icon was read; `after` is how many were read, and `largest` the largest of them
-abbrev pub IconsOn : ℕ → Option ImageSize → ℕ → Option ImageSize → Said ImageSize ImageSize → Type 0
-IconsOn seen best after largest (Decided size) = Unit {0}
-IconsOn seen best after largest (Next size offset) = (after ≡ seen + 1) × (largest ≡ later_largest best size) × ForSome largest IsIcon
+-- one more entry of a directory of icons was read, which has this size
+abbrev pub icons_with : Entries → ImageSize → Entries
+icons_with s size = record s { seen = s.seen + 1; largest = later_largest s.largest size }
+
+-- the next entry of a directory of icons, by how many were read and the largest of these
+abbrev pub ico_step : Step Entries ImageSize
+ico_step s offset = bind (icon_in s.count s.seen s.largest offset) (after (icons_with s) decides)
+
+abbrev pub ico_holds : Entries → ℕ → Type 0
+ico_holds s offset = (s.seen ≤ s.count) × IsIconIfSome s.largest
+
+pub ico_holds_prop : (s : Entries) (offset : ℕ) → IsProp (ico_holds s offset)
+ico_holds_prop s offset = ×_prop le_prop (icon_prop s.largest) where
+  icon_prop : (largest : Option ImageSize) → IsProp (IsIconIfSome largest)
+  icon_prop None = Unit-prop
+  icon_prop (Some size) = ×_prop le_prop le_prop
+
+-- the number of icons (idCount); their entries follow
+abbrev pub ico_open : Layout (Start Entries)
+ico_open = field Little 4 2
+    (λ count. done (record { records = record { count = count; seen = 0; largest = None }; offset = 6 }))
 
 -- the first bytes of the entry at an offset, or `None` after the last entry
 abbrev pub entry_in : ℕ → ℕ → ℕ → Layout (Option (List ℕ))
 entry_in count seen offset = if seen == count then done None else if_there offset 2 done
 
--- one more entry of a TIFF was read; `after` is how many were read, and these are the width and the height from them
-abbrev pub EntriesOn : ℕ → Option ℕ → Option ℕ → ℕ → Option ℕ → Option ℕ → Said Entry ImageSize → Type 0
-EntriesOn seen width height after wide high (Decided size) = Unit {0}
-EntriesOn seen width height after wide high (Next entry offset) =
-    (after ≡ seen + 1) × (wide ≡ side_with 0x100 width entry) × (high ≡ side_with 0x101 height entry)
+-- no entry of a TIFF's directory was read
+abbrev pub listed_first : Header → ℕ → Listed
+listed_first header count = record { header = header; count = count; seen = 0; width = None; height = None }
 
--- `count` entries of a TIFF were read, and these are the width and the height from them.
-pub record Known (count : ℕ) (width height : Option ℕ) (entries : List Entry) : Type 0 where
-  pub many : length entries ≡ count
-  pub wide : last_value 0x100 entries ≡ width
-  pub high : last_value 0x101 entries ≡ height
+-- one more entry was read
+abbrev pub listed_with : Listed → Entry → Listed
+listed_with l entry = record l { seen = l.seen + 1; width = side_with 0x100 l.width entry; height = side_with 0x101 l.height entry }
+
+-- the next entry of a TIFF's directory, by the width and the height that the entries before it give
+abbrev pub listed_step : Step Listed ImageSize
+listed_step l offset =
+    bind (entry_behind l.header l.count l.seen l.width l.height offset) (after (listed_with l) decides)
+
+abbrev pub listed_holds : Listed → ℕ → Type 0
+listed_holds l offset = l.seen ≤ l.count
+
+-- the result at the end of the input
+abbrev pub listed_end : Listed → Result ImageSize Halt
+listed_end l = if l.seen == l.count then Err NoDimensionsInIfd else Err Ended
+
+-- a TIFF's directory: first the number of its entries, then these
+abbrev pub tiff_step : Step Directory ImageSize
+tiff_step (directory.Count header) offset = field header.order offset (count_bytes header.version)
+    (λ count. done (Next (directory.Entry (listed_first header count)) (offset + count_bytes header.version)))
+tiff_step (directory.Entry l) offset = bind (listed_step l offset) (after directory.Entry decides)
+
+abbrev pub tiff_holds : Directory → ℕ → Type 0
+tiff_holds (directory.Count header) offset = Unit {0}
+tiff_holds (directory.Entry l) offset = listed_holds l offset
+
+pub tiff_holds_prop : (s : Directory) (offset : ℕ) → IsProp (tiff_holds s offset)
+tiff_holds_prop (directory.Count header) offset = Unit-prop
+tiff_holds_prop (directory.Entry l) offset = le_prop
+
+-- the result at the end of the input
+abbrev pub tiff_end : Directory → Result ImageSize Halt
+tiff_end (directory.Count header) = Err Ended
+tiff_end (directory.Entry l) = listed_end l
+
+-- the header, which gives the offset of the directory
+abbrev pub tiff_open : Layout (Start Directory)
+tiff_open = bind tiff_header (λ header. done (record { records = directory.Count header; offset = header.directory }))

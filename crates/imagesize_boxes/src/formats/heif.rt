@@ -1,19 +1,20 @@
 //! HEIF and AVIF. ISO/IEC 14496-12, sections 4.2 (boxes), 4.3 (`ftyp`) and 8.11.1 (`meta`); ISO/IEC 23008-12 (the brands, the
 //! properties and their list). The brands of AVIF are those of the AV1 Image File Format.
-ghost use Rattle.std.specs.Prelude.{◌≡◌, ◌+◌, ◌<◌, ◌≤◌, Some, IfOk};
+ghost use Rattle.std.specs.Prelude.{◌≡◌, ◌+◌, ◌<◌, ◌≤◌, Some, IfErr, IfOk};
 ghost use Rattle.imagesize_boxes.specs.Heif.{box_size, brand_compression, compatible_compression, extents_size, heif, heif_compression, heif_in_iprp, heif_in_meta, is_general, is_heif, is_named, properties, property_at, property_bytes, search_for, searched_box, skipped_bytes, turn_by};
-ghost use Rattle.imagesize_boxes.specs.Walks.{Amounts, property_said, earlier_largest, gathered_with, gathered_answer, IsLeftFor};
+ghost use Rattle.imagesize_boxes.specs.Walks.{box_said, property_said, earlier_largest, gathered_with, gathered_answer, heif_open, heif_step, list_step, search_step, IsLeftFor};
 ghost use Rattle.imagesize_source.specs.Chain.{chain_at};
 ghost use Rattle.imagesize_source.specs.Paying.{Nears, Paid};
 ghost use Rattle.imagesize_source.specs.Walk.{said_at};
 ghost use Rattle.imagesize_source.specs.Reading.{bytes_read, map_answer};
 ghost use Rattle.imagesize_source.specs.State.{Follows, Runs, IsSound};
+ghost use Rattle.imagesize_boxes.specs.declared.formats.heif.Sought.TheVariants as sought;
 
 use imagesize_source::readings::{
     read_bytes_behind, read_exact_at, read_u32, read_whole_at, read_whole_behind,
 };
 use imagesize_source::source::Source;
-use imagesize_source::walk::{Found, Records, walk};
+use imagesize_source::walk::{Found, Records, Start, walk};
 use imagesize_source::{Endian, Halt};
 use imagesize_types::compression::Compression;
 use imagesize_types::size::{ImageSize, area};
@@ -155,44 +156,41 @@ struct Boxes {
 }
 
 impl Records for Boxes {
-    type Held = ();
+    type State = Boxes;
 
     type Answer = FoundBox;
 
-    ghost said = { λ boxes passed offset. searched_box boxes.name offset };
+    ghost step = { search_step };
 
-    ghost keeps = { λ _ passed offset. Unit {0} };
+    ghost state = { λ boxes. boxes };
+
+    ghost holds = { λ _ offset. Unit {0} };
 
     // Reads the box at an offset.
     #[inline(always)]
-    #[tactic(auto, using(imagesize_source::proofs::Runs::steps))]
     fn read_record<S: Source>(
         &mut self,
         source: &mut S,
         offset: u64,
-    ) -> Result<Found<(), FoundBox>, Halt> {
+    ) -> Result<Found<FoundBox>, Halt> {
         read_box(source, offset, &self.name)
     }
 
     // The input ends before a box of this name.
     #[inline(always)]
-    #[tactic(auto, using(crate::proofs::Heif::search_ends))]
     fn at_end(&self) -> Result<FoundBox, Halt> {
         Err(Halt::Ended)
     }
 }
 
-/// Reads the box at an offset, and whether it has this name.
+// Reads the box at an offset, and whether it has this name.
 #[inline(always)]
 #[tactic(auto, using(imagesize_source::proofs::Runs::steps))]
-pub fn read_box<S: Source>(
-    source: &mut S,
-    offset: u64,
-    name: &[u8; 4],
-) -> Result<Found<(), FoundBox>, Halt>
+fn read_box<S: Source>(source: &mut S, offset: u64, name: &[u8; 4]) -> Result<Found<FoundBox>, Halt>
     ensures pays { IfOk result (λ _. Paid (S.state source.old) (S.state source.new) offset) }
-    ensures nears { IfOk result (λ found. Nears (S.state source.old) (S.state source.new) offset (said_at offset found)) }
-    ensures runs { Follows (S.state source.old) (S.state source.new) (map_answer (said_at offset) result) (searched_box name.now offset) }
+    ensures nears { IfOk result (λ found. Nears (S.state source.old) (S.state source.new) offset (box_said offset found)) }
+    ensures runs { Follows (S.state source.old) (S.state source.new) (map_answer (box_said offset) result)
+        (searched_box name.now offset) }
 {
     // Read into a buffer: bytes returned in a result are copied in parts, and a load of the whole waits for all of them.
     let mut head = [0u8; 8];
@@ -205,7 +203,6 @@ pub fn read_box<S: Source>(
         return Err(Halt::InvalidHeifBoxSize { size: size as u8 });
     }
     Ok(Found::Other {
-        held: (),
         length: size as u64,
     })
 }
@@ -228,11 +225,12 @@ fn is_named(head: &[u8; 8], name: &[u8; 4]) -> bool
     head[4] == name[0] && head[5] == name[1] && head[6] == name[2] && head[7] == name[3]
 }
 
-/// The first `N` bytes of a box's content, after its size and its name.
+// The first `N` bytes of a box's content, after its size and its name.
+//
 // Few properties reach it, so it is `inline` alone. Always inlined, it would make the walk along the properties so large that the
 // `inline(always)` of that walk is dropped. In a slice, a property would take 25 instructions for 19.
 #[inline]
-pub fn read_content<S: Source, const N: usize>(source: &mut S, offset: u64) -> Result<[u8; N], Halt>
+fn read_content<S: Source, const N: usize>(source: &mut S, offset: u64) -> Result<[u8; N], Halt>
     requires { 0 < N }
     ensures { Runs (S.state source.old) (S.state source.new) result
         (bytes_read (S.state source.old).held.input (offset + 8) N) }
@@ -282,54 +280,50 @@ fn largest_from<S: Source>(source: &mut S, from: u64, all: u32) -> Result<ImageS
         best: None,
         turn: None,
     };
-    walk(Properties { all, gathered }, source, from)
+    walk(gathered, source, from)
 }
 
-// The properties in a box of `all` bytes, and what those so far amount to.
-#[derive(Clone, Copy)]
-struct Properties {
-    all: u32,
-    gathered: Gathered,
-}
-
-impl Records for Properties {
-    type Held = Property;
+impl Records for Gathered {
+    type State = Gathered;
 
     type Answer = ImageSize;
 
-    ghost said = { λ list held offset. (properties list.all 0).said held offset };
+    ghost step = { list_step };
 
-    ghost keeps = { λ list held offset. Amounts list.all list.gathered held };
+    ghost state = { λ gathered. gathered };
+
+    ghost holds = { λ _ offset. Unit {0} };
 
     // Reads the property at an offset.
     #[inline(always)]
+    #[tactic(auto, using(imagesize_source::proofs::Runs::steps, imagesize_source::proofs::Layouts::binding))]
     fn read_record<S: Source>(
         &mut self,
         source: &mut S,
         offset: u64,
-    ) -> Result<Found<Property, ImageSize>, Halt> {
-        let Some(property) = read_property(source, offset, self.gathered.left)? else {
-            return Ok(Found::Answer(answer(self.gathered)?));
+    ) -> Result<Found<ImageSize>, Halt> {
+        let Some(property) = read_property(source, offset, self.left)? else {
+            return Ok(Found::Answer(answer(*self)?));
         };
-        self.gathered = gather(self.gathered, property);
+        *self = gather(*self, property);
         Ok(Found::Other {
-            held: property,
             length: property_bytes(property),
         })
     }
 
     // The size from the properties so far.
     #[inline(always)]
+    #[tactic(auto, using(crate::proofs::Heif::list_ends))]
     fn at_end(&self) -> Result<ImageSize, Halt> {
-        answer(self.gathered)
+        answer(*self)
     }
 }
 
-/// Reads the property at an offset, or returns `None` at the end of the list. A box is skipped only if it is smaller than `left`
-/// bytes.
+// Reads the property at an offset, or returns `None` at the end of the list. A box is skipped only if it is smaller than `left`
+// bytes.
 #[inline(always)]
 #[tactic(auto, using(imagesize_source::proofs::Runs::steps, imagesize_source::proofs::Runs::missed_before))]
-pub fn read_property<S: Source>(
+fn read_property<S: Source>(
     source: &mut S,
     offset: u64,
     left: u32,
@@ -365,9 +359,9 @@ pub fn read_property<S: Source>(
     Ok(Some(Property::Skipped(size)))
 }
 
-/// How many bytes after a property the next one begins.
+// How many bytes after a property the next one begins.
 #[inline(always)]
-pub fn property_bytes(property: Property) -> u64
+fn property_bytes(property: Property) -> u64
     ensures { result ≡ property_bytes property }
 {
     match property {
@@ -377,9 +371,9 @@ pub fn property_bytes(property: Property) -> u64
     }
 }
 
-/// Adds one more property.
+// Adds one more property.
 #[inline(always)]
-pub fn gather(gathered: Gathered, property: Property) -> Gathered
+fn gather(gathered: Gathered, property: Property) -> Gathered
     requires { skipped_bytes property ≤ gathered.left }
     ensures { result ≡ gathered_with gathered property }
 {
@@ -427,9 +421,9 @@ fn larger(best: Option<ImageSize>, size: ImageSize) -> ImageSize
     }
 }
 
-/// The result at the end of the list.
+// The result at the end of the list.
 #[inline(always)]
-pub fn answer(gathered: Gathered) -> Result<ImageSize, Halt>
+fn answer(gathered: Gathered) -> Result<ImageSize, Halt>
     ensures { result ≡ gathered_answer gathered }
 {
     match gathered.best {
@@ -450,4 +444,154 @@ fn turn_by(size: ImageSize, turn: Option<u8>) -> ImageSize
         },
         _ => size,
     }
+}
+
+/// What a stream looks for in a HEIF. Each record is a box or a property. In a slice, `size` searches for each box separately.
+#[derive(Clone, Copy)]
+pub enum Sought {
+    /// The box `meta`, after the first box.
+    Meta,
+    /// The box `iprp`, in `meta`.
+    Iprp,
+    /// The box `ipco`, in `iprp`.
+    Ipco,
+    /// The next property in `ipco`, with what the properties before it add up to.
+    Property(Gathered),
+}
+
+/// Where the search for `meta` begins. The size of the first box is its offset.
+#[tactic(auto, using(imagesize_source::proofs::Runs::steps))]
+pub fn open<S: Source>(source: &mut S) -> Result<Start<Sought>, Halt>
+    ensures { Follows (S.state source.old) (S.state source.new) result heif_open }
+{
+    let first = read_u32(source, 0, Endian::Big)?;
+    Ok(Start {
+        records: Sought::Meta,
+        offset: first as u64,
+    })
+}
+
+impl Records for Sought {
+    type State = Sought;
+
+    type Answer = ImageSize;
+
+    ghost step = { heif_step };
+
+    ghost state = { λ sought. sought };
+
+    ghost holds = { λ _ offset. Unit {0} };
+
+    // Reads the box or the property at an offset.
+    #[inline(always)]
+    fn read_record<S: Source>(
+        &mut self,
+        source: &mut S,
+        offset: u64,
+    ) -> Result<Found<ImageSize>, Halt> {
+        match self {
+            Sought::Meta => read_meta(self, source, offset),
+            Sought::Iprp => read_iprp(self, source, offset),
+            Sought::Ipco => read_ipco(self, source, offset),
+            Sought::Property(gathered) => read_listed(gathered, source, offset),
+        }
+    }
+
+    // The size from the properties so far. Without `ipco` there is none.
+    #[tactic(auto, using(crate::proofs::Heif::heif_ends))]
+    fn at_end(&self) -> Result<ImageSize, Halt> {
+        match *self {
+            Sought::Property(gathered) => answer(gathered),
+            _ => Err(Halt::Ended),
+        }
+    }
+}
+
+#[tactic(auto, using(imagesize_source::proofs::Runs::steps, imagesize_source::proofs::Runs::missed_before, imagesize_source::proofs::Layouts::binding))]
+fn read_meta<S: Source>(
+    next: &mut Sought,
+    source: &mut S,
+    offset: u64,
+) -> Result<Found<ImageSize>, Halt>
+    ensures nears { IfOk result (λ found. Nears (S.state source.old) (S.state source.new) offset (said_at next.new offset found)) }
+    ensures stays { IfErr result (λ _. next.new ≡ next.old) }
+    ensures runs { Follows (S.state source.old) (S.state source.new) (map_answer (said_at next.new offset) result)
+        (heif_step sought.Meta offset) }
+{
+    match read_box(source, offset, b"meta")? {
+        Found::Answer(_) => {
+            read_content::<S, 4>(source, offset)?;
+            *next = Sought::Iprp;
+            Ok(Found::Other { length: 12 })
+        }
+        Found::Other { length } => {
+            *next = Sought::Meta;
+            Ok(Found::Other { length })
+        }
+    }
+}
+
+#[tactic(auto, using(imagesize_source::proofs::Runs::steps, imagesize_source::proofs::Runs::missed_before, imagesize_source::proofs::Layouts::binding))]
+fn read_iprp<S: Source>(
+    next: &mut Sought,
+    source: &mut S,
+    offset: u64,
+) -> Result<Found<ImageSize>, Halt>
+    ensures nears { IfOk result (λ found. Nears (S.state source.old) (S.state source.new) offset (said_at next.new offset found)) }
+    ensures stays { IfErr result (λ _. next.new ≡ next.old) }
+    ensures runs { Follows (S.state source.old) (S.state source.new) (map_answer (said_at next.new offset) result)
+        (heif_step sought.Iprp offset) }
+{
+    match read_box(source, offset, b"iprp")? {
+        Found::Answer(_) => {
+            *next = Sought::Ipco;
+            Ok(Found::Other { length: 8 })
+        }
+        Found::Other { length } => {
+            *next = Sought::Iprp;
+            Ok(Found::Other { length })
+        }
+    }
+}
+
+#[tactic(auto, using(imagesize_source::proofs::Runs::steps, imagesize_source::proofs::Runs::missed_before, imagesize_source::proofs::Layouts::binding))]
+fn read_ipco<S: Source>(
+    next: &mut Sought,
+    source: &mut S,
+    offset: u64,
+) -> Result<Found<ImageSize>, Halt>
+    ensures nears { IfOk result (λ found. Nears (S.state source.old) (S.state source.new) offset (said_at next.new offset found)) }
+    ensures stays { IfErr result (λ _. next.new ≡ next.old) }
+    ensures runs { Follows (S.state source.old) (S.state source.new) (map_answer (said_at next.new offset) result)
+        (heif_step sought.Ipco offset) }
+{
+    match read_box(source, offset, b"ipco")? {
+        Found::Answer(ipco) => {
+            let gathered = Gathered {
+                left: ipco.size,
+                best: None,
+                turn: None,
+            };
+            *next = Sought::Property(gathered);
+            Ok(Found::Other { length: 8 })
+        }
+        Found::Other { length } => {
+            *next = Sought::Ipco;
+            Ok(Found::Other { length })
+        }
+    }
+}
+
+// Reads a property. A call of its own keeps the other records small where they are inlined.
+fn read_listed<S: Source>(
+    gathered: &mut Gathered,
+    source: &mut S,
+    offset: u64,
+) -> Result<Found<ImageSize>, Halt>
+    ensures nears { IfOk result (λ found. Nears (S.state source.old) (S.state source.new) offset (said_at gathered.new offset found)) }
+    ensures stays { IfErr result (λ _. gathered.new ≡ gathered.old) }
+    ensures runs { Follows (S.state source.old) (S.state source.new) (map_answer (said_at gathered.new offset) result)
+        (list_step gathered.old offset) }
+{
+    gathered.read_record(source, offset)
 }

@@ -42,14 +42,9 @@ pub fn size<S: Source>(source: &mut S) -> Result<ImageSize, Halt>
     ensures { Runs (S.state source.old) (S.state source.new) result
         (jxl (S.state source.old).held.input) }
 {
-    // A codestream that is the whole input has its own call of `size`. `read_codestream` would test its signature again, which costs
-    // 8 of 312 instructions.
     match read_start(source)? {
         Some(front) => front.size(),
-        None => {
-            let front = boxes::read_codestream(source)?;
-            front.size()
-        }
+        None => boxes::size_in_boxes(source),
     }
 }
 

@@ -1,17 +1,16 @@
 //! OpenEXR: "OpenEXR File Layout". Walks along the attributes up to the first data window that is not reversed.
 ghost use Rattle.std.specs.Prelude.{◌≡◌, ◌+◌, ◌<◌, ◌≤◌, length, IfOk};
-ghost use Rattle.imagesize_source.specs.Chain.{chain_at};
 ghost use Rattle.imagesize_source.specs.Paying.{Nears, Paid};
 ghost use Rattle.imagesize_source.specs.Reading.{map_answer};
 ghost use Rattle.imagesize_source.specs.State.{Follows, Runs};
 ghost use Rattle.imagesize_source.specs.Walk.{said_at};
-ghost use Rattle.imagesize_texts.specs.Exr.{exr, exr_attribute, exr_attributes, is_box, is_data_window, is_exr, name_room, window_side, signed_at, window_size};
+ghost use Rattle.imagesize_texts.specs.Exr.{exr, exr_open, exr_step, is_box, is_data_window, is_exr, name_room, names_of, window_side, signed_at, window_size};
 ghost use Rattle.imagesize_texts.specs.Texts.{line_read};
 
 use crate::util::{read_line_capped, read_u32_behind};
 use imagesize_source::readings::{read_bytes_behind, read_u32};
 use imagesize_source::source::Source;
-use imagesize_source::walk::{Found, Records, walk};
+use imagesize_source::walk::{Found, Records, Start, walk};
 use imagesize_source::{Endian, Halt};
 use imagesize_types::size::{ImageSize, size_if_known};
 
@@ -37,52 +36,63 @@ pub fn size<S: Source>(source: &mut S) -> Result<ImageSize, Halt>
     ensures { Runs (S.state source.old) (S.state source.new) result
         (exr (S.state source.old).held.input) }
 {
-    let version = read_u32(source, 4, Endian::Little)?;
-    find_window(source, name_room(version))
+    let start = open(source)?;
+    let attributes = Attributes {
+        long: start.records,
+        buffer: [0; 256],
+    };
+    walk(attributes, source, start.offset)
 }
 
-/// The greatest length of a name in bytes, with the zero that ends it.
+/// Reads the version. Returns whether names may be long, and the offset of the first attribute.
+#[inline(always)]
+#[tactic(auto, using(imagesize_source::proofs::Runs::steps))]
+pub fn open<S: Source>(source: &mut S) -> Result<Start<bool>, Halt>
+    ensures { Follows (S.state source.old) (S.state source.new) result exr_open }
+{
+    let version = read_u32(source, 4, Endian::Little)?;
+    Ok(Start {
+        records: name_room(version) > 32,
+        offset: 8,
+    })
+}
+
+// The greatest length of a name in bytes, with the zero that ends it.
 #[inline]
 #[tactic(auto, unfolding(crate::specs::Exr::name_room))]
-pub fn name_room(version: u32) -> usize
-    ensures value { result ≡ name_room version }
-    ensures some { 0 < result }
-    ensures few { result ≤ 256 }
+fn name_room(version: u32) -> usize
+    ensures { result ≡ name_room version }
 {
     if version & 0x400 == 0 { 32 } else { 256 }
 }
 
-// The size from the attributes, whose names have at most `names` bytes.
-fn find_window<S: Source>(source: &mut S, names: usize) -> Result<ImageSize, Halt>
-    requires some { 0 < names }
-    requires few { names ≤ 256 }
-    ensures { Runs (S.state source.old) (S.state source.new) result
-        (chain_at (exr_attributes names) (S.state source.old).held.input) }
+/// The greatest length of a name in bytes, with the zero that ends it: 256 if names may be long, else 32.
+#[inline(always)]
+pub fn names_of(long: bool) -> usize
+    ensures { result ≡ names_of long }
 {
-    let attributes = Attributes {
-        names,
-        buffer: [0; 256],
-    };
-    walk(attributes, source, 8)
+    if long { 256 } else { 32 }
 }
 
 /// The attributes.
 #[derive(Drop)]
 pub struct Attributes {
-    /// Their names have at most this many bytes.
-    pub names: usize,
+    /// Whether their names may be long.
+    pub long: bool,
     /// The names are read into this buffer.
     pub buffer: [u8; 256],
 }
 
 impl Records for Attributes {
-    type Held = ();
+    type State = bool;
 
     type Answer = ImageSize;
 
-    ghost said = { λ attributes passed offset. exr_attribute attributes.names offset };
+    ghost step = { exr_step };
 
-    ghost keeps = { λ attributes passed offset. (0 < attributes.names) × (attributes.names ≤ 256) };
+    ghost state = { λ attributes. attributes.long };
+
+    ghost holds = { λ attributes offset. Unit {0} };
 
     // Reads the attribute at an offset.
     #[inline(always)]
@@ -90,8 +100,8 @@ impl Records for Attributes {
         &mut self,
         source: &mut S,
         offset: u64,
-    ) -> Result<Found<(), ImageSize>, Halt> {
-        read_attribute(source, offset, self.names, &mut self.buffer)
+    ) -> Result<Found<ImageSize>, Halt> {
+        read_attribute(source, offset, self.long, &mut self.buffer)
     }
 
     // The input ends before the size.
@@ -102,23 +112,22 @@ impl Records for Attributes {
     }
 }
 
-/// Reads the attribute at an offset, whose names have at most `names` bytes. They are read into the caller's buffer. Returns the
-/// size from a data window that is not reversed, or the length of another attribute in bytes.
+/// Reads the attribute at an offset. Its names are read into the caller's buffer. Returns the size from a data window that is not
+/// reversed, or the length of another attribute in bytes.
 #[inline(always)]
-#[tactic(auto, using(imagesize_source::proofs::Runs::steps, imagesize_source::proofs::Runs::missed_before))]
+#[tactic(auto, using(imagesize_source::proofs::Runs::steps, imagesize_source::proofs::Runs::missed_before, imagesize_source::proofs::Layouts::binding))]
 pub fn read_attribute<S: Source>(
     source: &mut S,
     offset: u64,
-    names: usize,
+    long: bool,
     buffer: &mut [u8],
-) -> Result<Found<(), ImageSize>, Halt>
-    requires some { 0 < names }
-    requires few { names ≤ 256 }
-    requires fits { names ≤ length buffer.old }
-    ensures nears { IfOk result (λ found. Nears (S.state source.old) (S.state source.new) offset (said_at offset found)) }
-    ensures runs { Follows (S.state source.old) (S.state source.new) (map_answer (said_at offset) result)
-        (exr_attribute names offset) }
+) -> Result<Found<ImageSize>, Halt>
+    requires { names_of long ≤ length buffer.old }
+    ensures nears { IfOk result (λ found. Nears (S.state source.old) (S.state source.new) offset (said_at long offset found)) }
+    ensures runs { Follows (S.state source.old) (S.state source.new) (map_answer (said_at long offset) result)
+        (exr_step long offset) }
 {
+    let names = names_of(long);
     let name = read_name(source, offset, names, buffer)?;
     if name.is_empty() {
         return Err(Halt::DataWindowNotFound);
@@ -132,17 +141,13 @@ pub fn read_attribute<S: Source>(
     let taken = sized + 4;
     if !is_window {
         return Ok(Found::Other {
-            held: (),
             length: taken + size as u64,
         });
     }
     let window = read_bytes_behind::<S, 16>(source, offset, taken)?;
     Ok(match window_size(&window) {
         Some(size) => Found::Answer(size),
-        None => Found::Other {
-            held: (),
-            length: taken + 16,
-        },
+        None => Found::Other { length: taken + 16 },
     })
 }
 

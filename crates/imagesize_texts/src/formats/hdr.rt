@@ -5,13 +5,12 @@ ghost use Rattle.imagesize_source.specs.Reading.{map_answer};
 ghost use Rattle.imagesize_source.specs.State.{Runs, Follows};
 ghost use Rattle.imagesize_source.specs.Walk.{said_at};
 ghost use Rattle.imagesize_texts.specs.Contents.{words};
-ghost use Rattle.imagesize_texts.specs.Hdr.{hdr, hdr_identifier, hdr_line, is_hdr, is_identifier, is_resolution, second_and_fourth};
-ghost use Rattle.imagesize_texts.specs.Texts.{line_at};
+ghost use Rattle.imagesize_texts.specs.Hdr.{hdr, hdr_identifier, hdr_open, hdr_step, is_hdr, is_identifier, is_resolution, second_and_fourth};
 
 use crate::util::{number, read_line_capped};
 use imagesize_source::Halt;
 use imagesize_source::source::Source;
-use imagesize_source::walk::{Found, Records, walk};
+use imagesize_source::walk::{Found, Records, Start, walk};
 use imagesize_types::size::{ImageSize, size_if_known};
 
 /// A line after the first has at most this many bytes, including its line feed.
@@ -57,11 +56,24 @@ pub fn size<S: Source>(source: &mut S) -> Result<ImageSize, Halt>
     ensures { Runs (S.state source.old) (S.state source.new) result
         (hdr (S.state source.old).held.input) }
 {
-    let first = read_identifier(source)?;
+    let start = open(source)?;
     let lines = Lines {
         buffer: [0; LINE_ROOM],
     };
-    walk(lines, source, first)
+    walk(lines, source, start.offset)
+}
+
+/// Reads the first line, which must begin with an identifier. Returns the offset of the next line.
+#[inline(always)]
+#[tactic(auto, using(imagesize_source::proofs::Runs::steps, imagesize_source::proofs::Layouts::binding))]
+pub fn open<S: Source>(source: &mut S) -> Result<Start<()>, Halt>
+    ensures { Follows (S.state source.old) (S.state source.new) result hdr_open }
+{
+    let offset = read_identifier(source)?;
+    Ok(Start {
+        records: (),
+        offset,
+    })
 }
 
 /// Reads the first line, which must begin with an identifier, and returns its length in bytes with the line feed.
@@ -85,13 +97,15 @@ pub struct Lines {
 }
 
 impl Records for Lines {
-    type Held = ();
+    type State = ();
 
     type Answer = ImageSize;
 
-    ghost said = { λ _ passed offset. line_at 0x0A offset 256 (hdr_line offset) };
+    ghost step = { hdr_step };
 
-    ghost keeps = { λ _ passed offset. Unit {0} };
+    ghost state = { λ _. tt };
+
+    ghost holds = { λ _ offset. Unit {0} };
 
     // Reads the line at an offset.
     #[inline(always)]
@@ -99,13 +113,12 @@ impl Records for Lines {
         &mut self,
         source: &mut S,
         offset: u64,
-    ) -> Result<Found<(), ImageSize>, Halt> {
+    ) -> Result<Found<ImageSize>, Halt> {
         read_line(source, offset, &mut self.buffer)
     }
 
     // The input ends before the size.
     #[inline(always)]
-    #[tactic(auto, using(crate::proofs::Hdr::hdr_ends))]
     fn at_end(&self) -> Result<ImageSize, Halt> {
         Err(Halt::Ended)
     }
@@ -119,11 +132,12 @@ pub fn read_line<S: Source>(
     source: &mut S,
     offset: u64,
     buffer: &mut [u8],
-) -> Result<Found<(), ImageSize>, Halt>
+) -> Result<Found<ImageSize>, Halt>
     requires { length buffer.old ≡ 256 }
-    ensures nears { IfOk result (λ found. Nears (S.state source.old) (S.state source.new) offset (said_at offset found)) }
-    ensures runs { Follows (S.state source.old) (S.state source.new) (map_answer (said_at offset) result)
-        (line_at 0x0A offset 256 (hdr_line offset)) }
+    ensures nears { IfOk result (λ found. Nears (S.state source.old) (S.state source.new) offset
+        (said_at {S = Unit {0}} tt offset found)) }
+    ensures runs { Follows (S.state source.old) (S.state source.new) (map_answer (said_at {S = Unit {0}} tt offset) result)
+        (hdr_step tt offset) }
 {
     let line = read_line_capped(source, offset, b'\n', buffer)?;
     if is_resolution(line) {
@@ -135,7 +149,6 @@ pub fn read_line<S: Source>(
         return Ok(Found::Answer(size));
     }
     Ok(Found::Other {
-        held: (),
         length: line.len() as u64 + 1,
     })
 }

@@ -1,11 +1,18 @@
 //! Portable bitmaps: the manual pages pbm(5), pgm(5) and ppm(5) of Netpbm.
-ghost use Rattle.std.specs.Prelude.{◌≡◌};
-ghost use Rattle.imagesize_source.specs.State.{Runs};
+ghost use Rattle.std.specs.Prelude.{◌≡◌, false, IfErr, IfOk};
+ghost use Rattle.imagesize_source.specs.Paying.{Nears};
+ghost use Rattle.imagesize_source.specs.Reading.{is_stopped, map_answer};
+ghost use Rattle.imagesize_source.specs.State.{Follows, Runs};
+ghost use Rattle.imagesize_source.specs.Walk.{said_at};
 ghost use Rattle.imagesize_source.specs.declared.walk.Found.TheVariants as found;
-ghost use Rattle.imagesize_texts.specs.Pnm.{is_blank, is_comment, is_pnm, pnm, pnm_word};
-ghost use Rattle.imagesize_texts.specs.Texts.{word};
+ghost use Rattle.imagesize_texts.specs.Pnm.{is_blank, is_comment, is_pnm, pnm, words_step};
+ghost use Rattle.imagesize_texts.specs.Texts.{read_word_of};
+ghost use Rattle.imagesize_texts.specs.Walks.{pnm_step, part_after};
+ghost use Rattle.imagesize_texts.specs.declared.formats.pnm.Part.TheVariants as part;
 
-use crate::util::{WORD_ROOM, number, pass_line_behind, read_word, read_word_behind};
+use crate::util::{
+    WORD_ROOM, Word, number, pass_line_behind, pass_line_capped, read_word, read_word_behind,
+};
 use imagesize_source::Halt;
 use imagesize_source::source::Source;
 use imagesize_source::walk::{Found, Records, walk};
@@ -47,13 +54,15 @@ pub struct Words {
 }
 
 impl Records for Words {
-    type Held = ();
+    type State = ();
 
     type Answer = ImageSize;
 
-    ghost said = { λ _ passed offset. word offset (pnm_word offset) };
+    ghost step = { words_step };
 
-    ghost keeps = { λ _ passed offset. Unit {0} };
+    ghost state = { λ _. tt };
+
+    ghost holds = { λ _ offset. Unit {0} };
 
     // Reads the word at an offset. After the width it reads the height too, and at the start of a comment the rest of the
     // comment.
@@ -63,7 +72,7 @@ impl Records for Words {
         &mut self,
         source: &mut S,
         offset: u64,
-    ) -> Result<Found<(), ImageSize>, Halt> {
+    ) -> Result<Found<ImageSize>, Halt> {
         let word = read_word(source, offset, &mut self.buffer)?;
         let taken = word.taken as u64;
         if is_comment(word.text) {
@@ -85,7 +94,6 @@ impl Records for Words {
 
     // The input ends before the size.
     #[inline(always)]
-    #[tactic(auto, using(crate::proofs::Pnm::pnm_ends))]
     fn at_end(&self) -> Result<ImageSize, Halt> {
         Err(Halt::Ended)
     }
@@ -93,13 +101,122 @@ impl Records for Words {
 
 // A word of `taken` bytes that does not give the size.
 #[inline(always)]
-fn pass(taken: u64) -> Found<(), ImageSize>
-    ensures { result ≡ found.Other tt taken }
+fn pass(taken: u64) -> Found<ImageSize>
+    ensures { result ≡ found.Other taken }
 {
-    Found::Other {
-        held: (),
-        length: taken,
+    Found::Other { length: taken }
+}
+
+/// The next part of a header, for a walk that may stop before each part.
+#[derive(Clone, Copy)]
+pub enum Part {
+    /// A word, which may be the width.
+    Word,
+    /// The rest of a comment.
+    Comment,
+    /// The height, after this width.
+    Height { width: Option<usize> },
+}
+
+impl Part {
+    /// Reads the part at an offset into the caller's buffer. Then this is the part after it. Returns the size from the height,
+    /// or the length of another part in bytes.
+    #[inline(always)]
+    pub fn read<S: Source>(
+        &mut self,
+        source: &mut S,
+        offset: u64,
+        buffer: &mut [u8; WORD_ROOM],
+    ) -> Result<Found<ImageSize>, Halt>
+        ensures nears { IfOk result (λ found. Nears (S.state source.old) (S.state source.new) offset (said_at self.new offset found)) }
+        ensures stays { IfErr result (λ _. self.new ≡ self.old) }
+        ensures runs { Follows (S.state source.old) (S.state source.new) (map_answer (said_at self.new offset) result)
+            (pnm_step self.old offset) }
+    {
+        match *self {
+            Part::Word => read_header_word(self, source, offset, buffer),
+            Part::Comment => read_comment(self, source, offset, buffer),
+            Part::Height { width } => read_height(source, offset, width, buffer),
+        }
     }
+}
+
+// Reads a word. Then `next` is the part after it.
+#[tactic(auto, using(imagesize_source::proofs::Runs::steps))]
+fn read_header_word<S: Source>(
+    next: &mut Part,
+    source: &mut S,
+    offset: u64,
+    buffer: &mut [u8; WORD_ROOM],
+) -> Result<Found<ImageSize>, Halt>
+    ensures nears { IfOk result (λ found. Nears (S.state source.old) (S.state source.new) offset (said_at next.new offset found)) }
+    ensures stays { IfErr result (λ _. next.new ≡ next.old) }
+    ensures runs { Follows (S.state source.old) (S.state source.new) (map_answer (said_at next.new offset) result)
+        (pnm_step part.Word offset) }
+{
+    let word = read_word(source, offset, buffer)?;
+    *next = part_after(&word);
+    Ok(Found::Other {
+        length: word.taken as u64,
+    })
+}
+
+// The part after a word. The first word outside comments that is not blank is the width.
+fn part_after(word: &Word<'_>) -> Part
+    ensures { result ≡ part_after (read_word_of word.now) }
+{
+    if is_comment(word.text) {
+        return if word.ended_by == b'\n' {
+            Part::Word
+        } else {
+            Part::Comment
+        };
+    }
+    if is_blank(word.text) {
+        return Part::Word;
+    }
+    Part::Height {
+        width: number(word.text),
+    }
+}
+
+// Reads the rest of a comment, after which `next` is a word.
+#[tactic(auto, using(imagesize_source::proofs::Runs::steps))]
+fn read_comment<S: Source>(
+    next: &mut Part,
+    source: &mut S,
+    offset: u64,
+    buffer: &mut [u8; WORD_ROOM],
+) -> Result<Found<ImageSize>, Halt>
+    ensures nears { IfOk result (λ found. Nears (S.state source.old) (S.state source.new) offset (said_at next.new offset found)) }
+    ensures stays { IfErr result (λ _. next.new ≡ next.old) }
+    ensures runs { Follows (S.state source.old) (S.state source.new) (map_answer (said_at next.new offset) result)
+        (pnm_step part.Comment offset) }
+{
+    let taken = pass_line_capped(source, offset, b'\n', buffer)?;
+    *next = Part::Word;
+    Ok(Found::Other {
+        length: taken as u64,
+    })
+}
+
+// Reads the word that is the height. Returns the size.
+#[tactic(auto, using(imagesize_source::proofs::Runs::steps))]
+fn read_height<S: Source>(
+    source: &mut S,
+    offset: u64,
+    width: Option<usize>,
+    buffer: &mut [u8; WORD_ROOM],
+) -> Result<Found<ImageSize>, Halt>
+    ensures nears { IfOk result (λ found. Nears (S.state source.old) (S.state source.new) offset
+        (said_at (part.Height width) offset found)) }
+    ensures runs { Follows (S.state source.old) (S.state source.new) (map_answer (said_at (part.Height width) offset) result)
+        (pnm_step (part.Height width) offset) }
+{
+    let word = read_word(source, offset, buffer)?;
+    let size = size_if_known(width, number(word.text.trim()));
+    let size = size.ok_or(Halt::PnmDimensionsNotFound)?;
+    Ok(Found::Answer(size))
 }
 
 /// Whether a word begins a comment.

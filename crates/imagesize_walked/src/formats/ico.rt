@@ -1,20 +1,16 @@
 //! Windows icons, by `ICONDIR` and `ICONDIRENTRY` of "Icons" (Win32).
-ghost use Rattle.std.specs.Prelude.{◌≡◌, ◌+◌, ◌<◌, ◌≤◌, ◌*◌, IfErr, IfOk, IfSome, Some, ok_or};
-ghost use Rattle.std.specs.Option.{ForSome};
-ghost use Rattle.imagesize_walked.specs.Ico.{ico, icon_entries, icon_in, icon_side, icon_size, is_ico};
-ghost use Rattle.imagesize_walked.specs.Walks.{IconsOn, IsIcon, Seen, entry_in};
+ghost use Rattle.std.specs.Prelude.{◌≡◌, ◌+◌, ◌<◌, ◌≤◌, ◌*◌, IfOk, IfSome, Some, ok_or};
+ghost use Rattle.imagesize_walked.specs.Ico.{ico, icon_side, icon_size, is_ico};
+ghost use Rattle.imagesize_walked.specs.Walks.{IsIcon, IsIconIfSome, entry_in, ico_holds, ico_open, ico_step};
 ghost use Rattle.imagesize_types.specs.Largest.{later_largest};
 ghost use Rattle.imagesize_types.specs.Order.{area_of};
 ghost use Rattle.imagesize_source.specs.declared.halt.Halt.TheVariants as halt;
-ghost use Rattle.imagesize_source.specs.Chain.{chain_at};
-ghost use Rattle.imagesize_source.specs.Paying.{Nears, Paid};
-ghost use Rattle.imagesize_source.specs.Reading.{map_answer};
-ghost use Rattle.imagesize_source.specs.Walk.{said_at};
-ghost use Rattle.imagesize_source.specs.State.{Runs, Follows, IsSound};
+ghost use Rattle.imagesize_source.specs.Paying.{Paid};
+ghost use Rattle.imagesize_source.specs.State.{Runs, Follows};
 
 use imagesize_source::readings::{read_if_there, read_u16};
 use imagesize_source::source::Source;
-use imagesize_source::walk::{Found, Records, walk};
+use imagesize_source::walk::{Found, Records, Start, walk};
 use imagesize_source::{Endian, Halt};
 use imagesize_types::size::ImageSize;
 
@@ -27,31 +23,34 @@ pub fn matches(head: &[u8; 12]) -> bool
     matches!(head, [0, 0, 1, 0, ..])
 }
 
-/// The width and the height in pixels of the image with the greatest area, or the last of several.
-#[tactic(auto, using(imagesize_source::proofs::Runs::steps))]
+/// The width and the height in pixels of the image with the greatest area, or the last of several. Icons whose entries lie past
+/// the end of the input do not count.
+#[tactic(auto, using(crate::proofs::Ico::ico_follows))]
 pub fn size<S: Source>(source: &mut S) -> Result<ImageSize, Halt>
     ensures { Runs (S.state source.old) (S.state source.new) result (ico (S.state source.old).held.input) }
 {
-    let count = read_u16(source, 4, Endian::Little)?;
-    largest(source, count)
+    let start = open(source)?;
+    walk(start.records, source, start.offset)
 }
 
-// The size of the largest of `count` icons. Icons whose entries lie past the end of the input do not count.
-fn largest<S: Source>(source: &mut S, count: u16) -> Result<ImageSize, Halt>
-    requires { IsSound (S.state source.old) }
-    ensures { Runs (S.state source.old) (S.state source.new) result
-        (chain_at (icon_entries count) (S.state source.old).held.input) }
+/// Reads the number of icons. Returns the state before the first entry, and the offset of that entry.
+#[inline(always)]
+#[tactic(auto, using(imagesize_source::proofs::Runs::steps))]
+pub fn open<S: Source>(source: &mut S) -> Result<Start<Entries>, Halt>
+    ensures first { IfOk result (λ start. ico_holds start.records start.offset) }
+    ensures runs { Follows (S.state source.old) (S.state source.new) result ico_open }
 {
-    let entries = Entries {
+    let count = read_u16(source, 4, Endian::Little)?;
+    let records = Entries {
         count,
         seen: 0,
         largest: None,
     };
-    walk(entries, source, 6)
+    Ok(Start { records, offset: 6 })
 }
 
 /// The entries of the directory: their stated number, how many were read, and the largest size among these.
-#[derive(Drop)]
+#[derive(Clone, Copy)]
 pub struct Entries {
     /// How many there are.
     pub count: u16,
@@ -59,69 +58,49 @@ pub struct Entries {
     pub seen: u16,
     /// The largest size of those that were read.
     pub largest: Option<ImageSize>,
-    ghost few: { seen ≤ count },
 }
 
 impl Records for Entries {
-    type Held = ImageSize;
+    type State = Entries;
 
     type Answer = ImageSize;
 
-    ghost said = { λ entries sizes offset. (icon_entries entries.count).said sizes offset };
+    ghost step = { ico_step };
 
-    ghost keeps = { λ entries sizes offset. Seen entries.seen entries.largest sizes };
+    ghost state = { λ entries. entries };
+
+    ghost holds = { ico_holds };
 
     // Reads the entry at an offset.
     #[inline(always)]
-    #[tactic(auto, using(crate::proofs::Ico::icons_on, crate::proofs::Ico::icons_stay, crate::proofs::Ico::icon_as))]
+    #[tactic(auto, using(imagesize_source::proofs::Runs::steps))]
     fn read_record<S: Source>(
         &mut self,
         source: &mut S,
         offset: u64,
-    ) -> Result<Found<ImageSize, ImageSize>, Halt> {
-        self.read_icon(source, offset)
+    ) -> Result<Found<ImageSize>, Halt> {
+        let Some(bytes) = self.read_entry(source, offset)? else {
+            return Ok(Found::Answer(answer(self.largest)?));
+        };
+        self.largest = Some(larger(self.largest, icon_size(bytes)));
+        self.seen += 1;
+        Ok(Found::Other { length: 16 })
     }
 
     // The largest size so far.
     #[inline(always)]
+    #[tactic(auto, using(crate::proofs::Ico::ico_ends))]
     fn at_end(&self) -> Result<ImageSize, Halt> {
         answer(self.largest)
     }
 }
 
 impl Entries {
-    /// Reads the entry at an offset.
-    #[inline(always)]
-    #[tactic(auto, using(imagesize_source::proofs::Runs::steps))]
-    pub fn read_icon<S: Source>(
-        &mut self,
-        source: &mut S,
-        offset: u64,
-    ) -> Result<Found<ImageSize, ImageSize>, Halt>
-        requires { ForSome self.now.largest IsIcon }
-        ensures count { self.new.count ≡ self.old.count }
-        ensures nears { IfOk result (λ found. Nears (S.state source.old) (S.state source.new) offset (said_at offset found)) }
-        ensures on { IfOk result (λ found. IconsOn self.old.seen self.old.largest self.new.seen self.new.largest (said_at offset found)) }
-        ensures stays { IfErr result (λ _. (self.new.seen ≡ self.old.seen) × (self.new.largest ≡ self.old.largest)) }
-        ensures runs { Follows (S.state source.old) (S.state source.new) (map_answer (said_at offset) result)
-            (icon_in self.old.count self.old.seen self.old.largest offset) }
-    {
-        let Some(bytes) = self.read_entry(source, offset)? else {
-            return Ok(Found::Answer(answer(self.largest)?));
-        };
-        let size = icon_size(bytes);
-        self.largest = Some(larger(self.largest, size));
-        self.seen += 1;
-        Ok(Found::Other {
-            held: size,
-            length: 16,
-        })
-    }
-
     // The first two bytes of the next entry. `None` if all are read, or if the input ends before the second byte.
     #[inline(always)]
     #[tactic(auto, using(imagesize_source::proofs::Runs::steps))]
     fn read_entry<S: Source>(&self, source: &mut S, offset: u64) -> Result<Option<[u8; 2]>, Halt>
+        requires { self.now.seen ≤ self.now.count }
         ensures pays { IfOk result (λ entry. IfSome entry (λ _. Paid (S.state source.old) (S.state source.new) offset)) }
         ensures more { IfOk result (λ entry. IfSome entry (λ _. self.now.seen < self.now.count)) }
         ensures runs { Follows (S.state source.old) (S.state source.new) result (entry_in self.now.count self.now.seen offset) }
@@ -145,7 +124,7 @@ fn answer(largest: Option<ImageSize>) -> Result<ImageSize, Halt>
 
 // The size of greater area, or the second of two equal ones.
 fn larger(best: Option<ImageSize>, size: ImageSize) -> ImageSize
-    requires best { ForSome best IsIcon }
+    requires best { IsIconIfSome best }
     requires is { IsIcon size }
     ensures icon { IsIcon result }
     ensures later { Some result ≡ later_largest best size }

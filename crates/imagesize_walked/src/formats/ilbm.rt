@@ -1,7 +1,8 @@
 //! Interleaved bitmaps: "EA IFF 85" (forms and chunks) and its supplement "ILBM" (the bitmap header).
 ghost use Rattle.imagesize_source.specs.State.{Runs};
 ghost use Rattle.std.specs.Prelude.{◌≡◌};
-ghost use Rattle.imagesize_walked.specs.Ilbm.{chunk_bytes, chunk_length, ilbm, ilbm_chunk, is_bitmap_header, is_body, is_ilbm};
+ghost use Rattle.imagesize_walked.specs.Ilbm.{chunk_bytes, chunk_length, ilbm, is_bitmap_header, is_body, is_ilbm};
+ghost use Rattle.imagesize_walked.specs.Walks.{ilbm_holds, ilbm_step};
 
 use imagesize_source::readings::{read_exact_at, read_u16_behind};
 use imagesize_source::source::Source;
@@ -22,7 +23,7 @@ pub fn matches(head: &[u8; 12]) -> bool
 
 /// The width and the height in pixels, from the first bitmap header before the pixels. Returns `Corrupted` if the pixels come
 /// first, and `Ended` if the input ends before the size.
-#[tactic(auto, using(crate::proofs::Ilbm::ilbm_advances))]
+#[tactic(auto, using(crate::proofs::Ilbm::ilbm_follows, crate::proofs::Ilbm::ilbm_is))]
 pub fn size<S: Source>(source: &mut S) -> Result<ImageSize, Halt>
     ensures { Runs (S.state source.old) (S.state source.new) result (ilbm (S.state source.old).held.input) }
 {
@@ -34,13 +35,15 @@ pub fn size<S: Source>(source: &mut S) -> Result<ImageSize, Halt>
 pub struct Chunks;
 
 impl Records for Chunks {
-    type Held = ();
+    type State = Chunks;
 
     type Answer = ImageSize;
 
-    ghost said = { λ _ passed offset. ilbm_chunk offset };
+    ghost step = { ilbm_step };
 
-    ghost keeps = { λ _ passed offset. Unit {0} };
+    ghost state = { λ chunks. chunks };
+
+    ghost holds = { ilbm_holds };
 
     // Reads the chunk at an offset.
     #[inline(always)]
@@ -49,7 +52,7 @@ impl Records for Chunks {
         &mut self,
         source: &mut S,
         offset: u64,
-    ) -> Result<Found<(), ImageSize>, Halt> {
+    ) -> Result<Found<ImageSize>, Halt> {
         // Read into a buffer: bytes returned in a result are copied in parts, and a load of the whole waits for all of them.
         let mut head = [0u8; 8];
         read_exact_at(source, offset, &mut head)?;
@@ -62,7 +65,6 @@ impl Records for Chunks {
             return Err(Halt::Corrupted);
         }
         Ok(Found::Other {
-            held: (),
             length: chunk_bytes(chunk_length(&head)),
         })
     }

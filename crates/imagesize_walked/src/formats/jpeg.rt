@@ -1,12 +1,9 @@
 //! JPEG: ITU-T T.81, annex B. Walks along the segments up to the first frame of the image itself.
-ghost use Rattle.std.specs.Prelude.{◌≡◌, ℕ, ◌↔◌, ◌<◌, ◌+◌, ◌^◌, IfOk, IfErr, IsTrue};
-ghost use Rattle.imagesize_walked.specs.Jpeg.{depth, is_frame, is_jpeg, is_own_end, is_own_frame, jpeg, jpeg_segment, jpeg_segments};
-ghost use Rattle.imagesize_walked.specs.Walks.{depth_behind, is_plain, LeadsOn, RoleLeadsOn, Stands};
-ghost use Rattle.imagesize_source.specs.Walk.{said_at};
-ghost use Rattle.imagesize_source.specs.Paying.{Nears};
-ghost use Rattle.imagesize_source.specs.Reading.{map_answer};
-ghost use Rattle.imagesize_source.specs.Chain.{Along};
-ghost use Rattle.imagesize_source.specs.State.{Follows, Runs, State};
+ghost use Rattle.std.specs.Prelude.{◌≡◌, ℕ, ◌<◌, ◌≤◌, ◌+◌, ◌^◌};
+ghost use Rattle.imagesize_walked.specs.Jpeg.{is_frame, is_jpeg, is_own_end, is_own_frame, jpeg};
+ghost use Rattle.imagesize_walked.specs.Walks.{depth_behind, is_plain, jpeg_first, jpeg_holds, jpeg_step, HasRole};
+ghost use Rattle.imagesize_walked.specs.declared.formats.jpeg.Segments.{Segments};
+ghost use Rattle.imagesize_source.specs.State.{Runs, State};
 ghost use Rattle.imagesize_source.specs.Strides.{Strides};
 
 use imagesize_source::readings::{read_bytes, read_u16_behind};
@@ -26,7 +23,7 @@ pub fn matches(head: &[u8; 12]) -> bool
 
 /// The width and the height in pixels, from the first frame that does not belong to an image within the image. Returns
 /// `Corrupted` if a segment does not begin with FF or the image ends before its frame, and `Ended` if the input does.
-#[tactic(auto, using(crate::proofs::Jpeg::jpeg_advances, crate::proofs::Jpeg::stands_first))]
+#[tactic(auto, using(crate::proofs::Jpeg::jpeg_follows))]
 pub fn size<S: Source>(source: &mut S) -> Result<ImageSize, Halt>
     ensures { Runs (S.state source.old) (S.state source.new) result (jpeg (S.state source.old).held.input) }
 {
@@ -38,9 +35,10 @@ pub fn size<S: Source>(source: &mut S) -> Result<ImageSize, Halt>
 // mostly has segments with a marker below C0 or above D9. In a slice, this reads the four bytes of each at once.
 #[inline(always)]
 fn pass_plain<S: Source>(source: &S, first: u64) -> u64
-    ensures { (a : State) (t : Along ℕ)
-        → Strides jpeg_segments (λ markers. Stands 0 markers first) a (S.state source.now) t first
-        → Strides jpeg_segments (λ markers. Stands 0 markers result) a (S.state source.now) t result }
+    ensures ahead { first ≤ result }
+    ensures strides { (a : State) (s : Segments) (offset : ℕ)
+        → Strides jpeg_step a (S.state source.now) s offset jpeg_first first
+        → Strides jpeg_step a (S.state source.now) s offset jpeg_first result }
 {
     let mut offset = first;
     while let Some(head) = source.glance(offset)
@@ -67,27 +65,46 @@ pub struct Segments {
 }
 
 impl Records for Segments {
-    type Held = u8;
+    type State = Segments;
 
     type Answer = ImageSize;
 
-    ghost said = { λ _ markers offset. jpeg_segment (depth markers) offset };
+    ghost step = { jpeg_step };
 
-    ghost keeps = { λ segments markers offset. Stands segments.depth markers offset };
+    ghost state = { λ segments. segments };
+
+    ghost holds = { jpeg_holds };
 
     // Reads the segment at an offset.
     #[inline(always)]
-    #[tactic(auto, using(crate::proofs::Jpeg::stands_on, crate::proofs::Jpeg::stands_stay, crate::proofs::Jpeg::segment_as, crate::proofs::Jpeg::shallow))]
+    #[tactic(auto, using(imagesize_source::proofs::Runs::steps, imagesize_source::proofs::Runs::missed_before))]
     fn read_record<S: Source>(
         &mut self,
         source: &mut S,
         offset: u64,
-    ) -> Result<Found<u8, ImageSize>, Halt> {
-        self.read_segment(source, offset)
+    ) -> Result<Found<ImageSize>, Halt> {
+        let [first, marker] = read_bytes::<S, 2>(source, offset)?;
+        if first != 0xFF {
+            return Err(Halt::Corrupted);
+        }
+        match role_of(self.depth, marker) {
+            Role::Frame => {
+                let height = read_u16_behind(source, offset, 5, Endian::Big)? as usize;
+                let width = read_u16_behind(source, offset, 7, Endian::Big)? as usize;
+                Ok(Found::Answer(ImageSize { width, height }))
+            }
+            Role::End => Err(Halt::Corrupted),
+            Role::Other { depth } => {
+                let length = read_u16_behind(source, offset, 2, Endian::Big)? as u64;
+                self.depth = depth;
+                Ok(Found::Other { length: 2 + length })
+            }
+        }
     }
 
     // The input ends before the size.
     #[inline(always)]
+    #[tactic(auto, using(crate::proofs::Jpeg::jpeg_ends))]
     fn at_end(&self) -> Result<ImageSize, Halt> {
         Err(Halt::Ended)
     }
@@ -106,12 +123,9 @@ enum Role {
 
 // What a marker at this depth means. Most markers are not from C0 to D9.
 #[inline(always)]
-#[tactic(auto, unfolding(crate::specs::Walks::LeadsTo))]
 fn role_of(depth: u64, marker: u8) -> Role
     requires { depth + 1 < 2 ^ 64 }
-    ensures frame { (result ≡ Role.Frame) ↔ IsTrue (is_own_frame depth marker) }
-    ensures end { (result ≡ Role.End) ↔ IsTrue (is_own_end depth marker) }
-    ensures other { RoleLeadsOn depth marker result }
+    ensures { HasRole depth marker result }
 {
     if !matches!(marker, 0xC0..=0xD9) {
         return Role::Other { depth };
@@ -124,44 +138,6 @@ fn role_of(depth: u64, marker: u8) -> Role
     }
     Role::Other {
         depth: depth_behind(depth, marker),
-    }
-}
-
-impl Segments {
-    /// Reads the segment at an offset.
-    #[inline(always)]
-    #[tactic(auto, using(imagesize_source::proofs::Runs::steps))]
-    pub fn read_segment<S: Source>(
-        &mut self,
-        source: &mut S,
-        offset: u64,
-    ) -> Result<Found<u8, ImageSize>, Halt>
-        requires { self.now.depth + 1 < 2 ^ 64 }
-        ensures nears { IfOk result (λ found. Nears (S.state source.old) (S.state source.new) offset (said_at offset found)) }
-        ensures depth { IfOk result (λ found. LeadsOn self.old.depth self.new.depth (said_at offset found)) }
-        ensures stays { IfErr result (λ _. self.new.depth ≡ self.old.depth) }
-        ensures runs { Follows (S.state source.old) (S.state source.new) (map_answer (said_at offset) result) (jpeg_segment self.old.depth offset) }
-    {
-        let [first, marker] = read_bytes::<S, 2>(source, offset)?;
-        if first != 0xFF {
-            return Err(Halt::Corrupted);
-        }
-        match role_of(self.depth, marker) {
-            Role::Frame => {
-                let height = read_u16_behind(source, offset, 5, Endian::Big)? as usize;
-                let width = read_u16_behind(source, offset, 7, Endian::Big)? as usize;
-                Ok(Found::Answer(ImageSize { width, height }))
-            }
-            Role::End => Err(Halt::Corrupted),
-            Role::Other { depth } => {
-                let length = read_u16_behind(source, offset, 2, Endian::Big)? as u64;
-                self.depth = depth;
-                Ok(Found::Other {
-                    held: marker,
-                    length: 2 + length,
-                })
-            }
-        }
     }
 }
 

@@ -1,11 +1,12 @@
 //! TIFF, by "TIFF Revision 6.0" (section 2), and BigTIFF, by "The BigTIFF File Format".
 ghost use Rattle.std.specs.Prelude.{◌≡◌, ◌+◌, ◌<◌, ◌≤◌, IfErr, IfOk, false, take, length};
-ghost use Rattle.imagesize_walked.specs.Tiff.{byte_order, count_bytes, directory_at, entry_behind, head_bytes, is_tiff, field_type_in, field_type_of, side_with, stated_offset, tag_in, tiff, tiff_entries, tiff_entry, tiff_head, tiff_header, tiff_value, value_bytes, value_of, version_of};
+ghost use Rattle.imagesize_walked.specs.Tiff.{byte_order, count_bytes, directory_at, entry_bytes, head_bytes, is_tiff, field_type_in, field_type_of, side_with, stated_offset, tag_in, tiff, tiff_entries, tiff_entry, tiff_head, tiff_header, tiff_value, value_bytes, value_of, version_of};
+ghost use Rattle.imagesize_walked.specs.Walks.{listed_end, listed_first, listed_holds, listed_step, tiff_holds, tiff_open, tiff_step};
+ghost use Rattle.imagesize_walked.specs.declared.formats.tiff.Directory.TheVariants as directory;
 ghost use Rattle.imagesize_types.specs.Sides.{size_if_known};
 ghost use Rattle.imagesize_source.specs.Chain.{chain_at};
-ghost use Rattle.imagesize_source.specs.Paying.{Nears, ahead_of};
-ghost use Rattle.imagesize_source.specs.Walk.{said_at};
-ghost use Rattle.imagesize_walked.specs.Walks.{EntriesOn, Known};
+ghost use Rattle.imagesize_source.specs.Paying.{Nears, Paid, ahead_of};
+ghost use Rattle.imagesize_source.specs.Walk.{HoldsOn, said_at};
 ghost use Rattle.imagesize_source.specs.Reading.{is_stopped, map_answer, number_read};
 ghost use Rattle.imagesize_source.specs.State.{Runs, Follows, IsSound};
 
@@ -13,7 +14,7 @@ use imagesize_source::readings::{
     read_bytes, read_exact_at, read_u16, read_u32, read_u64, read_whole_behind,
 };
 use imagesize_source::source::Source;
-use imagesize_source::walk::{Found, Records, walk};
+use imagesize_source::walk::{Found, Records, Start, walk};
 use imagesize_source::{Endian, Halt};
 use imagesize_types::size::{ImageSize, size_if_known};
 
@@ -37,6 +38,19 @@ pub fn size<S: Source>(source: &mut S) -> Result<ImageSize, Halt>
     let header = read_header(source)?;
     let count = read_count(source, &header)?;
     find_size(source, &header, count)
+}
+
+/// Reads the header. Returns the state before the first directory, and the offset of that directory.
+#[tactic(auto, using(imagesize_source::proofs::Runs::steps, imagesize_source::proofs::Layouts::binding))]
+pub fn open<S: Source>(source: &mut S) -> Result<Start<Directory>, Halt>
+    ensures first { IfOk result (λ start. tiff_holds start.records start.offset) }
+    ensures runs { Follows (S.state source.old) (S.state source.new) result tiff_open }
+{
+    let header = read_header(source)?;
+    Ok(Start {
+        records: Directory::Count { header },
+        offset: header.directory,
+    })
 }
 
 /// Which of the two formats the file has.
@@ -143,16 +157,36 @@ fn read_big_offset<S: Source>(source: &mut S, order: Endian) -> Result<u64, Halt
 /// Reads how many entries the directory states that it has.
 #[tactic(auto, using(imagesize_source::proofs::Runs::steps))]
 pub fn read_count<S: Source>(source: &mut S, header: &Header) -> Result<u64, Halt>
-    ensures { Runs (S.state source.old) (S.state source.new) result
+    ensures pays { IfOk result (λ _. Paid (S.state source.old) (S.state source.new) header.now.directory) }
+    ensures runs { Runs (S.state source.old) (S.state source.new) result
         (number_read (S.state source.old).held.input header.now.order header.now.directory (count_bytes header.now.version)) }
 {
     match header.version {
-        Version::Tiff => {
-            let count = read_u16(source, header.directory, header.order)?;
-            Ok(count as u64)
-        }
-        Version::BigTiff => read_u64(source, header.directory, header.order),
+        Version::Tiff => read_short(source, header.directory, header.order),
+        Version::BigTiff => read_long(source, header.directory, header.order),
     }
+}
+
+// A number of two bytes.
+#[inline(always)]
+#[tactic(auto, using(imagesize_source::proofs::Runs::number_there, imagesize_source::proofs::Runs::number_missing))]
+fn read_short<S: Source>(source: &mut S, offset: u64, order: Endian) -> Result<u64, Halt>
+    ensures pays { IfOk result (λ _. Paid (S.state source.old) (S.state source.new) offset) }
+    ensures runs { Runs (S.state source.old) (S.state source.new) result (number_read (S.state source.old).held.input order offset 2) }
+{
+    let bytes = read_bytes::<S, 2>(source, offset)?;
+    Ok(order.u16(bytes) as u64)
+}
+
+// A number of eight bytes.
+#[inline(always)]
+#[tactic(auto, using(imagesize_source::proofs::Runs::number_there, imagesize_source::proofs::Runs::number_missing))]
+fn read_long<S: Source>(source: &mut S, offset: u64, order: Endian) -> Result<u64, Halt>
+    ensures pays { IfOk result (λ _. Paid (S.state source.old) (S.state source.new) offset) }
+    ensures runs { Runs (S.state source.old) (S.state source.new) result (number_read (S.state source.old).held.input order offset 8) }
+{
+    let bytes = read_bytes::<S, 8>(source, offset)?;
+    Ok(order.u64(bytes))
 }
 
 // The size from the first `count` entries of the directory.
@@ -181,20 +215,14 @@ fn find_size_of<S: Source, const HEAD: usize, const VALUE: usize>(
     ensures { Runs (S.state source.old) (S.state source.new) result
         (chain_at (tiff_entries header.now count) (S.state source.old).held.input) }
 {
-    let entries = Entries::<HEAD, VALUE> {
-        header: *header,
-        count,
-        seen: 0,
-        width: None,
-        height: None,
-    };
+    let listed = listed_first(*header, count);
     let first = header.directory.saturating_add(count_bytes(header.version));
-    walk(entries, source, first)
+    walk(Entries::<HEAD, VALUE> { listed }, source, first)
 }
 
-/// The entries of the directory: their stated number, how many were read, and the width and the height from these.
-#[derive(Drop)]
-pub struct Entries<const HEAD: usize, const VALUE: usize> {
+/// The header, the stated number of the directory's entries, how many were read, and the width and the height from these.
+#[derive(Clone, Copy)]
+pub struct Listed {
     /// The header.
     pub header: Header,
     /// How many there are.
@@ -205,82 +233,193 @@ pub struct Entries<const HEAD: usize, const VALUE: usize> {
     pub width: Option<u32>,
     /// The height that those tell.
     pub height: Option<u32>,
-    ghost few: { seen ≤ count },
-    ghost head: { HEAD ≡ head_bytes header.version },
-    ghost value: { VALUE ≡ value_bytes header.version },
+}
+
+// A directory of `count` entries, none of which was read.
+#[inline(always)]
+fn listed_first(header: Header, count: u64) -> Listed
+    ensures { result ≡ listed_first header count }
+{
+    Listed {
+        header,
+        count,
+        seen: 0,
+        width: None,
+        height: None,
+    }
+}
+
+/// The entries of the directory, each with a head of `HEAD` bytes and a value of `VALUE` bytes.
+#[derive(Drop)]
+pub struct Entries<const HEAD: usize, const VALUE: usize> {
+    /// The state before the next entry.
+    pub listed: Listed,
+    ghost head: { HEAD ≡ head_bytes listed.header.version },
+    ghost value: { VALUE ≡ value_bytes listed.header.version },
 }
 
 impl<const HEAD: usize, const VALUE: usize> Records for Entries<HEAD, VALUE> {
-    type Held = Entry;
+    type State = Listed;
 
     type Answer = ImageSize;
 
-    ghost said = { λ entries held offset. (tiff_entries entries.header entries.count).said held offset };
+    ghost step = { listed_step };
 
-    ghost keeps = { λ entries held offset. Known entries.seen entries.width entries.height held };
+    ghost state = { λ entries. entries.listed };
+
+    ghost holds = { λ entries offset. listed_holds entries.listed offset };
 
     // Reads the entry at an offset.
     #[inline(always)]
-    #[tactic(auto, using(crate::proofs::Tiff::entries_on, crate::proofs::Tiff::entries_stay, crate::proofs::Tiff::entry_runs))]
     fn read_record<S: Source>(
         &mut self,
         source: &mut S,
         offset: u64,
-    ) -> Result<Found<Entry, ImageSize>, Halt> {
-        read_next::<S, HEAD, VALUE>(
-            source,
-            offset,
-            &self.header,
-            self.count,
-            &mut self.seen,
-            &mut self.width,
-            &mut self.height,
-        )
+    ) -> Result<Found<ImageSize>, Halt> {
+        read_next::<S, HEAD, VALUE>(&mut self.listed, source, offset)
+    }
+
+    // No entry is left, or the input ends before the next one.
+    #[inline(always)]
+    #[tactic(auto, using(crate::proofs::Tiff::listed_ends))]
+    fn at_end(&self) -> Result<ImageSize, Halt> {
+        none_left(&self.listed)
+    }
+}
+
+/// The first directory: the number of its entries, and then these.
+#[derive(Clone, Copy)]
+pub enum Directory {
+    /// The number of entries is next.
+    Count {
+        /// The header.
+        header: Header,
+    },
+    /// An entry is next.
+    Entry(Listed),
+}
+
+impl Records for Directory {
+    type State = Directory;
+
+    type Answer = ImageSize;
+
+    ghost step = { tiff_step };
+
+    ghost state = { λ directory. directory };
+
+    ghost holds = { tiff_holds };
+
+    // Reads the number of entries, or the entry at an offset.
+    #[inline(always)]
+    fn read_record<S: Source>(
+        &mut self,
+        source: &mut S,
+        offset: u64,
+    ) -> Result<Found<ImageSize>, Halt> {
+        match self {
+            Directory::Count { header } => {
+                let header = *header;
+                self.read_number(source, offset, header)
+            }
+            Directory::Entry(listed) => read_listed(listed, source, offset),
+        }
     }
 
     // No entry is left, or the input ends before the next one.
     #[inline(always)]
     fn at_end(&self) -> Result<ImageSize, Halt> {
-        if self.seen == self.count {
-            return Err(Halt::NoDimensionsInIfd);
+        match self {
+            Directory::Count { .. } => Err(Halt::Ended),
+            Directory::Entry(listed) => none_left(listed),
         }
-        Err(Halt::Ended)
     }
 }
 
-/// Reads the entry at an offset, in a directory of `count` entries. `seen` entries were read before it, and stated this width and
-/// height. All three are changed where they are stored. For a stream, this saves 14 of 120 instructions an entry.
-#[inline(always)]
-pub fn read_next<S: Source, const HEAD: usize, const VALUE: usize>(
+impl Directory {
+    // Reads the number of entries at an offset.
+    #[tactic(auto, using(imagesize_source::proofs::Runs::steps))]
+    fn read_number<S: Source>(
+        &mut self,
+        source: &mut S,
+        offset: u64,
+        header: Header,
+    ) -> Result<Found<ImageSize>, Halt>
+        ensures nears { IfOk result (λ found. Nears (S.state source.old) (S.state source.new) offset (said_at self.new offset found)) }
+        ensures holds { IfOk result (HoldsOn (tiff_holds self.new) offset) }
+        ensures stays { IfErr result (λ _. self.new ≡ self.old) }
+        ensures runs { Follows (S.state source.old) (S.state source.new) (map_answer (said_at self.new offset) result)
+            (tiff_step (directory.Count header) offset) }
+    {
+        let count = match header.version {
+            Version::Tiff => read_short(source, offset, header.order)?,
+            Version::BigTiff => read_long(source, offset, header.order)?,
+        };
+        *self = Directory::Entry(listed_first(header, count));
+        Ok(Found::Other {
+            length: count_bytes(header.version),
+        })
+    }
+}
+
+// Reads the entry at an offset, by the version.
+fn read_listed<S: Source>(
+    listed: &mut Listed,
     source: &mut S,
     offset: u64,
-    header: &Header,
-    count: u64,
-    seen: &mut u64,
-    width: &mut Option<u32>,
-    height: &mut Option<u32>,
-) -> Result<Found<Entry, ImageSize>, Halt>
-    requires few { seen.old ≤ count }
-    requires head { HEAD ≡ head_bytes header.now.version }
-    requires value { VALUE ≡ value_bytes header.now.version }
-    ensures few { seen.new ≤ count }
-    ensures nears { IfOk result (λ found. Nears (S.state source.old) (S.state source.new) offset (said_at offset found)) }
-    ensures on { IfOk result (λ found. EntriesOn seen.old width.old height.old seen.new width.new height.new (said_at offset found)) }
-    ensures stays { IfErr result (λ _. (seen.new ≡ seen.old) × (width.new ≡ width.old) × (height.new ≡ height.old)) }
-    ensures runs { Follows (S.state source.old) (S.state source.new) (map_answer (said_at offset) result)
-        (entry_behind header.now count seen.old width.old height.old offset) }
+) -> Result<Found<ImageSize>, Halt>
+    requires { listed_holds listed.old offset }
+    ensures nears { IfOk result (λ found. Nears (S.state source.old) (S.state source.new) offset (said_at listed.new offset found)) }
+    ensures holds { IfOk result (HoldsOn (listed_holds listed.new) offset) }
+    ensures stays { IfErr result (λ _. listed.new ≡ listed.old) }
+    ensures runs { Follows (S.state source.old) (S.state source.new) (map_answer (said_at listed.new offset) result)
+        (listed_step listed.old offset) }
 {
-    if *seen == count {
+    match listed.header.version {
+        Version::Tiff => read_next::<S, 8, 4>(listed, source, offset),
+        Version::BigTiff => read_next::<S, 12, 8>(listed, source, offset),
+    }
+}
+
+// The result at the end of the input: no entry is left, or the next one is missing.
+#[inline(always)]
+fn none_left(listed: &Listed) -> Result<ImageSize, Halt>
+    ensures { result ≡ listed_end listed.now }
+{
+    if listed.seen == listed.count {
+        return Err(Halt::NoDimensionsInIfd);
+    }
+    Err(Halt::Ended)
+}
+
+// Reads the entry at an offset. The state is changed where it is stored. For a stream, this saves 14 of 120 instructions an
+// entry.
+#[inline(always)]
+fn read_next<S: Source, const HEAD: usize, const VALUE: usize>(
+    listed: &mut Listed,
+    source: &mut S,
+    offset: u64,
+) -> Result<Found<ImageSize>, Halt>
+    requires few { listed_holds listed.old offset }
+    requires head { HEAD ≡ head_bytes listed.old.header.version }
+    requires value { VALUE ≡ value_bytes listed.old.header.version }
+    ensures header { listed.new.header ≡ listed.old.header }
+    ensures nears { IfOk result (λ found. Nears (S.state source.old) (S.state source.new) offset (said_at listed.new offset found)) }
+    ensures holds { IfOk result (HoldsOn (listed_holds listed.new) offset) }
+    ensures stays { IfErr result (λ _. listed.new ≡ listed.old) }
+    ensures runs { Follows (S.state source.old) (S.state source.new) (map_answer (said_at listed.new offset) result)
+        (listed_step listed.old offset) }
+{
+    if listed.seen == listed.count {
         // The proof needs that the length is below 2^63.
         let _told = source.told();
         return Err(Halt::NoDimensionsInIfd);
     }
-    let entry = read_entry::<S, HEAD, VALUE>(source, header, offset)?;
-    *seen += 1;
-    match size_with(&entry, width, height) {
+    let entry = read_entry::<S, HEAD, VALUE>(source, &listed.header, offset)?;
+    listed.seen += 1;
+    match size_with(&entry, &mut listed.width, &mut listed.height) {
         Some(size) => Ok(Found::Answer(size)),
         None => Ok(Found::Other {
-            held: entry,
             length: (HEAD + VALUE) as u64,
         }),
     }
@@ -330,6 +469,18 @@ pub fn count_bytes(version: Version) -> u64
     match version {
         Version::Tiff => 2,
         Version::BigTiff => 8,
+    }
+}
+
+/// The length of an entry in bytes.
+#[inline(always)]
+pub fn entry_bytes(version: Version) -> u64
+    ensures is { result ≡ entry_bytes version }
+    ensures few { result ≤ 20 }
+{
+    match version {
+        Version::Tiff => 12,
+        Version::BigTiff => 20,
     }
 }
 

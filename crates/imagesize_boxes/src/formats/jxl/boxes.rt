@@ -1,15 +1,13 @@
 //! The boxes of JPEG XL, by ISO/IEC 18181-2, and the bytes of a codestream in them.
-ghost use Rattle.std.specs.Prelude.{◌≡◌, ◌+◌, ◌<◌, ◌≤◌, ◌++◌, length, drop, take, codes, IfOk};
-ghost use Rattle.std.specs.List.{concat};
-ghost use Rattle.imagesize_boxes.specs.Jxl.{box_checked, box_content, box_head, box_room, codestream_box, jxl_box, jxl_chain, partial_box, partial_said, piece_at, said_behind};
-ghost use Rattle.imagesize_boxes.specs.Walks.{IsFurther, FitsBehind, IsHead};
+ghost use Rattle.std.specs.Prelude.{◌≡◌, ◌+◌, ◌<◌, ◌≤◌, ◌-◌, ◌++◌, [], length, drop, take, codes, IfOk};
+ghost use Rattle.imagesize_boxes.specs.Jxl.{box_checked, box_content, box_head, box_room, codestream_box, jxl_box, jxl_chain, jxl_size, partial_box, partial_said, piece_at, said_behind};
+ghost use Rattle.imagesize_boxes.specs.Walks.{IsFurther, FitsBehind, IsHead, content_said, boxes_with, front_of, jxl_holds, jxl_step, no_boxes};
 ghost use Rattle.imagesize_types.specs.Head.{begins};
 ghost use Rattle.imagesize_source.specs.Chain.{Decided, chain_at};
 ghost use Rattle.imagesize_source.specs.Numbers.{number};
 ghost use Rattle.imagesize_source.specs.Paying.{Nears, ahead_of};
-ghost use Rattle.imagesize_source.specs.Reading.{number_read, part_read, map_answer};
+ghost use Rattle.imagesize_source.specs.Reading.{and_then, just, number_read, part_read, map_answer};
 ghost use Rattle.imagesize_source.specs.State.{Follows, Runs, IsSound};
-ghost use Rattle.imagesize_source.specs.Walk.{said_at};
 ghost use Rattle.imagesize_source.specs.declared.endian.Endian.TheVariants as endian;
 
 use super::front::{Front, MOST};
@@ -17,56 +15,114 @@ use imagesize_source::readings::{read_bytes_behind, read_exact_at, read_u64};
 use imagesize_source::source::Source;
 use imagesize_source::walk::{Found, Records, walk};
 use imagesize_source::{Endian, Halt};
+use imagesize_types::size::ImageSize;
 
-// The first bytes of the codestream, from the boxes after the signature box.
-pub(super) fn read_codestream<S: Source>(source: &mut S) -> Result<Front, Halt>
+// The size, from the boxes after the signature box.
+pub(super) fn size_in_boxes<S: Source>(source: &mut S) -> Result<ImageSize, Halt>
     ensures { Runs (S.state source.old) (S.state source.new) result
-        (chain_at jxl_chain (S.state source.old).held.input) }
+        (and_then (chain_at jxl_chain (S.state source.old).held.input) (λ front. just (jxl_size front) [])) }
 {
-    let boxes = Boxes {
-        front: Front::new(),
-    };
-    walk(boxes, source, 12)
+    walk(Boxes::new(), source, 12)
 }
 
-// The boxes, and the first bytes of the codestream from the boxes so far.
-#[derive(Drop)]
-struct Boxes {
-    front: Front,
-    ghost few: { length front ≤ 16 },
+/// The boxes, and the first bytes of the codestream from the boxes so far.
+#[derive(Clone, Copy)]
+pub struct Boxes {
+    // The first `len` bytes. The others have no meaning.
+    bytes: [u8; MOST],
+    len: usize,
+}
+
+impl Boxes {
+    /// The state before the first box, with no bytes.
+    pub fn new() -> Boxes
+        ensures { result ≡ no_boxes }
+    {
+        Boxes {
+            bytes: [0; MOST],
+            len: 0,
+        }
+    }
+
+    // How many of the first 16 bytes of the codestream are missing.
+    fn missing(&self) -> usize
+        requires { self.now.len ≤ 16 }
+        ensures is { result ≡ 16 - length (front_of self.now) }
+        ensures left { result ≡ 16 - self.now.len }
+    {
+        MOST - self.len
+    }
+
+    // The bytes of the codestream so far.
+    fn as_slice(&self) -> &[u8]
+        requires { self.now.len ≤ 16 }
+        ensures { result.now ≡ front_of self.now }
+    {
+        &self.bytes[..self.len]
+    }
+
+    // Appends a piece. Most boxes have none: for them this saves a call of the copy.
+    #[inline(always)]
+    #[tactic(auto, using(imagesize_source::proofs::Runs::steps))]
+    fn append(&mut self, piece: &Front)
+        requires { self.old.len + length piece.now ≤ 16 }
+        ensures few { self.new.len ≤ 16 }
+        ensures is { self.new ≡ boxes_with self.old piece.now }
+    {
+        if piece.len() == 0 {
+            return;
+        }
+        let end = self.len + piece.len();
+        self.bytes[self.len..end].copy_from_slice(piece.as_slice());
+        self.len = end;
+    }
 }
 
 impl Records for Boxes {
-    type Held = Front;
+    type State = Boxes;
 
-    type Answer = Front;
+    type Answer = ImageSize;
 
-    ghost said = { λ boxes held offset. jxl_box (concat held) offset };
+    ghost step = { jxl_step };
 
-    ghost keeps = { λ boxes held offset. concat held ≡ boxes.front };
+    ghost state = { λ boxes. boxes };
+
+    ghost holds = { jxl_holds };
 
     // Reads the box at an offset.
     #[inline(always)]
-    #[tactic(auto, using(crate::proofs::JxlBoxes::joined))]
+    #[tactic(auto, using(imagesize_source::proofs::Runs::steps, imagesize_source::proofs::Layouts::binding))]
     fn read_record<S: Source>(
         &mut self,
         source: &mut S,
         offset: u64,
-    ) -> Result<Found<Front, Front>, Halt> {
-        match read_box(source, offset, &self.front)? {
-            Found::Answer(front) => Ok(Found::Answer(front)),
-            Found::Other { held, length } => {
-                append(&mut self.front, &held);
-                Ok(Found::Other { held, length })
+    ) -> Result<Found<ImageSize>, Halt> {
+        match read_box(source, offset, self)? {
+            Content::Codestream(front) => {
+                let size = front.size()?;
+                Ok(Found::Answer(size))
+            }
+            Content::Piece { piece, length } => {
+                self.append(&piece);
+                Ok(Found::Other { length })
             }
         }
     }
 
-    // The input ends before such a box.
-    #[tactic(auto, using(crate::proofs::JxlBoxes::boxes_end))]
-    fn at_end(&self) -> Result<Front, Halt> {
+    // The input ends before a box that has the size.
+    #[tactic(auto, using(crate::proofs::JxlBoxes::jxl_ends))]
+    fn at_end(&self) -> Result<ImageSize, Halt> {
         Err(Halt::Ended)
     }
+}
+
+// What was found in a box.
+#[derive(Drop)]
+enum Content {
+    // The first bytes of the codestream. No later box is needed.
+    Codestream(Front),
+    // The next piece of the codestream, which may be empty, and the length of the box in bytes.
+    Piece { piece: Front, length: u64 },
 }
 
 /// The header of a box.
@@ -80,20 +136,17 @@ pub struct BoxHead {
     pub length: u64,
 }
 
-/// Reads the box at an offset. `front` has the bytes of the codestream from the boxes before it.
+// Reads the box at an offset. `boxes` has the bytes of the codestream from those before it.
 #[tactic(auto, using(imagesize_source::proofs::Runs::steps, imagesize_source::proofs::Layouts::binding))]
-pub fn read_box<S: Source>(
-    source: &mut S,
-    offset: u64,
-    front: &Front,
-) -> Result<Found<Front, Front>, Halt>
-    requires { length front.now ≤ 16 }
-    ensures nears { IfOk result (λ found. Nears (S.state source.old) (S.state source.new) offset (said_at offset found)) }
-    ensures fits { IfOk result (λ found. FitsBehind front.now (said_at offset found)) }
-    ensures runs { Follows (S.state source.old) (S.state source.new) (map_answer (said_at offset) result) (jxl_box front.now offset) }
+fn read_box<S: Source>(source: &mut S, offset: u64, boxes: &Boxes) -> Result<Content, Halt>
+    requires { boxes.now.len ≤ 16 }
+    ensures nears { IfOk result (λ found. Nears (S.state source.old) (S.state source.new) offset (content_said offset found)) }
+    ensures fits { IfOk result (λ found. FitsBehind (front_of boxes.now) (content_said offset found)) }
+    ensures runs { Follows (S.state source.old) (S.state source.new) (map_answer (content_said offset) result)
+        (jxl_box (front_of boxes.now) offset) }
 {
     let head = read_head(source, offset)?;
-    read_content(source, offset, &head, front)
+    read_content(source, offset, &head, boxes)
 }
 
 // Reads the header of the box at an offset.
@@ -181,23 +234,23 @@ fn read_content<S: Source>(
     source: &mut S,
     offset: u64,
     head: &BoxHead,
-    front: &Front,
-) -> Result<Found<Front, Front>, Halt>
+    boxes: &Boxes,
+) -> Result<Content, Halt>
     requires sound { IsSound (S.state source.old) }
     requires is { IsHead offset head.now }
-    requires few { length front.now ≤ 16 }
-    ensures further { IfOk result (λ found. IsFurther offset (said_at offset found)) }
-    ensures fits { IfOk result (λ found. FitsBehind front.now (said_at offset found)) }
-    ensures runs { Follows (S.state source.old) (S.state source.new) (map_answer (said_at offset) result)
-        (box_content front.now offset head.now) }
+    requires few { boxes.now.len ≤ 16 }
+    ensures further { IfOk result (λ found. IsFurther offset (content_said offset found)) }
+    ensures fits { IfOk result (λ found. FitsBehind (front_of boxes.now) (content_said offset found)) }
+    ensures runs { Follows (S.state source.old) (S.state source.new) (map_answer (content_said offset) result)
+        (box_content (front_of boxes.now) offset head.now) }
 {
     if is_codestream_box(head) {
-        return Ok(Found::Answer(read_whole(source, offset, head)?));
+        return Ok(Content::Codestream(read_whole(source, offset, head)?));
     }
     if is_partial_box(head) {
-        return read_partial(source, offset, head, front);
+        return read_partial(source, offset, head, boxes);
     }
-    Ok(found_behind(offset, head, front, Front::new()))
+    Ok(found_behind(offset, head, boxes, Front::new()))
 }
 
 #[inline]
@@ -244,23 +297,24 @@ fn read_partial<S: Source>(
     source: &mut S,
     offset: u64,
     head: &BoxHead,
-    front: &Front,
-) -> Result<Found<Front, Front>, Halt>
+    boxes: &Boxes,
+) -> Result<Content, Halt>
     requires sound { IsSound (S.state source.old) }
     requires is { IsHead offset head.now }
-    ensures further { IfOk result (λ found. IsFurther offset (said_at offset found)) }
-    ensures fits { IfOk result (λ found. FitsBehind front.now (said_at offset found)) }
-    ensures runs { Follows (S.state source.old) (S.state source.new) (map_answer (said_at offset) result)
-        (partial_box front.now offset head.now) }
+    requires few { boxes.now.len ≤ 16 }
+    ensures further { IfOk result (λ found. IsFurther offset (content_said offset found)) }
+    ensures fits { IfOk result (λ found. FitsBehind (front_of boxes.now) (content_said offset found)) }
+    ensures runs { Follows (S.state source.old) (S.state source.new) (map_answer (content_said offset) result)
+        (partial_box (front_of boxes.now) offset head.now) }
 {
     let buffer = buffer(head);
     if buffer < 4 {
         return Err(Halt::Ended);
     }
     let index = read_bytes_behind::<S, 4>(source, offset, head.length)?;
-    let most = (buffer - 4).min(front.buffer() as u64) as usize;
+    let most = (buffer - 4).min(boxes.missing() as u64) as usize;
     let piece = read_piece(source, offset, head.length + 4, most)?;
-    Ok(behind_piece(offset, head, front, index, piece))
+    Ok(behind_piece(offset, head, boxes, index, piece))
 }
 
 // Reads at most `most` bytes at a distance from an offset. For 0 bytes nothing is read.
@@ -302,62 +356,43 @@ fn read_there<S: Source>(
 }
 
 // The result of a part: it is the last one if all bytes are there, or if its index says so.
-fn behind_piece(
-    offset: u64,
-    head: &BoxHead,
-    front: &Front,
-    index: [u8; 4],
-    piece: Front,
-) -> Found<Front, Front>
+fn behind_piece(offset: u64, head: &BoxHead, boxes: &Boxes, index: [u8; 4], piece: Front) -> Content
     requires is { IsHead offset head.now }
-    requires fits { length front.now + length piece ≤ 16 }
-    ensures further { IsFurther offset (said_at offset result) }
-    ensures fits { FitsBehind front.now (said_at offset result) }
-    ensures is { said_at offset result ≡ partial_said front.now offset head.now index piece }
+    requires fits { boxes.now.len + length piece ≤ 16 }
+    ensures further { IsFurther offset (content_said offset result) }
+    ensures fits { FitsBehind (front_of boxes.now) (content_said offset result) }
+    ensures is { content_said offset result ≡ partial_said (front_of boxes.now) offset head.now index piece }
 {
-    if front.buffer() == piece.len() || index[0] >= 0x80 {
-        return Found::Answer(join(front, &piece));
+    if boxes.missing() == piece.len() || index[0] >= 0x80 {
+        return Content::Codestream(join(boxes, &piece));
     }
-    found_behind(offset, head, front, piece)
+    found_behind(offset, head, boxes, piece)
 }
 
 // The result of a box with this part. A box that extends to the end of the input is the last one.
-fn found_behind(offset: u64, head: &BoxHead, front: &Front, piece: Front) -> Found<Front, Front>
+fn found_behind(offset: u64, head: &BoxHead, boxes: &Boxes, piece: Front) -> Content
     requires is { IsHead offset head.now }
-    requires fits { length front.now + length piece ≤ 16 }
-    ensures further { IsFurther offset (said_at offset result) }
-    ensures fits { FitsBehind front.now (said_at offset result) }
-    ensures is { said_at offset result ≡ said_behind front.now offset head.now piece }
+    requires fits { boxes.now.len + length piece ≤ 16 }
+    ensures further { IsFurther offset (content_said offset result) }
+    ensures fits { FitsBehind (front_of boxes.now) (content_said offset result) }
+    ensures is { content_said offset result ≡ said_behind (front_of boxes.now) offset head.now piece }
 {
     if head.size == 0 {
-        return Found::Answer(join(front, &piece));
+        return Content::Codestream(join(boxes, &piece));
     }
-    Found::Other {
-        held: piece,
+    Content::Piece {
+        piece,
         length: head.size,
     }
 }
 
-// Appends a part. Most boxes have none: for them this saves a call of the copy.
-#[inline(always)]
-#[tactic(auto, using(imagesize_source::proofs::Runs::steps))]
-fn append(front: &mut Front, piece: &Front)
-    requires { length front.old + length piece.now ≤ 16 }
-    ensures { front.new ≡ front.old ++ piece.now }
-{
-    if piece.len() == 0 {
-        return;
-    }
-    front.extend(piece.as_slice());
-}
-
-// The bytes, followed by the part.
-fn join(front: &Front, piece: &Front) -> Front
-    requires { length front.now + length piece.now ≤ 16 }
-    ensures { result ≡ front.now ++ piece.now }
+// The bytes so far, followed by the piece.
+fn join(boxes: &Boxes, piece: &Front) -> Front
+    requires { boxes.now.len + length piece.now ≤ 16 }
+    ensures { result ≡ front_of boxes.now ++ piece.now }
 {
     let mut all = Front::new();
-    all.extend(front.as_slice());
+    all.extend(boxes.as_slice());
     all.extend(piece.as_slice());
     all
 }

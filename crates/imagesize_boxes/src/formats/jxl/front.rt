@@ -36,14 +36,6 @@ impl Front {
         }
     }
 
-    /// The first `len` of these bytes.
-    pub fn of(bytes: [u8; MOST], len: usize) -> Front
-        requires { len ≤ 16 }
-        ensures { result ≡ take len bytes }
-    {
-        Front { bytes, len }
-    }
-
     /// The two bytes, followed by the first `there` bytes of the others.
     #[inline]
     pub fn of_start(start: [u8; 2], behind: [u8; 14], there: usize) -> Front
@@ -64,14 +56,6 @@ impl Front {
         ensures few { result ≤ 16 }
     {
         self.len
-    }
-
-    /// How many more bytes fit.
-    pub fn buffer(&self) -> usize
-        ensures is { result ≡ 16 - length self.now }
-        ensures few { length self.now ≤ 16 }
-    {
-        MOST - self.len
     }
 
     /// The bytes.

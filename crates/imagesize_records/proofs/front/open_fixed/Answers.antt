@@ -1,6 +1,6 @@
 use Rattle.std.proofs.Common.{Ok, Err, rules}
 use Rattle.imagesize.specs.Types.{way_of}
-use Rattle.imagesize_records.proofs.Behind.{fixed_as}
+use Rattle.imagesize_records.proofs.Sized.{fixed_as}
 use Rattle.imagesize_records.proofs.front.open_fixed.Goals as goal
 
 pub returns-in_err-size : goal.returns-in_err-size

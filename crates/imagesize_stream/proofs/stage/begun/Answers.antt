@@ -20,7 +20,7 @@ opened : (c : In-Records) → let s = c.args.stand.now in
 opened c =
     let s = c.args.stand.now in let hears = c.in-Records.ensures.hears in
     opened_came c.args.buffer.now s.passed s.start s.told c.in-Records.offset c.in-Records.next c.in-Records.image
-    c.requires.first (omega (arith, c.requires.few)) hears.0 hears.1 hears.2 hears.4
+    c.requires.first (omega (arith, c.requires.few)) hears.1 hears.2 hears.4
 
 pub returns-in-Records-clause-goes_on : goal.returns-in-Records-clause-goes_on
 returns-in-Records-clause-goes_on c = c.walk_from.ensures.goes_on (Some c.in-Records.image) _

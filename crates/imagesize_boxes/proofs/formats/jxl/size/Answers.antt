@@ -1,5 +1,5 @@
 use Rattle.std.proofs.Common.{rules}
-use Rattle.imagesize_boxes.proofs.JxlBoxes.{refused_boxed, refused_start, sized_boxed, sized_whole}
+use Rattle.imagesize_boxes.proofs.JxlBoxes.{refused_start, sized_boxed, sized_whole}
 use Rattle.imagesize_boxes.proofs.formats.jxl.size.Goals as goal
 
 pub returns-in_err-front : goal.returns-in_err-front
@@ -11,12 +11,6 @@ returns-in-Some g c =
     let run = rw c.in-Some.is at c.in_ok-front.ensures in
     rw c.size.ensures (sized_whole c.in-Some.front run)
 
-pub returns-in_err-front-in-None : goal.returns-in_err-front-in-None
-returns-in_err-front-in-None g c =
-    let run = rw c.in-None.is at c.in_ok-front.ensures in
-    let h = refused_boxed _ run c.in_err-front-in-None.ensures in search (rules, h)
-
-pub returns-in_ok-front-in-None : goal.returns-in_ok-front-in-None
-returns-in_ok-front-in-None g c =
-    let run = rw c.in-None.is at c.in_ok-front.ensures in
-    rw c.size-in-None.ensures (sized_boxed c.in_ok-front-in-None.front run c.in_ok-front-in-None.ensures)
+pub returns-in-None : goal.returns-in-None
+returns-in-None g c =
+    let run = rw c.in-None.is at c.in_ok-front.ensures in sized_boxed _ run c.size_in_boxes.ensures

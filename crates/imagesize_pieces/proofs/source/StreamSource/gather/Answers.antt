@@ -1,11 +1,10 @@
-use Rattle.std.proofs.Common.{arith, sym, ap, ◌∙◌, ℕ, List, length, take, get_or, Some, is_some, ◌+◌, ◌<◌, ◌≤◌, ◌≡◌, ◌++◌}
+use Rattle.std.proofs.Common.{arith, ap, ◌∙◌, ℕ, List, length, take, get_or, Some, is_some, ◌+◌, ◌<◌, ◌≤◌, ◌≡◌, ◌++◌}
 use Rattle.std.proofs.lemmas.Bool.Decides.{nat_tests}
 use Rattle.std.proofs.lemmas.List.{length-take-le, take_at}
 use Rattle.imagesize_pieces.specs.Stream.{byte_at, came, stream_input}
 use Rattle.imagesize_pieces.proofs.Streaming.{front_part, last_none, run_ends}
 use Rattle.imagesize_source.specs.Input.{part}
 use Rattle.imagesize_source.proofs.Gathering.{gathered_run, known_run}
-use Rattle.imagesize_source.proofs.Parts.{part_none}
 use Rattle.imagesize_pieces.proofs.source.StreamSource.gather.Goals as goal
 
 -- the first known bytes of a read, in an empty front of the buffer
@@ -16,11 +15,6 @@ first_copied : (n start : ℕ) (kept chunk run buffer new after : List ℕ) (off
 first_copied n start kept chunk run buffer new after offset count few is_new is =
     ap (take count) is_new ∙ take_at (take count run) after count (length-take-le count run few)
     ∙ (front_part n start kept chunk run offset count is few).1
-
-pub returns-then-is_empty-clause-copied : goal.returns-then-is_empty-clause-copied
-returns-then-is_empty-clause-copied c =
-    let s = c.args.self.now in
-    sym (part_none (stream_input s.told s.start s.kept.now s.chunk.now) c.args.offset)
 
 pub returns-then-count-buffer-clause-copied : goal.returns-then-count-buffer-clause-copied
 returns-then-count-buffer-clause-copied c =

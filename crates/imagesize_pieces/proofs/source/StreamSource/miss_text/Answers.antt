@@ -1,4 +1,4 @@
-use Rattle.std.proofs.Common.{◌≡◌, ℕ, suc, ◌+◌, ◌-◌, ◌<◌, ◌&&◌, not, leb, true, false, List, ◌++◌, length, refl, sym, ap, ◌∙◌, arith}
+use Rattle.std.proofs.Common.{◌≡◌, ℕ, suc, ◌+◌, ◌-◌, ◌<◌, ◌&&◌, not, leb, true, List, ◌++◌, length, take, refl, sym, ap, ◌∙◌, arith}
 use Rattle.std.proofs.lemmas.Bool.Decides.{nat_tests}
 use Rattle.std.proofs.lemmas.List.{take_all}
 use Rattle.imagesize_pieces.specs.Stream.{came}
@@ -33,8 +33,8 @@ returns-then-offset-self c =
     let wanted : ℕ = c.count_there.result in
     let less : length known < wanted = omega (arith, c.requires.short, c.count_there.ensures) in
     let all = take_all (length known) known (omega arith) in
-    let test : leb (suc (length known)) wanted && not false ≡ true = grind (arith, nat_tests) in
-    let cut = ap (λ is. leb (suc (length known)) wanted && not is) (ap (is_ended c.args.text) all ∙ c.requires.open) ∙ test in
+    let cut : leb (suc (length known)) wanted && not (is_ended c.args.text (take (length known) known)) ≡ true =
+    rw (all, c.requires.open) (grind (arith, nat_tests)) in
     parts_text_missing s.told (came s.start s.kept.now s.chunk.now) (s.kept.now ++ s.chunk.now) s.log.spans s.missed _
     c.args.text known c.args.offset c.args.most wanted (length known)
     (record { start = c.args.offset + length known; sure = 1; most = wanted - length known })

@@ -1,5 +1,5 @@
-use Rattle.imagesize_records.proofs.Steps.{awaited_ends}
+use Rattle.imagesize_records.proofs.Steps.{text_ends}
 use Rattle.imagesize_records.proofs.records.TextsRecords.at_end.Goals as goal
 
 pub returns-clause-ends : goal.returns-clause-ends
-returns-clause-ends c = λ held offset kept d q far. rw c.ending.ensures.is (awaited_ends held d q far kept.0)
+returns-clause-ends c = λ offset holds. text_ends c.args.self.now.next holds.1

@@ -36,6 +36,12 @@ returns-in-Some-clause-parts c = λ d given has.
     c.in-Some.ensures.told c.in-Some.ensures.holds tt (c.in-Some.ensures.goes_on s.kind (take s.stand.passed d) here.known)
     tt (c.in-Some.ensures.marked s.kind (take s.stand.passed d) here.known)
 
+pub returns-in_default-clause-goes_on : goal.returns-in_default-clause-goes_on
+returns-in_default-clause-goes_on c = λ front came.
+    let s = c.args.self.now in
+    let here = rw c.in-Records.is at came in
+    rw (c.front_of-chunk.ensures, here.1.as_many) at (c.in_default.ensures.goes_on s.kind front here)
+
 pub returns-in_default-clause-complete : goal.returns-in_default-clause-complete
 returns-in_default-clause-complete c = λ front came.
     let s = c.args.self.now in

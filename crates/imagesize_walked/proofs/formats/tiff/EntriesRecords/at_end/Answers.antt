@@ -1,7 +1,5 @@
-use Rattle.imagesize_walked.proofs.Tiff.{entries_end}
+use Rattle.imagesize_walked.proofs.Tiff.{listed_ends}
 use Rattle.imagesize_walked.proofs.formats.tiff.EntriesRecords.at_end.Goals as goal
 
 pub returns-clause-ends : goal.returns-clause-ends
-returns-clause-ends g c = λ entries offset known.
-    let s = c.args.self.now in
-    entries_end s.header s.count s.seen s.width s.height entries known c.if-self.false
+returns-clause-ends g c = λ offset holds. rw c.none_left.ensures (listed_ends c.args.self.now.listed)
