@@ -598,7 +598,7 @@ PLANTED += [
     (tested, "docs/PROMISES.md", "| Clause | Of | What it states |\n|---|---|---|\n| `no_such_clause` | | Nothing. |\n"),
     (tested, "docs/promises.tsv", "imagesize\tno_such_mutation\timagesize::blob_size value"),
     (tested, "docs/promises.tsv", "imagesize\tsize_on_its_side\timagesize::blob_size no_such_clause"),
-    (tested, "docs/promises.tsv", "imagesize_texts\tblank_word_as_the_width\timagesize_png::blob_size value"),
+    (tested, "docs/promises.tsv", "imagesize_texts\twindow_without_its_last_column\timagesize_png::blob_size value"),
     (numbers, "README.md", "1000 calls of `include/imagesize.h`"),
     (total, "README.md", "word " * 99999),
     (total, "README.md", "word " * 1500),
