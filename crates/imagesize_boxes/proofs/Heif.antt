@@ -31,7 +31,7 @@ use Rattle.imagesize_source.specs.Agreement.{IsLocal}
 use Rattle.imagesize_source.specs.Chain.{Said, Decided, Next, Advances, Chain, next_record, start, verdict, chain_at}
 use Rattle.imagesize_source.specs.Counts.{AtMost}
 use Rattle.imagesize_source.specs.Input.{span_of}
-use Rattle.imagesize_source.specs.Layout.{Layout, accept, begin_record, bytes, field, reading, refuse, done, layout_reads, bind, whole}
+use Rattle.imagesize_source.specs.Layout.{Layout, accept, begin_record, bytes, refuse, done, layout_reads, bind, whole}
 use Rattle.imagesize_source.specs.Walk.{CanFollow, EndsBy, after, decides, run}
 use Rattle.imagesize_source.specs.Numbers.{number}
 use Rattle.imagesize_source.specs.Reading.{Reads, and_then, bytes_at, bytes_read, gives, number_read, refuses, uncounted, with_answer}
@@ -45,7 +45,7 @@ use Rattle.imagesize_source.proofs.ChainLaws.{local_chain, chain_cost}
 use Rattle.imagesize_source.proofs.Chains.{chain_stop}
 use Rattle.imagesize_source.proofs.Counts.{Bounded, bounded_then, then_within, total-span_of, total_behind}
 use Rattle.imagesize_source.proofs.Bytes.{first_four}
-use Rattle.imagesize_source.proofs.Layouts.{no_part, no_span, then_then}
+use Rattle.imagesize_source.proofs.Layouts.{bind_bind, no_part, no_span, then_then}
 use Rattle.imagesize_source.proofs.Agreement.{local_bytes, local_then, local_number, without_texts}
 use Rattle.imagesize_source.proofs.Tests.{on_test}
 use Rattle.imagesize_source.proofs.Way.{RecordedLaws}
@@ -304,14 +304,6 @@ list_follows = states_follow list_step list_tells list_begins
 pub list_ends : (g : Gathered) → EndsBy list_step g (gathered_answer g)
 list_ends g d offset far =
     rw (no_part d offset 8 far, no_span d offset 8 far) (ap uncounted (accepted_reads d (gathered_answer g)))
-
-bind_bind : {X Y Z : Type 0} (t : Layout X) (f : X → Layout Y) (g : Y → Layout Z)
-    → bind t (λ x. bind (f x) g) ≡ bind (bind t f) g
-bind_bind (done x) f g = refl
-bind_bind (refuse e) f g = refl
-bind_bind (field order offset k h) f g = λ i. field order offset k (λ v. bind_bind (h v) f g i)
-bind_bind (reading r offset h) f g = λ i. reading r offset (λ bs. bind_bind (h bs) f g i)
-bind_bind (begin_record t) f g = ap begin_record (bind_bind t f g)
 
 -- the properties over what those before add up to are the chain
 pub list_is : (all first : ℕ) (d : List ℕ) → run list_step (gathered_first all) first d ≡ chain_at (properties all first) d

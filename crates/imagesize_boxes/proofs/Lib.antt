@@ -4,4 +4,3 @@ pub mod Jxl
 pub mod JxlBoxes
 pub mod JxlGrowth
 pub mod Pieces
-pub mod Within

@@ -16,13 +16,14 @@ use Rattle.imagesize_texts.specs.Exr.{exr_attribute, exr_named, exr_step, exr_ty
 use Rattle.imagesize_texts.specs.Texts.{line_at}
 use Rattle.imagesize_boxes.specs.Jxl.{box_content, box_head, jxl_box, piece_at}
 use Rattle.imagesize_boxes.specs.declared.formats.jxl.boxes.BoxHead.{BoxHead}
-use Rattle.imagesize_walked.specs.Tiff.{entry_behind, entry_bytes, field_type_in, field_type_of, tiff_entry, tiff_head, tiff_value}
+use Rattle.imagesize_walked.specs.Tiff.{entry_bytes, field_type_in, field_type_of, tiff_entry, tiff_head, tiff_value}
 use Rattle.imagesize_boxes.specs.Walks.{front_of, jxl_step}
 use Rattle.imagesize_types.specs.declared.size.ImageSize.{ImageSize}
-use Rattle.imagesize_walked.specs.Walks.{listed_step, tiff_step}
+use Rattle.imagesize_walked.specs.Walks.{entry_if_left, listed_step, tiff_step}
 use Rattle.imagesize_walked.specs.declared.formats.tiff.Directory.TheVariants.{Entry}
-use Rattle.imagesize_walked.specs.declared.formats.tiff.Header.{Header}
+use Rattle.imagesize_source.specs.declared.endian.Endian.{Endian}
 use Rattle.imagesize_walked.specs.declared.formats.tiff.Listed.{Listed}
+use Rattle.imagesize_walked.specs.declared.formats.tiff.Version.{Version}
 
 -- a line has no more bytes than are read of it
 line_reach : {X : Type 0} (low high offset most : ℕ) (g : List ℕ → Layout X) → low ≤ offset → offset + most ≤ high
@@ -45,14 +46,15 @@ attribute_reach most offset =
     (λ type_name also. typed_reach most offset name type_name short also)))
 
 -- an entry of a TIFF
-entry_reach : (header : Header) (offset : ℕ) → Reach offset (offset + entry_bytes header.version) (tiff_entry header offset)
+entry_reach : (order : Endian) (version : Version) (offset : ℕ)
+    → Reach offset (offset + entry_bytes version) (tiff_entry order version offset)
 unfolding tiff_entry tiff_head tiff_value
-entry_reach header offset =
-    let high : ℕ = offset + entry_bytes header.version in (
+entry_reach order version offset =
+    let high : ℕ = offset + entry_bytes version in (
       omega arith,
       omega arith,
       λ head few.
-          reach_accept offset high (field_type_of header.version (field_type_in header.order (take 4 head))) _
+          reach_accept offset high (field_type_of version (field_type_in order (take 4 head))) _
           (λ field_type is. grind arith),
     )
 
@@ -73,12 +75,12 @@ reach_into : {Q : Type 0} (into : Q → Awaited) (offset high : ℕ) (t : Layout
     → Reach offset high (bind t (after into decides))
 reach_into into offset high t reach = reach_bind offset high t (after into decides) reach (λ said. grind arith)
 
-listed_reach : (l : Listed) (offset : ℕ) → Reach offset (offset + entry_bytes l.header.version) (listed_step l offset)
+listed_reach : (l : Listed) (offset : ℕ) → Reach offset (offset + entry_bytes l.version) (listed_step l offset)
 listed_reach l offset =
-    let high : ℕ = offset + entry_bytes l.header.version in
-    reach_bind offset high (entry_behind l.header l.count l.seen l.width l.height offset) _
-    (reach_if (eqb l.seen l.count) offset high (refuse NoDimensionsInIfd) (bind (tiff_entry l.header offset) _) tt
-    (reach_bind offset high (tiff_entry l.header offset) _ (entry_reach l.header offset) (λ entry. tt)))
+    let high : ℕ = offset + entry_bytes l.version in
+    reach_bind offset high (entry_if_left l offset) _
+    (reach_if (eqb l.left 0) offset high (refuse NoDimensionsInIfd) (bind (tiff_entry l.order l.version offset) _) tt
+    (reach_bind offset high (tiff_entry l.order l.version offset) _ (entry_reach l.order l.version offset) (λ entry. tt)))
     (λ said. grind arith)
 
 -- each record
@@ -88,7 +90,7 @@ step_reach (Exr long) offset =
     reach_into Exr offset high (exr_step long offset)
     (reach_bind offset high (exr_attribute (names_of long) offset) _ (attribute_reach (names_of long) offset) (λ said. grind arith))
 step_reach (Tiff (Entry l)) offset =
-    let high : ℕ = offset + entry_bytes l.header.version in
+    let high : ℕ = offset + entry_bytes l.version in
     reach_into Tiff offset high (tiff_step (Entry l) offset)
     (reach_bind offset high (listed_step l offset) _ (listed_reach l offset) (λ said. grind arith))
 step_reach (Jxl boxes) offset =

@@ -1,11 +1,12 @@
 -- What the first bytes say of the first record.
-use Rattle.std.proofs.Common.{◌≡◌, ℕ, Bool, List, Option, Some, None, refl, arith}
+use Rattle.std.proofs.Common.{◌≡◌, ℕ, Bool, List, Option, Some, None, refl, subst, arith}
 use Rattle.imagesize.specs.Parted.{has_texts}
 use Rattle.imagesize.specs.declared.types.ImageType.{ImageType}
 use Rattle.imagesize.specs.declared.types.ImageType.TheVariants.{Jxl, Tiff}
 use Rattle.imagesize_source.proofs.Saying.{Saying, saying_accept, saying_bind}
-use Rattle.imagesize_source.specs.Layout.{Layout, bind}
-use Rattle.imagesize_source.specs.Layout.Layout.{begin_record, field, reading, refuse, «done»}
+use Rattle.imagesize_source.proofs.Layouts.{bind_bind}
+use Rattle.imagesize_source.specs.Layout.{bind}
+use Rattle.imagesize_source.specs.Layout.Layout.{«done»}
 use Rattle.imagesize_walked.specs.Tiff.{tiff_header}
 use Rattle.imagesize_walked.specs.declared.formats.tiff.Directory.TheVariants.{Count}
 use Rattle.imagesize_records.specs.declared.awaited.Awaited.TheVariants as awaited
@@ -20,15 +21,6 @@ abbrev pub OpensSteady : Bool → Opening → Type 0
 OpensSteady texts (opened.Size size) = Unit {0}
 OpensSteady texts (opened.Records next offset) = IsSteady next offset × (is_text next ≡ texts)
 
--- what goes on from two layouts, one after the other
-saying_both : {X Y Z : Type 0} (P : Z → Type 0) (t : Layout X) (f : X → Layout Y) (g : Y → Layout Z)
-    → ((x : X) → Saying P (bind (f x) g)) → Saying P (bind (bind t f) g)
-saying_both P (done x) f g each = each x
-saying_both P (refuse e) f g each = tt
-saying_both P (field order offset k h) f g each = λ v. saying_both P (h v) f g each
-saying_both P (reading r offset h) f g each = λ bs. saying_both P (h bs) f g each
-saying_both P (begin_record t) f g each = saying_both P t f g each
-
 ruleset steady = (arith, saying_bind, saying_accept)
 
 jxl_steady : (found : Option (List ℕ)) → Saying (OpensSteady (has_texts Jxl)) (jxl_opened found)
@@ -37,6 +29,9 @@ jxl_steady None = (omega arith, refl)
 
 pub opening_steady : (type : ImageType) → Saying (OpensSteady (has_texts type)) (opening type)
 opening_steady Jxl = saying_bind (OpensSteady (has_texts Jxl)) jxl_start jxl_opened jxl_steady
-opening_steady Tiff = saying_both (OpensSteady (has_texts Tiff)) tiff_header
-    (λ header. done (record { records = Count header; offset = header.directory })) (opens_at awaited.Tiff) (λ header. (tt, refl))
+opening_steady Tiff = subst (Saying (OpensSteady (has_texts Tiff)))
+    (bind_bind tiff_header (λ header. done (record { records = Count header; offset = header.directory })) (opens_at awaited.Tiff))
+    (saying_bind (OpensSteady (has_texts Tiff)) tiff_header
+    (λ header. bind (done (record { records = Count header; offset = header.directory })) (opens_at awaited.Tiff))
+    (λ header. (tt, refl)))
 opening_steady type = search steady

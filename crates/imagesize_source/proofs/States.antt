@@ -11,12 +11,12 @@ use Rattle.imagesize_source.proofs.Layouts.{over-bind, then_alike, then_gives, t
 use Rattle.imagesize_source.proofs.Lists.{last_push}
 
 -- What is read after a record: what is behind its verdict, or the readings from the state on that it leads to.
-abbrev onward : {C Y Z T : Type 0} → (T → ℕ → Reads Z) → (T → C → T) → (Y → Reads Z) → T → Said C Y → Reads Z
+abbrev pub onward : {C Y Z T : Type 0} → (T → ℕ → Reads Z) → (T → C → T) → (Y → Reads Z) → T → Said C Y → Reads Z
 onward reads on behind x (Decided y) = behind y
 onward reads on behind x (Next v offset) = reads (on x v) offset
 
--- Readings over a state x that each record changes are those of a chain over the list of its records, and of what is behind
--- its verdict: R holds of the list and the state, and where it does, the readings are the record's and what is after it.
+-- Each record changes a state x. R relates the list of the records before to the state. Under R the readings are those of the next
+-- record and of what is after it. Then they are those of the chain over the list, and of what is behind its verdict.
 module _ {C Y Z T : Type 0} (c : Chain C Y) (d : List ℕ) (adv : Advances c d) (reads : T → ℕ → Reads Z) (on : T → C → T)
     (behind : Y → Reads Z) (R : List C → T → Type 0)
     (unfolds : (held : List C) (x : T) (offset : ℕ) → R held x
@@ -46,7 +46,7 @@ module _ {C Y Z T : Type 0} (c : Chain C Y) (d : List ℕ) (adv : Advances c d) 
       by_fuel k (record { held = t.held ++ v ∷ []; offset = q }) (omega (arith, (adv t v q got).0)) (on x v)
       (keeps t.held x t.offset v q known got))
 
-  over_state : (t : Along C) (x : T) → R t.held x → reads x t.offset ≡ and_then (chain_from c d t) behind
+  pub over_state : (t : Along C) (x : T) → R t.held x → reads x t.offset ≡ and_then (chain_from c d t) behind
   over_state t = by_fuel (length d) t (omega arith)
 
 module _ {S X : Type 0} (step : Step S X) (d : List ℕ) (adv : Advances (states step) d) where
@@ -99,8 +99,8 @@ module _ {S X : Type 0} (step : Step S X) (d : List ℕ) (adv : Advances (states
   unfolding run
   run_stop s offset r is = chain_stop (states step) d (record { held = s ∷ []; offset = offset }) r is
 
-  -- A format is defined by the chain c over the list of its records. After some of them x is kept, which `at` turns into the
-  -- state before the next record. The readings from that state on are those of the chain, and of what is behind its verdict.
+  -- A format is defined by the chain c over the list of its records. A walk keeps x instead, and `at` makes it the state before the
+  -- next record. The readings from that state on are those of the chain, and of what is behind its verdict.
   module _ {C Y T : Type 0} (c : Chain C Y) (at : T → S) (on : T → C → T) (verdict_of : Y → Layout (Said S X))
       (R : List C → T → Type 0) (adv_c : Advances c d)
       (same : (held : List C) (x : T) (offset : ℕ) → R held x
@@ -135,7 +135,7 @@ pub run_is : {C S T X : Type 0} (step : Step S X) (d : List ℕ) (adv : Advances
 run_is step d adv c at on R adv_c same keeps x known =
     run_as step d adv c at on decides R adv_c same keeps x known ∙ then_gives (chain_at c d)
 
--- A state of many formats holds a state of one, and its record is that of the one: the readings from it on are the same.
+-- A state of many formats holds a state of one format, and has its record. Then the readings from it on are the same.
 pub run_within : {Q S X : Type 0} (outer : Step S X) (inner : Step Q X) (into : Q → S) (d : List ℕ)
     → Advances (states outer) d → Advances (states inner) d
     → ((q : Q) (offset : ℕ) → layout_reads d (outer (into q) offset) ≡ layout_reads d (bind (inner q offset) (after into decides)))

@@ -12,8 +12,8 @@ pub record Shares (d e : List ℕ) (spans : List Span) : Type 0 where
   pub no_longer : length d ≤ length e
   pub there : (offset : ℕ) → is_covered spans offset ≡ true → (offset < length d) × (slice_index d offset ≡ slice_index e offset)
 
--- How far a walk got from the state s at the offset `first` before a read failed: the next record, after the state t, is at another.
--- Every input that shares the spans of the reads before (`made`) gets to the same record.
+-- A walk began in the state s at the offset `first`. A read failed in the record at `offset`, which comes after the state t. `made`
+-- are the spans of the reads before that record. A walk over another input that shares them gets to the same record.
 pub record Stood {S X : Type 0} (step : Step S X) (a b : State) (s : S) (first : ℕ) (t : S) (offset : ℕ) : Type 0 where
   pub made : List Span
   pub ahead : a.held.honest ≡ true → first ≤ offset

@@ -29,9 +29,9 @@ pub struct Start<R> {
     pub offset: u64,
 }
 
-/// A sequence of records. The value is the state before the next record, and a read makes it the state after that.
+/// A sequence of records. A value holds the state before the next record. Reading that record makes it the state after it.
 pub trait Records {
-    /// What the records before an offset leave. It decides about the next record.
+    /// What a walk keeps of the records before the next one. The layout of the next record depends on it.
     type State;
 
     /// The result of the walk.
@@ -40,7 +40,7 @@ pub trait Records {
     /// The layout of the next record.
     ghost step: { Step Self.State Self.Answer };
 
-    /// What the records before left.
+    /// The state in a value.
     ghost state: { Self → Self.State };
 
     /// What always holds before the record at an offset.

@@ -1,43 +1,26 @@
 -- Readings from one state on that are those of a chain, though a record of the chain may be several of the state's.
-use Rattle.std.proofs.Common.{◌≡◌, ℕ, List, [], ◌∷◌, ◌++◌, Some, Result, Ok, Err, refl, sym, ap, ◌∙◌}
+use Rattle.std.proofs.Common.{◌≡◌, ℕ, List, Result, Ok, Err, refl, sym, ◌∙◌}
 use Rattle.imagesize_source.specs.declared.halt.Halt.{Halt}
 use Rattle.imagesize_source.specs.declared.text.Text.{Text}
-use Rattle.imagesize_source.specs.Chain.{Said, Decided, Next, Chain, Along, Advances, chain_at, chain_from, next_record, start, verdict}
+use Rattle.imagesize_source.specs.Chain.{Said, Decided, Next, Chain, Advances, chain_at, start}
 use Rattle.imagesize_source.specs.Layout.{Layout, accept, layout_reads, text}
 use Rattle.imagesize_source.specs.Reading.{Reads, TextOf, and_then, gives, read_of}
 use Rattle.imagesize_source.specs.Walk.{CanFollow, Step, run}
-use Rattle.imagesize_source.proofs.Chains.{chain_induction, chain_unfolds, follows}
-use Rattle.imagesize_source.proofs.Layouts.{then_alike, then_then}
-use Rattle.imagesize_source.proofs.States.{goes, run_unfolds}
+use Rattle.imagesize_source.proofs.Layouts.{then_gives, then_then}
+use Rattle.imagesize_source.proofs.States.{goes, onward, over_state, run_unfolds}
 
 -- what is read after a record of the chain, from the same state
 abbrev pub from : {C S X : Type 0} → Step S X → S → List ℕ → Said C X → Reads X
-from step s d (Decided x) = gives x
-from step s d (Next v offset) = run step s offset d
+from step s d = onward {T = Unit {0}} (λ _ offset. run step s offset d) (λ _ _. tt) gives tt
 
 -- Where that holds of each record of a chain, the readings from the state on are those of the chain.
-module _ {C S X : Type 0} (step : Step S X) (s : S) (c : Chain C X) (d : List ℕ) (adv : Advances c d)
-    (same : (held : List C) (offset : ℕ) → run step s offset d ≡ and_then (layout_reads d (c.said held offset)) (from step s d)) where
-  by_record : (t : Along C)
-      → ((said : Said C X) → (next_record c d t).answer ≡ Ok said → from step s d said ≡ follows c d t.held said)
-      → run step s t.offset d ≡ chain_from c d t
-  by_record t each = same t.held t.offset ∙ then_alike (next_record c d t) (from step s d) (follows c d t.held) each
-      ∙ sym (chain_unfolds c d t adv)
-
-  pub alike : run step s c.first d ≡ chain_at c d
-  alike = chain_induction c d (λ t. run step s t.offset d ≡ chain_from c d t) adv on last (start c) where
-    on : (t : Along C) (v : C) (offset : ℕ) → (next_record c d t).answer ≡ Ok (Next v offset)
-        → run step s offset d ≡ chain_from c d (record { held = t.held ++ v ∷ []; offset = offset })
-        → run step s t.offset d ≡ chain_from c d t
-    on t v offset is later = by_record t (λ said got.
-        let both = sym got ∙ is in let one : said ≡ Next v offset = cc in rw one later)
-
-    last : (t : Along C) (r : Result X Halt) → verdict (next_record c d t).answer ≡ Some r
-        → run step s t.offset d ≡ chain_from c d t
-    last t r is = by_record t (λ said got. decided said (ap verdict (sym got) ∙ is)) where
-      decided : (said : Said C X) → verdict (Ok said) ≡ Some r → from step s d said ≡ follows c d t.held said
-      decided (Decided x) is = refl
-      decided (Next v offset) is = absurd cc
+pub alike : {C S X : Type 0} (step : Step S X) (s : S) (c : Chain C X) (d : List ℕ) → Advances c d
+    → ((held : List C) (offset : ℕ) → run step s offset d ≡ and_then (layout_reads d (c.said held offset)) (from step s d))
+    → run step s c.first d ≡ chain_at c d
+alike step s c d adv same =
+    over_state {T = Unit {0}} c d adv (λ _ offset. run step s offset d) (λ _ _. tt) gives (λ _ _. Unit {0}) (λ held _ offset _. same held offset)
+    (λ held x offset v q known got. tt) (start c) tt tt
+    ∙ then_gives (chain_at c d)
 
 -- Records that leave nothing for the next are those of a chain of the same layouts.
 pub alone : {X : Type 0} (step : Step (Unit {0}) X) → CanFollow step → (c : Chain (Unit {0}) X) (d : List ℕ) → Advances c d

@@ -1,5 +1,5 @@
 //! Texts: lines up to a delimiter and words between white space, each with a greatest length in bytes.
-ghost use Rattle.std.specs.Prelude.{◌≡◌, ◌+◌, ◌^◌, ◌<◌, ◌≤◌, codes, length, true, IfOk};
+ghost use Rattle.std.specs.Prelude.{◌≡◌, ◌+◌, ◌^◌, ◌<◌, ◌≤◌, codes, length, true, IfOk, Err};
 ghost use Rattle.imagesize_source.specs.Paying.{Paid};
 ghost use Rattle.imagesize_source.specs.Reading.{number_read, map_answer};
 ghost use Rattle.imagesize_source.specs.State.{Runs};
@@ -10,9 +10,20 @@ use crate::utf8::is_utf8;
 use imagesize_source::readings::read_u32;
 use imagesize_source::source::Source;
 use imagesize_source::{Endian, Halt, Text};
+use imagesize_types::size::ImageSize;
 
 /// A word has fewer bytes than this, including the white space around it.
 pub const WORD_ROOM: usize = 1024;
+
+/// The result where the input ends before the size. Not inlined: else a walk sets it up at each record, which takes 4 of 110
+/// instructions for a word of a portable bitmap.
+#[cold]
+#[inline(never)]
+pub fn ended() -> Result<ImageSize, Halt>
+    ensures { result ≡ Err Halt.Ended }
+{
+    Err(Halt::Ended)
+}
 
 /// A word of an input.
 #[derive(Clone, Copy, Debug)]

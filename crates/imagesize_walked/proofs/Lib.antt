@@ -2,4 +2,3 @@ pub mod Ico
 pub mod Ilbm
 pub mod Jpeg
 pub mod Tiff
-pub mod Within

@@ -5,9 +5,9 @@ use Rattle.std.proofs.lemmas.List.{append-nil, length_push}
 use Rattle.std.proofs.lemmas.List.Elements.{filter-append}
 use Rattle.std.specs.Prelude.{filter, option_and_then}
 use Rattle.std.specs.List.{last_or}
-use Rattle.imagesize_walked.specs.Walks.{listed_end, listed_first, listed_step, listed_with, tiff_end, tiff_open, tiff_step}
+use Rattle.imagesize_walked.specs.Walks.{entry_if_left, listed_end, listed_first, listed_step, listed_with, tiff_end, tiff_open, tiff_step}
 use Rattle.imagesize_types.specs.Sides.{size_if_known}
-use Rattle.imagesize_walked.specs.Tiff.{byte_order, entry_behind, entry_says, side_with, size_or_next, count_bytes, directory_at, entry_bytes, head_bytes, field_type_in, field_type_of, last_value, size_in, stated_offset, tag_in, tiff, tiff_directory, tiff_entries, tiff_entry, tiff_head, tiff_header, tiff_value, value_bytes, value_of, version_of, whole_value}
+use Rattle.imagesize_walked.specs.Tiff.{byte_order, side_with, size_or_next, count_bytes, directory_at, entry_bytes, head_bytes, field_type_in, field_type_of, last_value, size_in, stated_offset, tag_in, tiff, tiff_directory, tiff_entries, tiff_entry, tiff_head, tiff_header, tiff_value, value_bytes, value_of, version_of, whole_value}
 use Rattle.imagesize_walked.specs.declared.formats.tiff.Entry.{Entry}
 use Rattle.imagesize_walked.specs.declared.formats.tiff.Header.{Header}
 use Rattle.imagesize_walked.specs.declared.formats.tiff.Listed.{Listed}
@@ -67,9 +67,9 @@ count_few Tiff = omega arith
 count_few BigTiff = omega arith
 
 -- what an entry's head and value say
-abbrev entry_of : Header → List ℕ → FieldType → List ℕ → Entry
-entry_of header head field_type value =
-    record { tag = tag_in header.order head; value = value_of header.order field_type value }
+abbrev entry_of : Endian → List ℕ → FieldType → List ℕ → Entry
+entry_of order head field_type value =
+    record { tag = tag_in order head; value = value_of order field_type value }
 
 -- the size that an entry completes, after other entries or after their width and height
 abbrev size_after : List Entry → Entry → Option ImageSize
@@ -79,119 +79,102 @@ abbrev size_by : Option ℕ → Option ℕ → Entry → Option ImageSize
 size_by width height entry = size_if_known (side_with 0x100 width entry) (side_with 0x101 height entry)
 
 -- A record, by the size that its entry completes. `all` says whether all entries were read.
-abbrev says : Header → (Entry → Option ImageSize) → ℕ → Entry → Layout (Said Entry ImageSize)
-says header size offset entry = done (size_or_next (size entry) entry (offset + entry_bytes header.version))
+abbrev says : Version → (Entry → Option ImageSize) → ℕ → Entry → Layout (Said Entry ImageSize)
+says version size offset entry = done (size_or_next (size entry) entry (offset + entry_bytes version))
 
-abbrev record_of : Header → (Entry → Option ImageSize) → ℕ → Bool → Layout (Said Entry ImageSize)
-record_of header size offset all =
-    cond all (refuse NoDimensionsInIfd) (bind (tiff_entry header offset) (says header size offset))
+abbrev record_of : Endian → Version → (Entry → Option ImageSize) → ℕ → Bool → Layout (Said Entry ImageSize)
+record_of order version size offset all =
+    cond all (refuse NoDimensionsInIfd) (bind (tiff_entry order version offset) (says version size offset))
 
 -- what follows the head of an entry
-abbrev after_head : Header → (Entry → Option ImageSize) → ℕ → List ℕ → Layout (Said Entry ImageSize)
-after_head header size offset head = bind (accept (field_type_of header.version (field_type_in header.order head))
-    (λ field_type. bind (tiff_value header.version (offset + head_bytes header.version))
-    (λ value. done (entry_of header head field_type value)))) (says header size offset)
+abbrev after_head : Endian → Version → (Entry → Option ImageSize) → ℕ → List ℕ → Layout (Said Entry ImageSize)
+after_head order version size offset head = bind (accept (field_type_of version (field_type_in order head))
+    (λ field_type. bind (tiff_value version (offset + head_bytes version))
+    (λ value. done (entry_of order head field_type value)))) (says version size offset)
 
-module _ (header : Header) (size : Entry → Option ImageSize) (offset : ℕ) where
+module _ (order : Endian) (version : Version) (size : Entry → Option ImageSize) (offset : ℕ) where
   -- what holds where an entry is refused, where it completes the size, and where it does not
   by_type : (P : Layout (Said Entry ImageSize) → Type 0) (head : List ℕ) → ((e : Halt) → P (refuse e))
-      → ((field_type : FieldType) → P (bind (bind (tiff_value header.version (offset + head_bytes header.version))
-      (λ value. done (entry_of header head field_type value))) (says header size offset)))
-      → P (after_head header size offset head)
-  by_type P head = by_accepted (λ t. P (bind t (says header size offset)))
-      (field_type_of header.version (field_type_in header.order head)) _
+      → ((field_type : FieldType) → P (bind (bind (tiff_value version (offset + head_bytes version))
+      (λ value. done (entry_of order head field_type value))) (says version size offset)))
+      → P (after_head order version size offset head)
+  by_type P head = by_accepted (λ t. P (bind t (says version size offset)))
+      (field_type_of version (field_type_in order head)) _
 
   by_value : (P : Layout (Said Entry ImageSize) → Type 0) (found : Option (List ℕ)) (entry : List ℕ → Entry)
       → ((e : Halt) → P (refuse e)) → ((x : ImageSize) → P (done (Decided x)))
-      → ((e : Entry) → P (done (Next e (offset + entry_bytes header.version))))
-      → P (bind (bind (accept (whole_value found) done) (λ value. done (entry value))) (says header size offset))
+      → ((e : Entry) → P (done (Next e (offset + entry_bytes version))))
+      → P (bind (bind (accept (whole_value found) done) (λ value. done (entry value))) (says version size offset))
   by_value P None entry out stop on = out InvalidIfdValueLength
   by_value P (Some value) entry out stop on = by_size (entry (take 4 value)) (size (entry (take 4 value))) where
-    by_size : (e : Entry) (o : Option ImageSize) → P (done (size_or_next o e (offset + entry_bytes header.version)))
+    by_size : (e : Entry) (o : Option ImageSize) → P (done (size_or_next o e (offset + entry_bytes version)))
     by_size e None = on e
     by_size e (Some x) = stop x
 
-  record_tells : (all : Bool) → Tells (λ p. offset < p) (record_of header size offset all)
+  record_tells : (all : Bool) → Tells (λ p. offset < p) (record_of order version size offset all)
   unfolding tiff_entry tiff_head tiff_value
   record_tells true = tt
   record_tells false = λ head. by_type (Tells (λ p. offset < p)) (take 4 head) (λ e. tt)
-      (λ field_type value. by_value (Tells (λ p. offset < p)) (whole (value_bytes header.version) value)
-      (entry_of header (take 4 head) field_type) (λ e. tt) (λ x. tt) (λ e. omega (arith, head_some header.version)))
+      (λ field_type value. by_value (Tells (λ p. offset < p)) (whole (value_bytes version) value)
+      (entry_of order (take 4 head) field_type) (λ e. tt) (λ x. tt) (λ e. omega (arith, head_some version)))
 
-  record_begins : (all : Bool) → Begins offset (record_of header size offset all)
+  record_begins : (all : Bool) → Begins offset (record_of order version size offset all)
   unfolding tiff_entry tiff_head
   record_begins true = tt
-  record_begins false = (omega arith, head_some header.version)
+  record_begins false = (omega arith, head_some version)
 
   -- an entry is read from at most 20 bytes, and the end of the directory from none
-  record_each : (all : Bool) → Each 20 (record_of header size offset all)
+  record_each : (all : Bool) → Each 20 (record_of order version size offset all)
   unfolding tiff_entry tiff_head tiff_value
   record_each true = tt
   record_each false =
-      let behind_head : ℕ = 20 - head_bytes header.version in (
-        omega (arith, entry_few header.version),
+      let behind_head : ℕ = 20 - head_bytes version in (
+        omega (arith, entry_few version),
         λ head. by_type (AtMost behind_head) (take 4 head) (λ e. tt) (λ field_type. (
-          omega (arith, entry_few header.version),
-          λ value. by_value (AtMost (behind_head - value_bytes header.version)) (whole (value_bytes header.version) value)
-              (entry_of header (take 4 head) field_type) (λ e. tt) (λ x. tt) (λ e. tt),
+          omega (arith, entry_few version),
+          λ value. by_value (AtMost (behind_head - value_bytes version)) (whole (value_bytes version) value)
+              (entry_of order (take 4 head) field_type) (λ e. tt) (λ x. tt) (λ e. tt),
         )),
       )
 
-  record_ahead : (all : Bool) → Ahead offset (record_of header size offset all)
+  record_ahead : (all : Bool) → Ahead offset (record_of order version size offset all)
   unfolding tiff_entry tiff_head tiff_value
   record_ahead true = tt
   record_ahead false =
-      let behind_head : ℕ = offset + head_bytes header.version in (
+      let behind_head : ℕ = offset + head_bytes version in (
         omega arith,
         λ head. by_type (Ahead behind_head) (take 4 head) (λ e. tt) (λ field_type. (
           omega arith,
-          λ value. by_value (Ahead (behind_head + value_bytes header.version)) (whole (value_bytes header.version) value)
-              (entry_of header (take 4 head) field_type) (λ e. tt) (λ x. tt) (λ e. omega arith),
+          λ value. by_value (Ahead (behind_head + value_bytes version)) (whole (value_bytes version) value)
+              (entry_of order (take 4 head) field_type) (λ e. tt) (λ x. tt) (λ e. omega arith),
         )),
       )
 
   -- a value that is cut is refused
-  record_plain : (all : Bool) → Plain (record_of header size offset all)
+  record_plain : (all : Bool) → Plain (record_of order version size offset all)
   unfolding tiff_entry tiff_head tiff_value
   record_plain true = tt
   record_plain false = λ head. by_type Plain (take 4 head) (λ e. tt) (λ field_type value. (
-    λ short. let none : whole (value_bytes header.version) value ≡ None = grind (arith, nat_tests) in
+    λ short. let none : whole (value_bytes version) value ≡ None = grind (arith, nat_tests) in
         subst (λ found. Never (bind (bind (accept (whole_value found) done)
-        (λ value. done (entry_of header (take 4 head) field_type value))) (says header size offset))) (sym none) tt,
-    by_value Plain (whole (value_bytes header.version) value) (entry_of header (take 4 head) field_type) (λ e. tt)
+        (λ value. done (entry_of order (take 4 head) field_type value))) (says version size offset))) (sym none) tt,
+    by_value Plain (whole (value_bytes version) value) (entry_of order (take 4 head) field_type) (λ e. tt)
         (λ x. tt) (λ e. tt),
   ))
 
   -- from the end of the input on there is no entry
   record_ends : (all : Bool) (d : List ℕ) → length d ≤ offset
-      → uncounted (layout_reads d (record_of header size offset all)) ≡ refuses (cond all NoDimensionsInIfd Ended)
+      → uncounted (layout_reads d (record_of order version size offset all)) ≡ refuses (cond all NoDimensionsInIfd Ended)
   unfolding tiff_entry tiff_head
   record_ends true d far = refl
   record_ends false d far =
-      ap uncounted (bytes_beyond d offset (head_bytes header.version) (λ head. after_head header size offset (take 4 head))
-      far (head_some header.version))
+      ap uncounted (bytes_beyond d offset (head_bytes version) (λ head. after_head order version size offset (take 4 head))
+      far (head_some version))
 
 entries_advance : (header : Header) (count : ℕ) (d : List ℕ) → Advances (tiff_entries header count) d
 entries_advance header count = advances (tiff_entries header count)
-    (λ entries offset. record_tells header (size_after entries) offset (eqb (length entries) count))
-    (λ entries offset. record_begins header (size_after entries) offset (eqb (length entries) count))
-
--- the same by the sides that the entries before give
-module _ (header : Header) (count seen : ℕ) (width height : Option ℕ) where
-  behind_tells : (offset : ℕ) → Tells (λ p. offset < p) (entry_behind header count seen width height offset)
-  behind_tells offset = record_tells header (size_by width height) offset (eqb seen count)
-
-  behind_begins : (offset : ℕ) → Begins offset (entry_behind header count seen width height offset)
-  behind_begins offset = record_begins header (size_by width height) offset (eqb seen count)
-
-  behind_ends : (d : List ℕ) (offset : ℕ) → length d ≤ offset
-      → uncounted (layout_reads d (entry_behind header count seen width height offset))
-      ≡ just (cond (eqb seen count) (Err NoDimensionsInIfd) (Err Ended)) []
-  behind_ends d offset far =
-      let Goal : Bool → Type 0 = λ all. refuses {X = Said Entry ImageSize} (cond all NoDimensionsInIfd Ended)
-      ≡ just (cond all (Err NoDimensionsInIfd) (Err Ended)) [] in
-      record_ends header (size_by width height) offset (eqb seen count) d far
-      ∙ elim (eqb seen count) as Goal [ true ↦ refl | false ↦ refl ]
+    (λ entries offset. record_tells header.order header.version (size_after entries) offset (eqb (length entries) count))
+    (λ entries offset. record_begins header.order header.version (size_after entries) offset (eqb (length entries) count))
 
 -- of one entry more the value is its own where it has the tag
 abbrev value_in : List Entry → Option ℕ
@@ -206,16 +189,24 @@ last_value_on tag entries entry =
       by_tag true = ap (option_and_then (λ e. e.value)) (last_push None (filter (λ e. eqb e.tag tag) entries) entry)
       by_tag false = ap value_in (append-nil (filter (λ e. eqb e.tag tag) entries))
 
--- what is known after these entries
-record Known (entries : List Entry) (l : Listed) : Type 0 where
-  many : length entries ≡ l.seen
+-- what is known after these entries of a directory that has `count` entries
+record Known (count : ℕ) (entries : List Entry) (l : Listed) : Type 0 where
+  left : length entries + l.left ≡ count
   wide : last_value 0x100 entries ≡ l.width
   high : last_value 0x101 entries ≡ l.height
 
-known_on : (entries : List Entry) (l : Listed) (entry : Entry) → Known entries l
-    → Known (entries ++ entry ∷ []) (listed_with l entry)
-known_on entries l entry h = record {
-  many = length_push entries entry ∙ ap (λ n. n + 1) h.many;
+-- all entries were read if none is left
+all_read : (count : ℕ) (entries : List Entry) (l : Listed) → Known count entries l
+    → eqb (length entries) count ≡ eqb l.left 0
+all_read count entries l known = by_left (eqb l.left 0) refl where
+  by_left : (none : Bool) → eqb l.left 0 ≡ none → eqb (length entries) count ≡ none
+  by_left true is = grind (arith, nat_tests, known.left)
+  by_left false is = grind (arith, nat_tests, known.left)
+
+known_on : (count : ℕ) (entries : List Entry) (l : Listed) (entry : Entry) → Known count entries l → eqb l.left 0 ≡ false
+    → Known count (entries ++ entry ∷ []) (listed_with l entry)
+known_on count entries l entry h some = record {
+  left = grind (arith, nat_tests, length_push entries entry, h.left);
   wide = last_value_on 0x100 entries entry ∙ ap (cond (eqb entry.tag 0x100) entry.value) h.wide;
   high = last_value_on 0x101 entries entry ∙ ap (cond (eqb entry.tag 0x101) entry.value) h.high;
 }
@@ -223,22 +214,22 @@ known_on entries l entry h = record {
 -- ---- the entries over what those before give
 
 pub listed_tells : (l : Listed) (offset : ℕ) → Tells (λ p. offset < p) (listed_step l offset)
-listed_tells l offset = tells_bind (λ p. offset < p) (entry_behind l.header l.count l.seen l.width l.height offset)
-    (after (listed_with l) decides) (behind_tells l.header l.count l.seen l.width l.height offset) (λ y. tt) (λ v q up. up)
+listed_tells l offset = tells_bind (λ p. offset < p) (entry_if_left l offset) (after (listed_with l) decides)
+    (record_tells l.order l.version (size_by l.width l.height) offset (eqb l.left 0)) (λ y. tt) (λ v q up. up)
 
 pub listed_begins : (l : Listed) (offset : ℕ) → Begins offset (listed_step l offset)
-listed_begins l offset = begins_bind offset (entry_behind l.header l.count l.seen l.width l.height offset)
-    (after (listed_with l) decides) (behind_begins l.header l.count l.seen l.width l.height offset) (λ y. tt) (λ y. tt)
+listed_begins l offset = begins_bind offset (entry_if_left l offset) (after (listed_with l) decides)
+    (record_begins l.order l.version (size_by l.width l.height) offset (eqb l.left 0)) (λ y. tt) (λ y. tt)
 
 pub listed_follows : CanFollow listed_step
 listed_follows = states_follow listed_step listed_tells listed_begins
 
 pub listed_ends : (l : Listed) → EndsBy listed_step l (listed_end l)
 listed_ends l d offset far =
-    ends_after d (entry_behind l.header l.count l.seen l.width l.height offset) (listed_with l) (listed_end l)
-    (behind_ends l.header l.count l.seen l.width l.height d offset far ∙ by_all (eqb l.seen l.count))
+    ends_after d (entry_if_left l offset) (listed_with l) (listed_end l)
+    (record_ends l.order l.version (size_by l.width l.height) offset (eqb l.left 0) d far ∙ by_all (eqb l.left 0))
   where
-    by_all : (all : Bool) → just (cond all (Err NoDimensionsInIfd) (Err Ended)) []
+    by_all : (all : Bool) → refuses (cond all NoDimensionsInIfd Ended)
         ≡ just (map_answer {Y = Said Entry ImageSize} Decided (cond all (Err NoDimensionsInIfd) (Err Ended))) []
     by_all true = refl
     by_all false = refl
@@ -247,62 +238,78 @@ listed_ends l d offset far =
 pub entries_are : (header : Header) (count : ℕ) (d : List ℕ)
     → run listed_step (listed_first header count) (header.directory + count_bytes header.version) d
     ≡ chain_at (tiff_entries header count) d
-entries_are header count d = run_is listed_step d (listed_follows d) (tiff_entries header count) at listed_with Known
+entries_are header count d = run_is listed_step d (listed_follows d) (tiff_entries header count) at listed_with (Known count)
     (entries_advance header count d)
-    (λ entries l offset known i. layout_reads d (bind (cond (eqb (sym known.many i) count) (refuse NoDimensionsInIfd)
-    (bind (tiff_entry header offset) (λ entry. let more = known_on entries l entry known in
-    done (size_or_next (size_if_known (sym more.wide i) (sym more.high i)) entry (offset + entry_bytes header.version)))))
-    (after (listed_with (at l)) decides)))
-    (λ entries l offset v q known got. known_on entries l v known)
-    (listed_first header count) (record { many = refl; wide = refl; high = refl })
+    (λ entries l offset known.
+    ap (λ size. layout_reads d (bind (record_of header.order header.version size offset (eqb l.left 0))
+    (after (listed_with (at l)) decides))) (sizes entries l known)
+    ∙ ap (λ all. layout_reads d (bind (record_of header.order header.version (size_after entries) offset all)
+    (after (listed_with (at l)) decides))) (sym (all_read count entries l known)))
+    (λ entries l offset v q known got. known_on count entries l v known (sym (all_read count entries l known)
+    ∙ some_left (eqb (length entries) count) (bind (tiff_entry header.order header.version offset)
+    (says header.version (size_after entries) offset)) got))
+    (listed_first header count) (record { left = omega arith; wide = refl; high = refl })
   where
     at : Listed → Listed
-    at l = record l { header = header; count = count }
+    at l = record l { order = header.order; version = header.version }
+
+    some_left : {X : Type 0} {x : X} (all : Bool) (t : Layout X)
+        → (layout_reads d (cond all (refuse NoDimensionsInIfd) t)).answer ≡ Ok x → all ≡ false
+    some_left true t got = absurd cc
+    some_left false t got = refl
+
+    sizes : (entries : List Entry) (l : Listed) → Known count entries l → size_by l.width l.height ≡ size_after entries
+    sizes entries l known = λ i entry. size_if_known
+        (sym (last_value_on 0x100 entries entry ∙ ap (cond (eqb entry.tag 0x100) entry.value) known.wide) i)
+        (sym (last_value_on 0x101 entries entry ∙ ap (cond (eqb entry.tag 0x101) entry.value) known.high) i)
 
 -- what an entry leads to, by the size that it completes and by the width and the height with it
 abbrev pub listed_says : Listed → ℕ → Option ℕ → Option ℕ → Option ImageSize → Said Listed ImageSize
 listed_says l offset wide high None =
-    Next (record l { seen = l.seen + 1; width = wide; height = high }) (offset + entry_bytes l.header.version)
+    Next (record l { left = l.left - 1; width = wide; height = high }) (offset + entry_bytes l.version)
 listed_says l offset wide high (Some size) = Decided size
 
 -- no entry is left
-pub none_left : {a : State} (l : Listed) (offset : ℕ) → IsSound a → l.seen ≡ l.count
+pub none_left : {a : State} (l : Listed) (offset : ℕ) → IsSound a → l.left ≡ 0
     → Runs {X = Said Listed ImageSize} a a (Err NoDimensionsInIfd) (layout_reads a.held.input (listed_step l offset))
-none_left {a} l offset sound many =
-    let all : eqb l.seen l.count ≡ true = grind (arith, nat_tests) in
+none_left {a} l offset sound none =
+    let all : eqb l.left 0 ≡ true = grind (arith, nat_tests) in
     rw all (reads_nothing a (Err NoDimensionsInIfd) sound refl (record { budget = λ e. absurd cc; fault = λ e. absurd cc }))
+
+-- what an entry says after those read before
+abbrev said_after : Listed → ℕ → Entry → Layout (Said Entry ImageSize)
+said_after l = says l.version (size_by l.width l.height)
 
 -- an entry that is left is read or refused
 module _ {a b : State} (l : Listed) (offset : ℕ) where
-  pub next_said : l.seen ≢ l.count → (entry : Entry) (wide high : Option ℕ) (size : Option ImageSize)
+  pub next_said : l.left ≢ 0 → (entry : Entry) (wide high : Option ℕ) (size : Option ImageSize)
       → wide ≡ side_with 0x100 l.width entry
       → high ≡ side_with 0x101 l.height entry → size_if_known wide high ≡ size
-      → Runs a b (Ok entry) (layout_reads a.held.input (tiff_entry l.header offset))
+      → Runs a b (Ok entry) (layout_reads a.held.input (tiff_entry l.order l.version offset))
       → Runs a b (Ok (listed_says l offset wide high size)) (layout_reads a.held.input (listed_step l offset))
   next_said more entry wide high size is_wide is_high is run =
-      let no : eqb l.seen l.count ≡ false = grind (arith, nat_tests) in
+      let no : eqb l.left 0 ≡ false = grind (arith, nat_tests) in
       let known : size_by l.width l.height entry ≡ size = rw (← is_wide, ← is_high) is in
       rw no (runs_bind (Ok (listed_says l offset wide high size))
-      (bind (tiff_entry l.header offset) (entry_says l.header l.width l.height offset)) (after (listed_with l) decides)
-      (runs_bind (Ok (size_or_next size entry (offset + entry_bytes l.header.version))) (tiff_entry l.header offset)
-      (entry_says l.header l.width l.height offset) run
-      (λ d. ap (λ o. layout_reads d (done (size_or_next o entry (offset + entry_bytes l.header.version)))) known) refl tt)
+      (bind (tiff_entry l.order l.version offset) (said_after l offset)) (after (listed_with l) decides)
+      (runs_bind (Ok (size_or_next size entry (offset + entry_bytes l.version))) (tiff_entry l.order l.version offset) (said_after l offset) run
+      (λ d. ap (λ o. layout_reads d (done (size_or_next o entry (offset + entry_bytes l.version)))) known) refl tt)
       (λ d. leads size d) refl tt)
     where
       leads : (size : Option ImageSize) (d : List ℕ)
-          → layout_reads d (after (listed_with l) decides (size_or_next size entry (offset + entry_bytes l.header.version)))
+          → layout_reads d (after (listed_with l) decides (size_or_next size entry (offset + entry_bytes l.version)))
           ≡ just (Ok (listed_says l offset wide high size)) []
-      leads None d = λ i. just (Ok (Next (record l { seen = l.seen + 1; width = sym is_wide i; height = sym is_high i })
-          (offset + entry_bytes l.header.version))) []
+      leads None d = λ i. just (Ok (Next (record l { left = l.left - 1; width = sym is_wide i; height = sym is_high i })
+          (offset + entry_bytes l.version))) []
       leads (Some size) d = refl
 
-  pub next_refused : l.seen ≢ l.count → (e : Halt)
-      → Runs {X = Entry} a b (Err e) (layout_reads a.held.input (tiff_entry l.header offset))
+  pub next_refused : l.left ≢ 0 → (e : Halt)
+      → Runs {X = Entry} a b (Err e) (layout_reads a.held.input (tiff_entry l.order l.version offset))
       → Runs {X = Said Listed ImageSize} a b (Err e) (layout_reads a.held.input (listed_step l offset))
   next_refused more e run =
-      let no : eqb l.seen l.count ≡ false = grind (arith, nat_tests) in
-      rw no (refused_bind (bind (tiff_entry l.header offset) (entry_says l.header l.width l.height offset))
-      (after (listed_with l) decides) (refused_bind (tiff_entry l.header offset) (entry_says l.header l.width l.height offset) run))
+      let no : eqb l.left 0 ≡ false = grind (arith, nat_tests) in
+      rw no (refused_bind (bind (tiff_entry l.order l.version offset) (said_after l offset))
+      (after (listed_with l) decides) (refused_bind (tiff_entry l.order l.version offset) (said_after l offset) run))
 
 -- ---- the directory: the number of its entries, then these
 
@@ -390,7 +397,7 @@ entries_saturated {a} header count at runs is = rw (← entries_are header count
 entry_each : (header : Header) (count : ℕ) (entries : List Entry) (offset : ℕ)
     → Each 20 ((tiff_entries header count).said entries offset)
 entry_each header count entries offset =
-    record_each header (size_after entries) offset (eqb (length entries) count)
+    record_each header.order header.version (size_after entries) offset (eqb (length entries) count)
 
 -- the directory is read from at most the bytes behind its offset
 directory_within : (d : List ℕ) (header : Header) → total (tiff_directory d header).marks ≤ length d
@@ -405,7 +412,7 @@ directory_within d header =
       total-span_of d header.directory (count_bytes header.version),
       total-append count_span (chain_at (tiff_entries header count) d).marks,
       chain_ahead (tiff_entries header count) d (entries_advance header count d)
-          (λ entries offset. record_ahead header (size_after entries) offset (eqb (length entries) count)),
+          (λ entries offset. record_ahead header.order header.version (size_after entries) offset (eqb (length entries) count)),
     ))
     (λ e is. omega (arith, total_behind d header.directory (count_bytes header.version)))
 
@@ -479,7 +486,7 @@ tiff_keeps = lasts_then (λ d. layout_reads d tiff_header) (λ header d. tiff_di
     (λ count d. chain_at (tiff_entries header count) d)
     (number_lasts header.order header.directory (count_bytes header.version))
     (λ count. lasts_chain (tiff_entries header count) (entries_advance header count)
-    (λ entries offset. record_plain header (size_after entries) offset (eqb (length entries) count))))
+    (λ entries offset. record_plain header.order header.version (size_after entries) offset (eqb (length entries) count))))
 
 -- With its type it is read from at most 36 bytes beside the entries, and from at most 28 bytes more than the input has. Header
 -- and directory read at most 16 more, since the directory may lie in the header.

@@ -114,12 +114,12 @@ unfoldable pub tiff_value : Version → ℕ → Layout (List ℕ)
 tiff_value version offset = if_there offset (value_bytes version) (λ found. accept (whole_value found) done)
 
 -- an entry; its field type is checked before its value is read
-unfoldable pub tiff_entry : Header → ℕ → Layout Entry
-tiff_entry header offset =
-    begin_record (bind (tiff_head header.version offset) (λ head.
-    accept (field_type_of header.version (field_type_in header.order head)) (λ field_type.
-    bind (tiff_value header.version (offset + head_bytes header.version)) (λ value.
-    done (record { tag = tag_in header.order head; value = value_of header.order field_type value })))))
+unfoldable pub tiff_entry : Endian → Version → ℕ → Layout Entry
+tiff_entry order version offset =
+    begin_record (bind (tiff_head version offset) (λ head.
+    accept (field_type_of version (field_type_in order head)) (λ field_type.
+    bind (tiff_value version (offset + head_bytes version)) (λ value.
+    done (record { tag = tag_in order head; value = value_of order field_type value })))))
 
 -- the value of the last entry with this tag
 abbrev pub last_value : ℕ → List Entry → Option ℕ
@@ -138,24 +138,13 @@ size_or_next None entry next = Next entry next
 abbrev pub side_with : ℕ → Option ℕ → Entry → Option ℕ
 side_with tag side entry = if entry.tag == tag then entry.value else side
 
--- what an entry says after entries that give this width and this height
-abbrev pub entry_says : Header → Option ℕ → Option ℕ → ℕ → Entry → Layout (Said Entry ImageSize)
-entry_says header width height offset entry =
-    done (size_or_next (size_if_known (side_with 0x100 width entry) (side_with 0x101 height entry)) entry
-    (offset + entry_bytes header.version))
-
--- the record after `seen` entries, which give this width and this height
-abbrev pub entry_behind : Header → ℕ → ℕ → Option ℕ → Option ℕ → ℕ → Layout (Said Entry ImageSize)
-entry_behind header count seen width height offset =
-    if seen == count then refuse NoDimensionsInIfd else bind (tiff_entry header offset) (entry_says header width height offset)
-
 -- the entries of a directory, as many as the count says, without gaps after it
 abbrev pub tiff_entries : Header → ℕ → Chain Entry ImageSize
 tiff_entries header count = record {
   first = header.directory + count_bytes header.version;
   said = λ entries offset.
       if length entries == count then refuse NoDimensionsInIfd
-      else bind (tiff_entry header offset)
+      else bind (tiff_entry header.order header.version offset)
       (λ entry. done (size_or_next (size_in (entries ++ entry ∷ [])) entry (offset + entry_bytes header.version)));
 }
 

@@ -2,7 +2,7 @@
 //! properties and their list). The brands of AVIF are those of the AV1 Image File Format.
 ghost use Rattle.std.specs.Prelude.{◌≡◌, ◌+◌, ◌<◌, ◌≤◌, Some, IfErr, IfOk};
 ghost use Rattle.imagesize_boxes.specs.Heif.{box_size, brand_compression, compatible_compression, extents_size, heif, heif_compression, heif_in_iprp, heif_in_meta, is_general, is_heif, is_named, properties, property_at, property_bytes, search_for, searched_box, skipped_bytes, turn_by};
-ghost use Rattle.imagesize_boxes.specs.Walks.{box_said, property_said, earlier_largest, gathered_with, gathered_answer, heif_open, heif_step, list_step, search_step, IsLeftFor};
+ghost use Rattle.imagesize_boxes.specs.Walks.{box_said, property_said, earlier_largest, gathered_with, gathered_first, gathered_answer, heif_open, heif_step, list_step, search_step, IsLeftFor};
 ghost use Rattle.imagesize_source.specs.Chain.{chain_at};
 ghost use Rattle.imagesize_source.specs.Paying.{Nears, Paid};
 ghost use Rattle.imagesize_source.specs.Walk.{said_at};
@@ -252,10 +252,10 @@ pub enum Property {
 /// What the properties so far add up to.
 #[derive(Clone, Copy)]
 pub struct Gathered {
-    /// The size of the list's box in bytes, less the sizes of the skipped boxes.
-    pub left: u32,
     /// The greatest image size so far.
     pub best: Option<ImageSize>,
+    /// The size of the list's box in bytes, less the sizes of the skipped boxes.
+    pub left: u32,
     /// The last rotation, in quarter turns.
     pub turn: Option<u8>,
 }
@@ -275,12 +275,7 @@ fn largest_from<S: Source>(source: &mut S, from: u64, all: u32) -> Result<ImageS
     ensures { Runs (S.state source.old) (S.state source.new) result
         (chain_at (properties all from) (S.state source.old).held.input) }
 {
-    let gathered = Gathered {
-        left: all,
-        best: None,
-        turn: None,
-    };
-    walk(gathered, source, from)
+    walk(gathered_first(all), source, from)
 }
 
 impl Records for Gathered {
@@ -305,7 +300,7 @@ impl Records for Gathered {
         let Some(property) = read_property(source, offset, self.left)? else {
             return Ok(Found::Answer(answer(*self)?));
         };
-        *self = gather(*self, property);
+        gather(self, property);
         Ok(Found::Other {
             length: property_bytes(property),
         })
@@ -371,25 +366,28 @@ fn property_bytes(property: Property) -> u64
     }
 }
 
-// Adds one more property.
+// The state before the first property, in a box of `all` bytes.
 #[inline(always)]
-fn gather(gathered: Gathered, property: Property) -> Gathered
-    requires { skipped_bytes property ≤ gathered.left }
-    ensures { result ≡ gathered_with gathered property }
+fn gathered_first(all: u32) -> Gathered
+    ensures { result ≡ gathered_first all }
+{
+    Gathered {
+        best: None,
+        left: all,
+        turn: None,
+    }
+}
+
+// Adds one more property. It writes only the fields that the property changes.
+#[inline(always)]
+fn gather(gathered: &mut Gathered, property: Property)
+    requires { skipped_bytes property ≤ gathered.old.left }
+    ensures { gathered.new ≡ gathered_with gathered.old property }
 {
     match property {
-        Property::Extents(size) => Gathered {
-            best: Some(larger(gathered.best, size)),
-            ..gathered
-        },
-        Property::Rotation(quarters) => Gathered {
-            turn: Some(quarters),
-            ..gathered
-        },
-        Property::Skipped(size) => Gathered {
-            left: gathered.left - size,
-            ..gathered
-        },
+        Property::Extents(size) => gathered.best = Some(larger(gathered.best, size)),
+        Property::Rotation(quarters) => gathered.turn = Some(quarters),
+        Property::Skipped(size) => gathered.left -= size,
     }
 }
 
@@ -567,12 +565,7 @@ fn read_ipco<S: Source>(
 {
     match read_box(source, offset, b"ipco")? {
         Found::Answer(ipco) => {
-            let gathered = Gathered {
-                left: ipco.size,
-                best: None,
-                turn: None,
-            };
-            *next = Sought::Property(gathered);
+            *next = Sought::Property(gathered_first(ipco.size));
             Ok(Found::Other { length: 8 })
         }
         Found::Other { length } => {

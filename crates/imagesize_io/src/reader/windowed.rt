@@ -85,7 +85,7 @@ fn read_some<R: Told>(
     if left == 0 {
         return Err(Halt::Spent);
     }
-    let most = buffer.len().min(left as usize);
+    let most = (buffer.len() as u64).min(left) as usize;
     let offset = progress.offset;
     read_counted(reader, progress, offset, &mut buffer[..most])
 }
@@ -104,7 +104,7 @@ fn fill<R: Told>(
         (account R.telling R.count R.failure reader.new) buffer.new result }
 {
     if buffer.len() as u64 > progress.budget - progress.taken {
-        // Stack space for this result is then set up on this path alone.
+        // With `?` here, only this path sets up stack space for the result.
         let count = fill_rest(reader, progress, buffer)?;
         return Ok(count);
     }
@@ -301,8 +301,8 @@ fn read_above<R: Told>(
     Ok(count)
 }
 
-// Reads the rest of a text whose first `count` bytes the buffer has: a byte, then all that the reader holds of it after that, and
-// so on. Returns how many bytes the text has. Not inlined, since a buffered reader holds most texts.
+// Reads the rest of a text. The buffer has its first `count` bytes. A step reads a byte, and then all that the reader holds of the
+// text after that byte. Returns how many bytes the text has. Not inlined, since a buffered reader holds most texts.
 #[inline(never)]
 pub(super) fn read_rest<R: Told>(
     reader: &mut R,

@@ -7,7 +7,7 @@ ghost use Rattle.imagesize_source.specs.Walk.{said_at};
 ghost use Rattle.imagesize_texts.specs.Exr.{exr, exr_open, exr_step, is_box, is_data_window, is_exr, name_room, names_of, window_side, signed_at, window_size};
 ghost use Rattle.imagesize_texts.specs.Texts.{line_read};
 
-use crate::util::{read_line_capped, read_u32_behind};
+use crate::util::{ended, read_line_capped, read_u32_behind};
 use imagesize_source::readings::{read_bytes_behind, read_u32};
 use imagesize_source::source::Source;
 use imagesize_source::walk::{Found, Records, Start, walk};
@@ -108,7 +108,7 @@ impl Records for Attributes {
     #[inline(always)]
     #[tactic(auto, using(crate::proofs::Exr::exr_ends))]
     fn at_end(&self) -> Result<ImageSize, Halt> {
-        Err(Halt::Ended)
+        ended()
     }
 }
 

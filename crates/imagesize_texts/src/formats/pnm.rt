@@ -11,7 +11,7 @@ ghost use Rattle.imagesize_texts.specs.Walks.{pnm_step, part_after};
 ghost use Rattle.imagesize_texts.specs.declared.formats.pnm.Part.TheVariants as part;
 
 use crate::util::{
-    WORD_ROOM, Word, number, pass_line_behind, pass_line_capped, read_word, read_word_behind,
+    WORD_ROOM, Word, ended, number, pass_line_behind, pass_line_capped, read_word, read_word_behind,
 };
 use imagesize_source::Halt;
 use imagesize_source::source::Source;
@@ -95,7 +95,7 @@ impl Records for Words {
     // The input ends before the size.
     #[inline(always)]
     fn at_end(&self) -> Result<ImageSize, Halt> {
-        Err(Halt::Ended)
+        ended()
     }
 }
 

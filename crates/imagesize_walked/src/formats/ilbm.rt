@@ -2,7 +2,7 @@
 ghost use Rattle.imagesize_source.specs.State.{Runs};
 ghost use Rattle.std.specs.Prelude.{◌≡◌};
 ghost use Rattle.imagesize_walked.specs.Ilbm.{chunk_bytes, chunk_length, ilbm, is_bitmap_header, is_body, is_ilbm};
-ghost use Rattle.imagesize_walked.specs.Walks.{ilbm_holds, ilbm_step};
+ghost use Rattle.imagesize_walked.specs.Walks.{ilbm_step};
 
 use imagesize_source::readings::{read_exact_at, read_u16_behind};
 use imagesize_source::source::Source;
@@ -43,7 +43,7 @@ impl Records for Chunks {
 
     ghost state = { λ chunks. chunks };
 
-    ghost holds = { ilbm_holds };
+    ghost holds = { λ chunks offset. Unit {0} };
 
     // Reads the chunk at an offset.
     #[inline(always)]

@@ -96,7 +96,9 @@ impl Records for Segments {
             Role::End => Err(Halt::Corrupted),
             Role::Other { depth } => {
                 let length = read_u16_behind(source, offset, 2, Endian::Big)? as u64;
-                self.depth = depth;
+                if let Some(depth) = depth {
+                    self.depth = depth;
+                }
                 Ok(Found::Other { length: 2 + length })
             }
         }
@@ -106,8 +108,18 @@ impl Records for Segments {
     #[inline(always)]
     #[tactic(auto, using(crate::proofs::Jpeg::jpeg_ends))]
     fn at_end(&self) -> Result<ImageSize, Halt> {
-        Err(Halt::Ended)
+        ended()
     }
+}
+
+// The result where the input ends before the size. Not inlined: else a walk over parts sets it up at each segment, which takes 6 of
+// 45 instructions.
+#[cold]
+#[inline(never)]
+fn ended() -> Result<ImageSize, Halt>
+    ensures { result ≡ Err Halt.Ended }
+{
+    Err(Halt::Ended)
 }
 
 // What a marker means for the image itself.
@@ -117,8 +129,8 @@ enum Role {
     Frame,
     // It ends the image.
     End,
-    // Neither. `depth` is the depth of the next segment.
-    Other { depth: u64 },
+    // Neither. `depth` is the depth of the next segment. `None`: the depth stays the same, and is not written.
+    Other { depth: Option<u64> },
 }
 
 // What a marker at this depth means. Most markers are not from C0 to D9.
@@ -128,7 +140,7 @@ fn role_of(depth: u64, marker: u8) -> Role
     ensures { HasRole depth marker result }
 {
     if !matches!(marker, 0xC0..=0xD9) {
-        return Role::Other { depth };
+        return Role::Other { depth: None };
     }
     if is_own_frame(depth, marker) {
         return Role::Frame;
@@ -137,7 +149,7 @@ fn role_of(depth: u64, marker: u8) -> Role
         return Role::End;
     }
     Role::Other {
-        depth: depth_behind(depth, marker),
+        depth: Some(depth_behind(depth, marker)),
     }
 }
 

@@ -1,12 +1,12 @@
 //! TIFF, by "TIFF Revision 6.0" (section 2), and BigTIFF, by "The BigTIFF File Format".
 ghost use Rattle.std.specs.Prelude.{◌≡◌, ◌+◌, ◌<◌, ◌≤◌, IfErr, IfOk, false, take, length};
 ghost use Rattle.imagesize_walked.specs.Tiff.{byte_order, count_bytes, directory_at, entry_bytes, head_bytes, is_tiff, field_type_in, field_type_of, side_with, stated_offset, tag_in, tiff, tiff_entries, tiff_entry, tiff_head, tiff_header, tiff_value, value_bytes, value_of, version_of};
-ghost use Rattle.imagesize_walked.specs.Walks.{listed_end, listed_first, listed_holds, listed_step, tiff_holds, tiff_open, tiff_step};
+ghost use Rattle.imagesize_walked.specs.Walks.{listed_end, listed_first, listed_step, tiff_open, tiff_step};
 ghost use Rattle.imagesize_walked.specs.declared.formats.tiff.Directory.TheVariants as directory;
 ghost use Rattle.imagesize_types.specs.Sides.{size_if_known};
 ghost use Rattle.imagesize_source.specs.Chain.{chain_at};
 ghost use Rattle.imagesize_source.specs.Paying.{Nears, Paid, ahead_of};
-ghost use Rattle.imagesize_source.specs.Walk.{HoldsOn, said_at};
+ghost use Rattle.imagesize_source.specs.Walk.{said_at};
 ghost use Rattle.imagesize_source.specs.Reading.{is_stopped, map_answer, number_read};
 ghost use Rattle.imagesize_source.specs.State.{Runs, Follows, IsSound};
 
@@ -36,15 +36,14 @@ pub fn size<S: Source>(source: &mut S) -> Result<ImageSize, Halt>
     ensures { Runs (S.state source.old) (S.state source.new) result (tiff (S.state source.old).held.input) }
 {
     let header = read_header(source)?;
-    let count = read_count(source, &header)?;
+    let count = read_count(source, &header, header.directory)?;
     find_size(source, &header, count)
 }
 
 /// Reads the header. Returns the state before the first directory, and the offset of that directory.
 #[tactic(auto, using(imagesize_source::proofs::Runs::steps, imagesize_source::proofs::Layouts::binding))]
 pub fn open<S: Source>(source: &mut S) -> Result<Start<Directory>, Halt>
-    ensures first { IfOk result (λ start. tiff_holds start.records start.offset) }
-    ensures runs { Follows (S.state source.old) (S.state source.new) result tiff_open }
+    ensures { Follows (S.state source.old) (S.state source.new) result tiff_open }
 {
     let header = read_header(source)?;
     Ok(Start {
@@ -154,16 +153,16 @@ fn read_big_offset<S: Source>(source: &mut S, order: Endian) -> Result<u64, Halt
     Ok(offset)
 }
 
-/// Reads how many entries the directory states that it has.
+// Reads how many entries the directory at an offset states that it has.
 #[tactic(auto, using(imagesize_source::proofs::Runs::steps))]
-pub fn read_count<S: Source>(source: &mut S, header: &Header) -> Result<u64, Halt>
-    ensures pays { IfOk result (λ _. Paid (S.state source.old) (S.state source.new) header.now.directory) }
+fn read_count<S: Source>(source: &mut S, header: &Header, offset: u64) -> Result<u64, Halt>
+    ensures pays { IfOk result (λ _. Paid (S.state source.old) (S.state source.new) offset) }
     ensures runs { Runs (S.state source.old) (S.state source.new) result
-        (number_read (S.state source.old).held.input header.now.order header.now.directory (count_bytes header.now.version)) }
+        (number_read (S.state source.old).held.input header.now.order offset (count_bytes header.now.version)) }
 {
     match header.version {
-        Version::Tiff => read_short(source, header.directory, header.order),
-        Version::BigTiff => read_long(source, header.directory, header.order),
+        Version::Tiff => read_short(source, offset, header.order),
+        Version::BigTiff => read_long(source, offset, header.order),
     }
 }
 
@@ -215,35 +214,35 @@ fn find_size_of<S: Source, const HEAD: usize, const VALUE: usize>(
     ensures { Runs (S.state source.old) (S.state source.new) result
         (chain_at (tiff_entries header.now count) (S.state source.old).held.input) }
 {
-    let listed = listed_first(*header, count);
+    let listed = listed_first(header, count);
     let first = header.directory.saturating_add(count_bytes(header.version));
     walk(Entries::<HEAD, VALUE> { listed }, source, first)
 }
 
-/// The header, the stated number of the directory's entries, how many were read, and the width and the height from these.
+/// How the directory's entries are read, how many are left, and the width and the height from those that were read.
 #[derive(Clone, Copy)]
 pub struct Listed {
-    /// The header.
-    pub header: Header,
-    /// How many there are.
-    pub count: u64,
-    /// How many were read.
-    pub seen: u64,
-    /// The width that those tell.
+    /// The order of all numbers.
+    pub order: Endian,
+    /// Which format it is.
+    pub version: Version,
+    /// How many entries were not read yet.
+    pub left: u64,
+    /// The width in pixels, from the last entry with the tag 0x100. `None` if there is none, or if it has no such value.
     pub width: Option<u32>,
-    /// The height that those tell.
+    /// The height in pixels, from the last entry with the tag 0x101. `None` as for the width.
     pub height: Option<u32>,
 }
 
 // A directory of `count` entries, none of which was read.
 #[inline(always)]
-fn listed_first(header: Header, count: u64) -> Listed
-    ensures { result ≡ listed_first header count }
+fn listed_first(header: &Header, count: u64) -> Listed
+    ensures { result ≡ listed_first header.now count }
 {
     Listed {
-        header,
-        count,
-        seen: 0,
+        order: header.order,
+        version: header.version,
+        left: count,
         width: None,
         height: None,
     }
@@ -254,8 +253,8 @@ fn listed_first(header: Header, count: u64) -> Listed
 pub struct Entries<const HEAD: usize, const VALUE: usize> {
     /// The state before the next entry.
     pub listed: Listed,
-    ghost head: { HEAD ≡ head_bytes listed.header.version },
-    ghost value: { VALUE ≡ value_bytes listed.header.version },
+    ghost head: { HEAD ≡ head_bytes listed.version },
+    ghost value: { VALUE ≡ value_bytes listed.version },
 }
 
 impl<const HEAD: usize, const VALUE: usize> Records for Entries<HEAD, VALUE> {
@@ -267,7 +266,7 @@ impl<const HEAD: usize, const VALUE: usize> Records for Entries<HEAD, VALUE> {
 
     ghost state = { λ entries. entries.listed };
 
-    ghost holds = { λ entries offset. listed_holds entries.listed offset };
+    ghost holds = { λ entries offset. Unit {0} };
 
     // Reads the entry at an offset.
     #[inline(always)]
@@ -308,7 +307,7 @@ impl Records for Directory {
 
     ghost state = { λ directory. directory };
 
-    ghost holds = { tiff_holds };
+    ghost holds = { λ directory offset. Unit {0} };
 
     // Reads the number of entries, or the entry at an offset.
     #[inline(always)]
@@ -346,16 +345,12 @@ impl Directory {
         header: Header,
     ) -> Result<Found<ImageSize>, Halt>
         ensures nears { IfOk result (λ found. Nears (S.state source.old) (S.state source.new) offset (said_at self.new offset found)) }
-        ensures holds { IfOk result (HoldsOn (tiff_holds self.new) offset) }
         ensures stays { IfErr result (λ _. self.new ≡ self.old) }
         ensures runs { Follows (S.state source.old) (S.state source.new) (map_answer (said_at self.new offset) result)
             (tiff_step (directory.Count header) offset) }
     {
-        let count = match header.version {
-            Version::Tiff => read_short(source, offset, header.order)?,
-            Version::BigTiff => read_long(source, offset, header.order)?,
-        };
-        *self = Directory::Entry(listed_first(header, count));
+        let count = read_count(source, &header, offset)?;
+        *self = Directory::Entry(listed_first(&header, count));
         Ok(Found::Other {
             length: count_bytes(header.version),
         })
@@ -368,14 +363,12 @@ fn read_listed<S: Source>(
     source: &mut S,
     offset: u64,
 ) -> Result<Found<ImageSize>, Halt>
-    requires { listed_holds listed.old offset }
     ensures nears { IfOk result (λ found. Nears (S.state source.old) (S.state source.new) offset (said_at listed.new offset found)) }
-    ensures holds { IfOk result (HoldsOn (listed_holds listed.new) offset) }
     ensures stays { IfErr result (λ _. listed.new ≡ listed.old) }
     ensures runs { Follows (S.state source.old) (S.state source.new) (map_answer (said_at listed.new offset) result)
         (listed_step listed.old offset) }
 {
-    match listed.header.version {
+    match listed.version {
         Version::Tiff => read_next::<S, 8, 4>(listed, source, offset),
         Version::BigTiff => read_next::<S, 12, 8>(listed, source, offset),
     }
@@ -386,7 +379,7 @@ fn read_listed<S: Source>(
 fn none_left(listed: &Listed) -> Result<ImageSize, Halt>
     ensures { result ≡ listed_end listed.now }
 {
-    if listed.seen == listed.count {
+    if listed.left == 0 {
         return Err(Halt::NoDimensionsInIfd);
     }
     Err(Halt::Ended)
@@ -400,23 +393,21 @@ fn read_next<S: Source, const HEAD: usize, const VALUE: usize>(
     source: &mut S,
     offset: u64,
 ) -> Result<Found<ImageSize>, Halt>
-    requires few { listed_holds listed.old offset }
-    requires head { HEAD ≡ head_bytes listed.old.header.version }
-    requires value { VALUE ≡ value_bytes listed.old.header.version }
-    ensures header { listed.new.header ≡ listed.old.header }
+    requires head { HEAD ≡ head_bytes listed.old.version }
+    requires value { VALUE ≡ value_bytes listed.old.version }
+    ensures version { listed.new.version ≡ listed.old.version }
     ensures nears { IfOk result (λ found. Nears (S.state source.old) (S.state source.new) offset (said_at listed.new offset found)) }
-    ensures holds { IfOk result (HoldsOn (listed_holds listed.new) offset) }
     ensures stays { IfErr result (λ _. listed.new ≡ listed.old) }
     ensures runs { Follows (S.state source.old) (S.state source.new) (map_answer (said_at listed.new offset) result)
         (listed_step listed.old offset) }
 {
-    if listed.seen == listed.count {
+    if listed.left == 0 {
         // The proof needs that the length is below 2^63.
         let _told = source.told();
         return Err(Halt::NoDimensionsInIfd);
     }
-    let entry = read_entry::<S, HEAD, VALUE>(source, &listed.header, offset)?;
-    listed.seen += 1;
+    let entry = read_entry::<S, HEAD, VALUE>(source, listed.order, listed.version, offset)?;
+    listed.left -= 1;
     match size_with(&entry, &mut listed.width, &mut listed.height) {
         Some(size) => Ok(Found::Answer(size)),
         None => Ok(Found::Other {
@@ -499,20 +490,21 @@ pub struct Entry {
 #[tactic(auto, using(imagesize_source::proofs::Runs::steps, imagesize_source::proofs::Layouts::binding), unfolding(crate::specs::Tiff::tiff_entry))]
 fn read_entry<S: Source, const HEAD: usize, const VALUE: usize>(
     source: &mut S,
-    header: &Header,
+    order: Endian,
+    version: Version,
     offset: u64,
 ) -> Result<Entry, Halt>
-    requires head { HEAD ≡ head_bytes header.now.version }
-    requires value { VALUE ≡ value_bytes header.now.version }
+    requires head { HEAD ≡ head_bytes version }
+    requires value { VALUE ≡ value_bytes version }
     ensures nears { IfOk result (λ entry. ahead_of (S.state source.new) (offset + 1) < ahead_of (S.state source.old) offset) }
-    ensures runs { Follows (S.state source.old) (S.state source.new) result (tiff_entry header.now offset) }
+    ensures runs { Follows (S.state source.old) (S.state source.new) result (tiff_entry order version offset) }
 {
-    let head = read_head::<S, HEAD>(source, header.version, offset)?;
-    let field_type = field_type_of(header.version, field_type_in(header.order, head))?;
-    let value = read_value::<S, VALUE>(source, header.version, offset, HEAD as u64)?;
+    let head = read_head::<S, HEAD>(source, version, offset)?;
+    let field_type = field_type_of(version, field_type_in(order, head))?;
+    let value = read_value::<S, VALUE>(source, version, offset, HEAD as u64)?;
     Ok(Entry {
-        tag: tag_in(header.order, head),
-        value: value_of(header.order, field_type, value),
+        tag: tag_in(order, head),
+        value: value_of(order, field_type, value),
     })
 }
 

@@ -8,4 +8,4 @@ walk-requires-clause-follows g c = list_follows
 
 pub returns : goal.returns
 returns g c = subst (Runs (g.S.Source.state c.args.source.now) (g.S.Source.state c.walk.new.source) c.walk.result)
-    (list_is c.args.all c.args.from (g.S.Source.state c.args.source.now).held.input) c.walk.ensures
+    (list_is c.args.all c.args.from (g.S.Source.state c.args.source.now).held.input) (rw c.gathered_first.ensures at c.walk.ensures)

@@ -1,4 +1,4 @@
-use Rattle.imagesize_walked.proofs.Within.{runs_within}
+use Rattle.imagesize_source.proofs.Within.{runs_within}
 use Rattle.imagesize_boxes.specs.Walks.{heif_step, jxl_step}
 use Rattle.imagesize_walked.specs.Walks.{ico_step, ilbm_step, jpeg_step, tiff_step}
 use Rattle.imagesize_records.specs.declared.awaited.Awaited.TheVariants.{Heif, Ico, Ilbm, Jpeg, Jxl, Tiff}

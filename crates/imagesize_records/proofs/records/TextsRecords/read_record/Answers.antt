@@ -1,4 +1,4 @@
-use Rattle.imagesize_walked.proofs.Within.{runs_within}
+use Rattle.imagesize_source.proofs.Within.{runs_within}
 use Rattle.imagesize_texts.specs.Exr.{exr_step}
 use Rattle.imagesize_texts.specs.Hdr.{hdr_step}
 use Rattle.imagesize_texts.specs.Walks.{pnm_step}

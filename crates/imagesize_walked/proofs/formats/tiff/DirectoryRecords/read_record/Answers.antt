@@ -1,4 +1,4 @@
-use Rattle.imagesize_walked.proofs.Within.{runs_within}
+use Rattle.imagesize_source.proofs.Within.{runs_within}
 use Rattle.imagesize_walked.specs.Walks.{listed_step}
 use Rattle.imagesize_walked.specs.declared.formats.tiff.Directory.TheVariants as directory
 use Rattle.imagesize_walked.proofs.formats.tiff.DirectoryRecords.read_record.Goals as goal
