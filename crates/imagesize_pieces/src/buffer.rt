@@ -24,6 +24,18 @@ pub fn bytes_behind(bytes: &[u8], count: u64) -> &[u8]
     &bytes[(count as usize).min(bytes.len())..]
 }
 
+/// Stores the bytes in the buffer from an index on. A single byte is stored without a call.
+#[inline(always)]
+pub fn append(buffer: &mut [u8], index: usize, more: &[u8])
+    requires { index + length more.now ≤ length buffer.old }
+    ensures { take (index + length more.now) buffer.new ≡ take index buffer.old ++ more.now }
+{
+    match more {
+        [byte] => buffer[index] = *byte,
+        _ => buffer[index..index + more.len()].copy_from_slice(more),
+    }
+}
+
 /// Appends `more` to the first `count` bytes of the buffer, and drops the first `skip` of these bytes. The rest is at the front of
 /// the buffer.
 #[tactic(auto, using(crate::proofs::Keeping::more_kept, crate::proofs::Keeping::moved_kept))]

@@ -1,11 +1,11 @@
 //! Texts whose end has not arrived. A chunk without their end is kept, and the bytes before it are not searched again.
-ghost use Rattle.std.specs.Prelude.{◌≡◌, ◌+◌, ◌-◌, ◌≤◌, ◌++◌, false, true, length, not, take};
+ghost use Rattle.std.specs.Prelude.{◌≡◌, ◌+◌, ◌-◌, ◌≤◌, ◌++◌, [], ◌∷◌, false, true, length, not, take};
 ghost use Rattle.std.specs.Char.{is_ascii_whitespace};
 ghost use Rattle.std.specs.List.{list_any};
 ghost use Rattle.imagesize_source.specs.Text.{has_begun, is_ended};
 ghost use Rattle.imagesize_pieces.specs.Pending.{KeepsPending};
 
-use crate::buffer::bytes_behind;
+use crate::buffer::{append, bytes_behind};
 use crate::stand::Stand;
 use imagesize_source::Text;
 use imagesize_source::text::ended_length;
@@ -48,18 +48,6 @@ pub fn keep_pending(
     stand.end = (stand.start + most as u64).min(stand.told);
     *searched = count;
     true
-}
-
-// Stores the bytes in the buffer from an index on. A single byte is stored without a call.
-#[inline(always)]
-fn append(buffer: &mut [u8], index: usize, more: &[u8])
-    requires { index + length more.now ≤ length buffer.old }
-    ensures { take (index + length more.now) buffer.new ≡ take index buffer.old ++ more.now }
-{
-    match more {
-        [byte] => buffer[index] = *byte,
-        _ => buffer[index..index + more.len()].copy_from_slice(more),
-    }
 }
 
 // Whether neither the kept bytes nor the chunk after them end the text. The first `searched` bytes do not.
@@ -125,8 +113,21 @@ fn has_white(bytes: &[u8]) -> bool
 fn is_closed(text: Text, bytes: &[u8]) -> bool
     ensures { result ≡ is_ended text bytes.now }
 {
+    // A single byte needs no search.
+    if let (Text::Line { delimiter }, [byte]) = (text, bytes) {
+        return ends_line(delimiter, *byte);
+    }
     match ended_length(text, bytes) {
         Some(_) => true,
         None => false,
     }
+}
+
+// Whether a byte ends the line that it is the first byte of.
+#[inline(always)]
+#[tactic(auto, unfolding(imagesize_source::specs::Text::is_ended))]
+fn ends_line(delimiter: u8, byte: u8) -> bool
+    ensures { result ≡ is_ended (Text.Line delimiter) (byte ∷ []) }
+{
+    byte == delimiter
 }

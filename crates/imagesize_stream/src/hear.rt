@@ -48,6 +48,9 @@ pub(crate) enum Heard {
 }
 
 /// What the first bytes of an input of at most `told` bytes say.
+///
+/// Inlined: with too few bytes for the type, it makes no call. A probe over parts begins with no byte.
+#[inline(always)]
 pub(crate) fn hear(bytes: &[u8], told: u64) -> Heard
     requires fits { length bytes.now ≤ told }
     requires short { told < 2 ^ 63 }
@@ -59,13 +62,29 @@ pub(crate) fn hear(bytes: &[u8], told: u64) -> Heard
     ensures whole { told ≤ length bytes.now → IfMissing result ⊥ }
     ensures unstopped { IfAnswer result (λ size. is_stopped size ≡ false) }
 {
-    // Fewer bytes than the type is read from need no read that fails: a probe over parts begins with none.
     if bytes.len() < HEAD && told >= HEAD as u64 {
         return Heard::Missing {
             image: None,
             end: HEAD as u64,
         };
     }
+    hear_type(bytes, told)
+}
+
+// What the first bytes say, if there are 12 of them or the input is shorter.
+#[inline(never)]
+fn hear_type(bytes: &[u8], told: u64) -> Heard
+    requires enough { length bytes.now < 12 → told < 12 }
+    requires fits { length bytes.now ≤ told }
+    requires short { told < 2 ^ 63 }
+    ensures hears { Hears bytes.now told result }
+    ensures few { IfMissing result (length bytes.now < 132) }
+    ensures ends { EndsBehind bytes.now told result }
+    ensures typed { HearsType bytes.now told result }
+    ensures head { length bytes.now < 12 → EndsIn 12 result }
+    ensures whole { told ≤ length bytes.now → IfMissing result ⊥ }
+    ensures unstopped { IfAnswer result (λ size. is_stopped size ≡ false) }
+{
     let (found, end) = read_front(&FirstBytes, bytes, told);
     if is_faulted(&found) {
         return Heard::Missing { image: None, end };

@@ -12,7 +12,7 @@ ghost use Rattle.imagesize_stream.specs.declared.stage.Stage.TheVariants as stag
 use crate::hear::{Heard, hear};
 use imagesize::ImageType;
 use imagesize_fixed::formats::tga::is_footer;
-use imagesize_pieces::buffer::{bytes_behind, front_of, keep_behind};
+use imagesize_pieces::buffer::{append, bytes_behind, front_of, keep_behind};
 use imagesize_pieces::stand::Stand;
 use imagesize_pieces::walk::read_on;
 use imagesize_records::awaited::Awaited;
@@ -258,7 +258,7 @@ pub(crate) fn begin(
     let left = FIRST - stand.passed;
     let more = front_of(chunk, left);
     let rest = bytes_behind(chunk, left);
-    keep_behind(buffer, stand.passed as usize, more, 0);
+    append(buffer, stand.passed as usize, more);
     stand.passed += more.len() as u64;
     begun(into, kind, stand, buffer, rest);
 }

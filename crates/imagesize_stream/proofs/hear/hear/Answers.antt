@@ -1,36 +1,7 @@
-use Rattle.std.proofs.Common.{◌<◌, false, length, sym, ◌∙◌, arith}
+use Rattle.std.proofs.Common.{◌<◌, length, arith}
 use Rattle.imagesize_stream.proofs.Heads.{head_needed}
-use Rattle.imagesize_stream.proofs.Hearing.{first_asked, first_typed, rests_more, type_asked, type_refused, type_said}
-use Rattle.imagesize_records.proofs.Plain.{first_plain}
-use Rattle.imagesize_records.proofs.Reaches.{first_reaches}
+use Rattle.imagesize_stream.proofs.Hearing.{first_asked, rests_more, type_asked}
 use Rattle.imagesize_stream.proofs.hear.hear.Goals as goal
-
-pub returns-then-is_faulted-clause-typed : goal.returns-then-is_faulted-clause-typed
-returns-then-is_faulted-clause-typed c =
-    let faults = sym c.is_faulted.ensures ∙ c.if-is_faulted.true in
-    type_asked c.args.bytes.now c.args.told _
-    (λ d begins as_long. c.read_front-found.ensures.marked faults d begins as_long false 132 first_plain first_reaches)
-
-pub returns-then-is_faulted-clause-hears : goal.returns-then-is_faulted-clause-hears
-returns-then-is_faulted-clause-hears c =
-    let faults = sym c.is_faulted.ensures ∙ c.if-is_faulted.true in
-    let asked = first_asked c.args.bytes.now c.args.told _
-    (λ d begins as_long. c.read_front-found.ensures.marked faults d begins as_long false 132 first_plain first_reaches) in
-    (rests_more c.args.bytes.now c.args.told _ asked, tt, λ _. asked)
-
-pub returns-then-is_faulted-clause-few : goal.returns-then-is_faulted-clause-few
-returns-then-is_faulted-clause-few c =
-    c.read_front-found.ensures.few (sym c.is_faulted.ensures ∙ c.if-is_faulted.true) 132 first_reaches
-
-pub hear_size-requires-clause-image : goal.hear_size-requires-clause-image
-hear_size-requires-clause-image c =
-    let says = c.read_front-found.ensures.says (sym c.is_faulted.ensures ∙ c.if-is_faulted.false) in
-    type_said c.args.bytes.now c.args.told c.in-Type.image (rw (c.in-Ok.is, c.in-Type.is) at says)
-
-pub returns-in-Err-clause-hears : goal.returns-in-Err-clause-hears
-returns-in-Err-clause-hears c =
-    let says = c.read_front-found.ensures.says (sym c.is_faulted.ensures ∙ c.if-is_faulted.false) in
-    type_refused c.args.bytes.now c.args.told c.in-Err.halt (rw c.in-Err.is at says)
 
 pub returns-then-told-clause-typed : goal.returns-then-told-clause-typed
 returns-then-told-clause-typed c =
@@ -44,15 +15,3 @@ returns-then-told-clause-hears c =
     let asked = first_asked c.args.bytes.now c.args.told 12
     (λ d begins as_long. head_needed d (length c.args.bytes.now) few (omega (arith, as_long))) in
     (rests_more c.args.bytes.now c.args.told 12 asked, tt, λ _. asked)
-
-pub returns-in-MaybeTga-clause-head : goal.returns-in-MaybeTga-clause-head
-returns-in-MaybeTga-clause-head c = λ few.
-    let says = c.read_front-found.ensures.says (sym c.is_faulted.ensures ∙ c.if-is_faulted.false) in
-    let enough = first_typed c.args.bytes.now c.args.told c.requires.fits c.in-Ok.first (rw c.in-Ok.is at says) in
-    absurd (omega (arith, few, enough))
-
-pub returns-in-Type-clause-head : goal.returns-in-Type-clause-head
-returns-in-Type-clause-head c = λ few.
-    let says = c.read_front-found.ensures.says (sym c.is_faulted.ensures ∙ c.if-is_faulted.false) in
-    let enough = first_typed c.args.bytes.now c.args.told c.requires.fits c.in-Ok.first (rw c.in-Ok.is at says) in
-    absurd (omega (arith, few, enough))
