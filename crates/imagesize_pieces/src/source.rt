@@ -1,7 +1,6 @@
 //! The bytes of an input that arrived so far, from an offset on, as a source. A read of a missing byte fails.
 ghost use Rattle.std.specs.Prelude.{◌≡◌, ℕ, List, ◌+◌, ◌-◌, ◌<◌, ◌≤◌, ◌++◌, [], ◌∷◌, min, take, length, slice_index, is_some, true, false, None, Some, Err, IfSome, ok_or};
 ghost use Rattle.std.specs.Option.{ForSome};
-ghost use Rattle.imagesize_source.specs.Agreement.{has_offset};
 ghost use Rattle.imagesize_source.specs.Input.{part, span_at};
 ghost use Rattle.imagesize_source.specs.Known.{AllKnown, Lacks};
 ghost use Rattle.imagesize_source.specs.Reading.{part_read, text_read, map_answer};
@@ -74,7 +73,6 @@ impl<'a> StreamSource<'a> {
 
     // Records `count` bytes from an offset on. Without bytes it records no span.
     #[inline(always)]
-    #[tactic(auto, unfolding(imagesize_source::specs::Input::span_at))]
     fn see(&mut self, start: u64, count: usize)
         requires { (i : ℕ) → i < count → is_some (byte_at self.old.told self.old.start self.old.kept.now self.old.chunk.now (start + i))
             ≡ true }
@@ -85,25 +83,7 @@ impl<'a> StreamSource<'a> {
         ensures seen { self.new.log.spans ≡ self.old.log.spans ++ span_at start count }
         ensures missed { self.new.missed ≡ self.old.missed }
     {
-        if count > 0 {
-            let len = count as u64;
-            self.push(Span { start, len });
-        }
-    }
-
-    // Records a span.
-    #[inline(always)]
-    fn push(&mut self, span: Span)
-        requires { (offset : ℕ) → has_offset span offset ≡ true
-            → is_some (byte_at self.old.told self.old.start self.old.kept.now self.old.chunk.now offset) ≡ true }
-        ensures start { self.new.start ≡ self.old.start }
-        ensures kept { self.new.kept.now ≡ self.old.kept.now }
-        ensures chunk { self.new.chunk.now ≡ self.old.chunk.now }
-        ensures told { self.new.told ≡ self.old.told }
-        ensures pushed { self.new.log.spans ≡ self.old.log.spans ++ span ∷ [] }
-        ensures missed { self.new.missed ≡ self.old.missed }
-    {
-        self.log = SpanLog::with(&self.log, &span);
+        self.log.see(start, count);
     }
 
     // Records a read whose first `count` bytes are known and whose next byte is missing.

@@ -1,15 +1,15 @@
 -- Which bytes parts know.
 use Rattle.std.proofs.lemmas.Bool.{cond_both}
 use Rattle.std.proofs.Common.{◌≡◌, ℕ, ◌+◌, ◌-◌, ◌<◌, ◌≤◌, true, false, ◌||◌, List, [], ◌∷◌, ◌++◌, length, drop, get_or, slice_index, Option, Some, is_some, refl, sym, ap, ◌∙◌, subst, arith, min, take}
-use Rattle.std.specs.Prelude.{unwrap_or}
+use Rattle.std.specs.Prelude.{Bool, unwrap_or, ◌==◌}
 use Rattle.std.proofs.lemmas.Bool.Decides.{nat_tests}
-use Rattle.std.proofs.lemmas.List.{length-append, take_all, length-drop, drop_min, get_or_append_left}
+use Rattle.std.proofs.lemmas.List.{append-nil, length-append, take_all, length-drop, drop_min, get_or_append_left}
 use Rattle.std.proofs.lemmas.List.FromFn.{length-map-range_with_len, get_or-map-range_with_len}
 use Rattle.std.proofs.Math.Bool.{or-false}
 use Rattle.std.proofs.Math.Seq.{drop-append_seam}
 use Rattle.imagesize_source.specs.declared.span.Span.{Span}
 use Rattle.imagesize_source.specs.Agreement.{is_covered, has_offset}
-use Rattle.imagesize_source.specs.Input.{part}
+use Rattle.imagesize_source.specs.Input.{part, span_at}
 use Rattle.imagesize_source.specs.Known.{AllKnown, HasParts, byte_of, bytes_of, filled_input, byte_in_parts, reaches, length_within}
 use Rattle.imagesize_source.proofs.Parts.{part_length, part_at}
 
@@ -103,6 +103,19 @@ pub pushed_known : (n : ℕ) (spans : List Span) (bytes : List ℕ) (log more : 
     → ((offset : ℕ) → has_offset s offset ≡ true → is_some (byte_in_parts n spans bytes offset) ≡ true)
     → more ≡ log ++ s ∷ [] → AllKnown n spans bytes more
 pushed_known n spans bytes log more s all also is offset here = grind (arith, covered_after)
+
+-- the offsets of known bytes are known, also after a read of more known bytes
+pub seen_known : (n : ℕ) (spans : List Span) (bytes : List ℕ) (log more : List Span) (start count : ℕ)
+    → AllKnown n spans bytes log
+    → ((i : ℕ) → i < count → is_some (byte_in_parts n spans bytes (start + i)) ≡ true)
+    → more ≡ log ++ span_at start count → AllKnown n spans bytes more
+unfolding span_at
+seen_known n spans bytes log more start count all also is = by_count (count == 0) refl where
+  by_count : (none : Bool) → none ≡ (count == 0) → AllKnown n spans bytes more
+  by_count true none = subst (AllKnown n spans bytes) (grind (arith, append-nil)) all
+  by_count false none =
+      let s : Span = record { start = start; len = count } in
+      pushed_known n spans bytes log more s all (span_known n spans bytes start count s also refl refl) (grind arith)
 
 -- what stands behind so many bytes, by the slice that the code takes
 pub slice_behind : (bs : List ℕ) (k : ℕ)

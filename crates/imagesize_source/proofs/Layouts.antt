@@ -46,7 +46,7 @@ over-bind d (reading r offset g) f = onward-and_then _ _ _ _ _ (λ bs. over-bind
 over-bind d (begin_record t) f = ap (after_records 1) (over-bind d t f)
 over-bind d _ f = refl
 
--- three layouts, one behind the other
+-- three layouts, one after another, may be grouped either way
 pub bind_bind : {X Y Z : Type 0} (t : Layout X) (f : X → Layout Y) (g : Y → Layout Z)
     → bind t (λ x. bind (f x) g) ≡ bind (bind t f) g
 bind_bind (done x) f g = refl

@@ -20,7 +20,7 @@ runs_within t into q offset (Ok (found.Other length)) run =
     runs_bind (Ok (Next (into q) (offset + length))) t (after into decides) run (λ d. refl) refl tt
 runs_within t into q offset (Err e) run = refused_bind t (after into decides) run
 
--- It leads as near to the end of the input.
+-- The state that holds the one after it is as near to the end of the input as that one.
 pub nears_within : {Q S X : Type 0} (a b : State) (q : Q) (s : S) (offset : ℕ) (r : Result (Found X) Halt)
     → IfOk r (λ found. Nears a b offset (said_at q offset found)) → IfOk r (λ found. Nears a b offset (said_at s offset found))
 nears_within a b q s offset (Ok (found.Answer x)) h = tt

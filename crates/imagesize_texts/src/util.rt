@@ -10,20 +10,9 @@ use crate::utf8::is_utf8;
 use imagesize_source::readings::read_u32;
 use imagesize_source::source::Source;
 use imagesize_source::{Endian, Halt, Text};
-use imagesize_types::size::ImageSize;
 
 /// A word has fewer bytes than this, including the white space around it.
 pub const WORD_ROOM: usize = 1024;
-
-/// The result where the input ends before the size. Not inlined: else a walk sets it up at each record, which takes 4 of 110
-/// instructions for a word of a portable bitmap.
-#[cold]
-#[inline(never)]
-pub fn ended() -> Result<ImageSize, Halt>
-    ensures { result ≡ Err Halt.Ended }
-{
-    Err(Halt::Ended)
-}
 
 /// A word of an input.
 #[derive(Clone, Copy, Debug)]

@@ -1,6 +1,7 @@
 //! Spans that only proofs read.
 ghost use Rattle.std.specs.Prelude.{◌≡◌, List, [], ◌∷◌, ◌++◌};
 ghost use Rattle.std.specs.Borrow.{ftrue};
+ghost use Rattle.imagesize_source.specs.Input.{span_at};
 ghost use Rattle.imagesize_source.specs.declared.span.Span.{Span};
 
 use crate::Span;
@@ -29,5 +30,17 @@ impl SpanLog {
         ensures { result.spans ≡ _before.now.spans ++ _span.now ∷ [] }
     {
         SpanLog {}
+    }
+
+    /// Records `count` bytes from an offset on. Without bytes it records no span.
+    #[inline(always)]
+    #[tactic(auto, unfolding(crate::specs::Input::span_at))]
+    pub fn see(&mut self, start: u64, count: usize)
+        ensures { self.new.spans ≡ self.old.spans ++ span_at start count }
+    {
+        if count > 0 {
+            let len = count as u64;
+            *self = SpanLog::with(self, &Span { start, len });
+        }
     }
 }

@@ -7,10 +7,10 @@ ghost use Rattle.imagesize_source.specs.Walk.{said_at};
 ghost use Rattle.imagesize_texts.specs.Exr.{exr, exr_open, exr_step, is_box, is_data_window, is_exr, name_room, names_of, window_side, signed_at, window_size};
 ghost use Rattle.imagesize_texts.specs.Texts.{line_read};
 
-use crate::util::{ended, read_line_capped, read_u32_behind};
+use crate::util::{read_line_capped, read_u32_behind};
 use imagesize_source::readings::{read_bytes_behind, read_u32};
 use imagesize_source::source::Source;
-use imagesize_source::walk::{Found, Records, Start, walk};
+use imagesize_source::walk::{Found, Records, Start, ended, walk};
 use imagesize_source::{Endian, Halt};
 use imagesize_types::size::{ImageSize, size_if_known};
 

@@ -11,11 +11,11 @@ ghost use Rattle.imagesize_texts.specs.Walks.{pnm_step, part_after};
 ghost use Rattle.imagesize_texts.specs.declared.formats.pnm.Part.TheVariants as part;
 
 use crate::util::{
-    WORD_ROOM, Word, ended, number, pass_line_behind, pass_line_capped, read_word, read_word_behind,
+    WORD_ROOM, Word, number, pass_line_behind, pass_line_capped, read_word, read_word_behind,
 };
 use imagesize_source::Halt;
 use imagesize_source::source::Source;
-use imagesize_source::walk::{Found, Records, walk};
+use imagesize_source::walk::{Found, Records, ended, walk};
 use imagesize_types::size::{ImageSize, size_if_known};
 
 /// Whether the input begins with a magic number from `P1` to `P6`.

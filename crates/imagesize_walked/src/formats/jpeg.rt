@@ -8,7 +8,7 @@ ghost use Rattle.imagesize_source.specs.Strides.{Strides};
 
 use imagesize_source::readings::{read_bytes, read_u16_behind};
 use imagesize_source::source::Source;
-use imagesize_source::walk::{Found, Records, walk_on};
+use imagesize_source::walk::{Found, Records, ended, walk_on};
 use imagesize_source::{Endian, Halt};
 use imagesize_types::size::ImageSize;
 
@@ -110,16 +110,6 @@ impl Records for Segments {
     fn at_end(&self) -> Result<ImageSize, Halt> {
         ended()
     }
-}
-
-// The result where the input ends before the size. Not inlined: else a walk over parts sets it up at each segment, which takes 6 of
-// 45 instructions.
-#[cold]
-#[inline(never)]
-fn ended() -> Result<ImageSize, Halt>
-    ensures { result ≡ Err Halt.Ended }
-{
-    Err(Halt::Ended)
 }
 
 // What a marker means for the image itself.
