@@ -61,7 +61,7 @@ pub fn image_type(header: &[u8]) -> ImageResult<ImageType>
     // Over a slice no read fails, there is no budget, and nothing is allocated.
     ensures unstopped { is_stopped result ≡ false }
 {
-    let mut source = SliceSource { bytes: header };
+    let mut source = SliceSource::new(header);
     with_error(detect(&mut source, 0), &source)
 }
 
@@ -103,7 +103,7 @@ pub fn blob_size(data: &[u8]) -> ImageResult<ImageSize>
     // Over a slice no read fails, there is no budget, and nothing is allocated.
     ensures unstopped { is_stopped result ≡ false }
 {
-    let source = SliceSource { bytes: data };
+    let source = SliceSource::new(data);
     with_error(probe_slice(data).1, &source)
 }
 
@@ -126,7 +126,7 @@ pub fn blob_probe(data: &[u8]) -> (Option<ImageType>, ImageResult<ImageSize>)
     // Over a slice no read fails, there is no budget, and nothing is allocated.
     ensures unstopped { is_stopped result.1 ≡ false }
 {
-    let source = SliceSource { bytes: data };
+    let source = SliceSource::new(data);
     let (kind, found) = probe_slice(data);
     (kind, with_error(found, &source))
 }
@@ -138,7 +138,7 @@ fn probe_slice(data: &[u8]) -> (Option<ImageType>, Result<ImageSize, Halt>)
     ensures kind { result.0 ≡ result_ok (kind_reads «data».now 0).answer }
     ensures unstopped { has_stopped result.1 ≡ false }
 {
-    probe(&mut SliceSource { bytes: data }, 0)
+    probe(&mut SliceSource::new(data), 0)
 }
 
 // The type at an offset of a source, and the size by that type.

@@ -27,7 +27,7 @@ pub(crate) fn memory_type(bytes: &[u8], offset: u64) -> ImageResult<ImageType>
     ensures unstopped { is_stopped result ≡ false }
 {
     let mut source = MemorySource {
-        slice: SliceSource { bytes },
+        slice: SliceSource::new(bytes),
     };
     let found = detect(&mut source, offset);
     with_error(found, &source)
@@ -40,7 +40,7 @@ pub(crate) fn memory_size(bytes: &[u8], offset: u64) -> ImageResult<ImageSize>
     ensures unstopped { is_stopped result ≡ false }
 {
     let mut source = MemorySource {
-        slice: SliceSource { bytes },
+        slice: SliceSource::new(bytes),
     };
     let (_, found) = probe(&mut source, offset);
     with_error(found, &source)

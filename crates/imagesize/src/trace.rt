@@ -68,7 +68,7 @@ pub fn blob_trace<A: Allocator>(alloc: A, data: &[u8]) -> Result<Trace<A>, Alloc
     fill_spans(data, &first, &mut spans);
     Ok(Trace {
         kind,
-        answer: with_error(found, &SliceSource { bytes: data }),
+        answer: with_error(found, &SliceSource::new(data)),
         spans,
     })
 }

@@ -51,7 +51,7 @@ pub fn blob_size(data: &[u8]) -> ImageResult<ImageSize>
     // Over a slice no read fails, there is no budget, and nothing is allocated.
     ensures unstopped { is_stopped result ≡ false }
 {
-    let mut source = SliceSource { bytes: data };
+    let mut source = SliceSource::new(data);
     let found = size(&mut source, 0);
     with_error(found, &source)
 }

@@ -20,7 +20,7 @@ fn check_text(
 ) -> Result<(), Fail> {
     let most = most.min(16);
     let mut buffer = [0u8; 16];
-    let count = SliceSource { bytes }.read_text(offset, text, &mut buffer[..most])?;
+    let count = SliceSource::new(bytes).read_text(offset, text, &mut buffer[..most])?;
     assert_eq!(rt; &buffer[..count], expected);
     let mut reader = Cursor::new(bytes);
     let opened = open(&mut reader, Origin::Start)?;

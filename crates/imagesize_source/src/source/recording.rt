@@ -1,5 +1,5 @@
 //! A slice as a source that records which bytes each read saw. It reads nothing from a reader, and no read fails.
-ghost use Rattle.std.specs.Prelude.{◌≡◌, ◌-◌, ◌^◌, ◌≤◌, List, [], ◌∷◌, ◌++◌, min, length};
+ghost use Rattle.std.specs.Prelude.{◌≡◌, ◌-◌, ◌^◌, ◌<◌, ◌≤◌, List, [], ◌∷◌, ◌++◌, min, length};
 ghost use Rattle.imagesize_source.specs.Buffer.{Holds};
 ghost use Rattle.imagesize_source.specs.Input.{span_at};
 ghost use Rattle.imagesize_source.specs.State.{recording_state, total};
@@ -22,6 +22,7 @@ pub struct RecordingSource<'a, 'b> {
     pub count: usize,
     /// All recorded spans.
     pub log: SpanLog,
+    ghost short: { length bytes.now < 2 ^ 63 },
     ghost written: { Holds buffer.now log.spans },
     ghost counted: { count ≡ min (length log.spans) (2 ^ 64 - 1) },
     ghost seen: { length log.spans ≤ total log.spans },
@@ -36,6 +37,8 @@ impl<'a, 'b> RecordingSource<'a, 'b> {
         ensures buffer { result.buffer.now ≡ buffer.old }
         ensures spans { result.log.spans ≡ [] }
     {
+        // The proof needs that the length is below 2^63.
+        let _length = bytes.len();
         RecordingSource {
             bytes,
             buffer,
@@ -99,8 +102,6 @@ impl Source for RecordingSource<'_, '_> {
 
     #[inline(always)]
     fn read_at(&mut self, offset: u64, buffer: &mut [u8]) -> Result<usize, Halt> {
-        // The proof needs that the length is below 2^63.
-        let _length = self.bytes.len();
         let count = copy_part(self.bytes, offset, buffer);
         self.record(offset, count);
         Ok(count)
@@ -110,8 +111,6 @@ impl Source for RecordingSource<'_, '_> {
     // line.
     #[inline(always)]
     fn read_text(&mut self, offset: u64, text: Text, buffer: &mut [u8]) -> Result<usize, Halt> {
-        // The proof needs that the length is below 2^63.
-        let _length = self.bytes.len();
         let length = copy_text_at(self.bytes, offset, text, buffer);
         self.record(offset, length);
         Ok(length)

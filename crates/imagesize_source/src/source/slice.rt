@@ -1,5 +1,5 @@
 //! A slice as a source. It reads nothing from a reader, and no read fails.
-ghost use Rattle.std.specs.Prelude.{◌<◌, ◌-◌, length};
+ghost use Rattle.std.specs.Prelude.{◌≡◌, ◌<◌, ◌-◌, ◌^◌, length};
 ghost use Rattle.imagesize_source.specs.State.{slice_state};
 
 use super::Source;
@@ -11,6 +11,19 @@ use crate::{Halt, ImageError, Reason, Text};
 #[derive(Clone, Copy, Debug)]
 pub struct SliceSource<'a> {
     pub bytes: &'a [u8],
+    ghost short: { length bytes.now < 2 ^ 63 },
+}
+
+impl<'a> SliceSource<'a> {
+    /// A source of these bytes.
+    #[inline(always)]
+    pub fn new(bytes: &'a [u8]) -> Self
+        ensures { result.bytes.now ≡ bytes.now }
+    {
+        // The proof needs that the length is below 2^63.
+        let _length = bytes.len();
+        SliceSource { bytes }
+    }
 }
 
 impl Claims for SliceSource<'_> {}
@@ -35,8 +48,6 @@ impl Source for SliceSource<'_> {
 
     #[inline(always)]
     fn glance(&self, offset: u64) -> Option<[u8; 4]> {
-        // The proof needs that the length is below 2^63.
-        let _length = self.bytes.len();
         let mut four = [0; 4];
         if copy_part(self.bytes, offset, &mut four) < 4 {
             return None;
@@ -50,16 +61,12 @@ impl Source for SliceSource<'_> {
 
     #[inline(always)]
     fn read_at(&mut self, offset: u64, buffer: &mut [u8]) -> Result<usize, Halt> {
-        // The proof needs that the length is below 2^63.
-        let _length = self.bytes.len();
         Ok(copy_part(self.bytes, offset, buffer))
     }
 
     // Inlined, so that the compiler knows whether the text is a line or a word.
     #[inline(always)]
     fn read_text(&mut self, offset: u64, text: Text, buffer: &mut [u8]) -> Result<usize, Halt> {
-        // The proof needs that the length is below 2^63.
-        let _length = self.bytes.len();
         Ok(copy_text_at(self.bytes, offset, text, buffer))
     }
 }
