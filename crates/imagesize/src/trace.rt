@@ -143,8 +143,6 @@ fn record(data: &[u8], buffer: &mut [Span]) -> Recorded
     ensures count { result.count ≡ length (meaning «data».now 0).marks }
     ensures spans { take result.count buffer.new ≡ take (length buffer.new) (meaning «data».now 0).marks }
 {
-    // The proof needs that the length is below 2^63.
-    let _length = data.len();
     let mut source = RecordingSource::new(data, buffer);
     let (kind, found) = probe(&mut source, 0);
     Recorded {
