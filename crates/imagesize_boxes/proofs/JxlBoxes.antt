@@ -6,7 +6,7 @@ use Rattle.std.proofs.lemmas.List.Folds.{concat-append}
 use Rattle.std.specs.List.{concat}
 use Rattle.imagesize_boxes.specs.declared.formats.jxl.boxes.BoxHead.{BoxHead}
 use Rattle.imagesize_boxes.specs.Fields.{Fields, found, bits, binary, bits_of, field_at, with_found, found_by}
-use Rattle.imagesize_boxes.specs.Walks.{boxes_with, field_in, found_in, front_of, jxl_behind, jxl_step, jxl_verdict, no_boxes}
+use Rattle.imagesize_boxes.specs.Walks.{boxes_with, field_in, found_in, front_of, jxl_step, jxl_verdict, no_boxes}
 use Rattle.imagesize_boxes.specs.declared.formats.jxl.boxes.Boxes.{Boxes}
 use Rattle.imagesize_source.specs.Walk.{CanFollow, EndsBy, after, decides, run}
 use Rattle.imagesize_source.proofs.Layouts.{then_then}
@@ -20,7 +20,7 @@ use Rattle.imagesize_source.specs.declared.halt.Halt.TheVariants.{Corrupted, End
 use Rattle.imagesize_source.specs.Chain.{Said, Decided, Next, Advances, chain_at}
 use Rattle.imagesize_source.specs.Layout.{Layout, layout_reads, bind, bytes, bytes_there, accept}
 use Rattle.imagesize_source.specs.Layout.Layout.{field, refuse, done}
-use Rattle.imagesize_source.specs.Reading.{and_then, is_failure, is_spent, just, refuses, uncounted}
+use Rattle.imagesize_source.specs.Reading.{Reads, and_then, is_failure, is_spent, just, refuses, uncounted}
 use Rattle.imagesize_source.specs.State.{State, Runs, EndedBy, IsSound}
 use Rattle.imagesize_source.proofs.Advances.{Begins, Tells, accepted_begins, accepted_tells, advances, begins_bind, states_follow, tells_bind}
 use Rattle.imagesize_source.proofs.Reached.{reads_nothing}
@@ -251,6 +251,11 @@ jxl_splits : (d : List ℕ) → jxl d
 jxl_splits d =
     sym (then_then (layout_reads d jxl_start) (codestream d) (λ front. just (jxl_size front) [])
     (λ found. and_then (codestream d found) (λ front. just (jxl_size front) [])) (λ found. refl))
+
+-- the size from the first bytes of a codestream without boxes, or from the boxes after the signature box
+abbrev pub jxl_behind : List ℕ → Option (List ℕ) → Reads ImageSize
+jxl_behind d (Some front) = just (jxl_size front) []
+jxl_behind d None = run jxl_step no_boxes 12 d
 
 pub jxl_is : (d : List ℕ) → jxl d ≡ and_then (layout_reads d jxl_start) (jxl_behind d)
 jxl_is d = jxl_splits d ∙ (λ i. and_then (layout_reads d jxl_start) (λ found. each found i)) where

@@ -22,9 +22,9 @@ use Rattle.imagesize_records.specs.declared.front.Opening.TheVariants as opened
 use Rattle.imagesize_records.proofs.Firsts.{seen_from}
 use Rattle.imagesize_records.proofs.Steps.{step_follows}
 use Rattle.imagesize_boxes.proofs.Heif.{heif_follows, heif_is}
-use Rattle.imagesize_boxes.proofs.JxlBoxes.{jxl_follows, jxl_is}
+use Rattle.imagesize_boxes.proofs.JxlBoxes.{jxl_behind, jxl_follows, jxl_is}
 use Rattle.imagesize_boxes.specs.Jxl.{jxl, jxl_size, jxl_start}
-use Rattle.imagesize_boxes.specs.Walks.{heif_open, heif_step, jxl_behind, jxl_step, no_boxes}
+use Rattle.imagesize_boxes.specs.Walks.{heif_open, heif_step, jxl_step, no_boxes}
 use Rattle.imagesize_texts.proofs.Exr.{exr_follows, exr_is}
 use Rattle.imagesize_texts.proofs.Hdr.{hdr_follows, hdr_is}
 use Rattle.imagesize_texts.proofs.Walks.{pnm_follows, pnm_is}

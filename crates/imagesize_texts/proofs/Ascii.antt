@@ -6,10 +6,10 @@ use Rattle.std.proofs.lemmas.Str.{IsUtf8-from_ascii, IsUtf8-from_is_utf8, is_utf
 use Rattle.std.proofs.lemmas.Nat.{and_block}
 use Rattle.std.proofs.lemmas.Nat.Bits.{and_pow}
 use Rattle.std.proofs.lemmas.Simd.{chunk-fits, length-chunk}
-use Rattle.std.specs.Int.{w8, w32, w64, from_le_bytes}
+use Rattle.std.specs.Int.{w8}
 use Rattle.std.specs.Prelude.{is_ok, MatchResult}
 use Rattle.std.specs.Str.{IsAscii, IsUtf8, is_utf8}
-use Rattle.imagesize_source.proofs.Numbers.{little_4, little_8}
+use Rattle.imagesize_source.specs.declared.endian.Endian.TheVariants.{Little}
 use Rattle.imagesize_source.specs.Numbers.{number, little}
 use lib.Bits.{bit_and}
 use lib.Lanes.{Each1}
@@ -38,22 +38,15 @@ none_high (b ∷ bs) fits none i =
     let parts = (λ j. bit_and (left j) (right j)) ∙ and_block 8 (little bs) (highs (length bs)) b 128 fits.0.fits (omega arith) in
     ascii_cons b bs (low_byte b fits.0.fits (omega (arith, parts, none))) (none_high bs fits.1 (omega (arith, parts, none))) i
 
--- eight bytes and four from an index on
-pub eight_ascii : (index : ℕ) (bs : List ℕ) → ((k : ℕ) → Fits w8 (get_or bs k 0)) → index + 8 ≤ length bs
-    → bit_and (from_le_bytes w64 (take 8 (drop index bs))) 9259542123273814144 ≡ 0 → IsAscii (take 8 (drop index bs))
+-- n bytes from an index on, by the number that they encode
+pub part_ascii : (n : ℕ) (from : List ℕ → ℕ) → ((part : List ℕ) → length part ≡ n → from part ≡ number Little part)
+    → (index : ℕ) (bs : List ℕ) → ((k : ℕ) → Fits w8 (get_or bs k 0)) → index + n ≤ length bs
+    → bit_and (from (take n (drop index bs))) (highs n) ≡ 0 → IsAscii (take n (drop index bs))
 unfolding number
-eight_ascii index bs fits there none =
-    let long : length (take 8 (drop index bs)) ≡ 8 = length-chunk index 8 bs there in
-    none_high (take 8 (drop index bs)) (chunk-fits w8 index 8 bs fits)
-    ((λ i. bit_and (sym (little_8 (take 8 (drop index bs)) long) i) (highs (long i))) ∙ none)
-
-pub four_ascii : (index : ℕ) (bs : List ℕ) → ((k : ℕ) → Fits w8 (get_or bs k 0)) → index + 4 ≤ length bs
-    → bit_and (from_le_bytes w32 (take 4 (drop index bs))) 2155905152 ≡ 0 → IsAscii (take 4 (drop index bs))
-unfolding number
-four_ascii index bs fits there none =
-    let long : length (take 4 (drop index bs)) ≡ 4 = length-chunk index 4 bs there in
-    none_high (take 4 (drop index bs)) (chunk-fits w8 index 4 bs fits)
-    ((λ i. bit_and (sym (little_4 (take 4 (drop index bs)) long) i) (highs (long i))) ∙ none)
+part_ascii n from is index bs fits there none =
+    let long : length (take n (drop index bs)) ≡ n = length-chunk index n bs there in
+    none_high (take n (drop index bs)) (chunk-fits w8 index n bs fits)
+    ((λ i. bit_and (sym (is (take n (drop index bs)) long) i) (highs (long i))) ∙ none)
 
 -- bytes in front and bytes that begin among them or right behind them
 pub ascii_on : (bs : List ℕ) (k j n : ℕ) → j ≤ k → IsAscii (take k bs) → IsAscii (take n (drop j bs))

@@ -5,7 +5,7 @@ use Rattle.std.proofs.lemmas.List.{append-nil, length_push}
 use Rattle.std.proofs.lemmas.List.Elements.{filter-append}
 use Rattle.std.specs.Prelude.{filter, option_and_then}
 use Rattle.std.specs.List.{last_or}
-use Rattle.imagesize_walked.specs.Walks.{entry_if_left, listed_end, listed_first, listed_step, listed_with, tiff_end, tiff_open, tiff_step}
+use Rattle.imagesize_walked.specs.Walks.{entry_if_left, listed_end, listed_first, listed_step, listed_with, tiff_open, tiff_step}
 use Rattle.imagesize_types.specs.Sides.{size_if_known}
 use Rattle.imagesize_walked.specs.Tiff.{byte_order, side_with, size_or_next, count_bytes, directory_at, entry_bytes, head_bytes, field_type_in, field_type_of, last_value, size_in, stated_offset, tag_in, tiff, tiff_directory, tiff_entries, tiff_entry, tiff_head, tiff_header, tiff_value, value_bytes, value_of, version_of, whole_value}
 use Rattle.imagesize_walked.specs.declared.formats.tiff.Entry.{Entry}
@@ -336,6 +336,11 @@ tiff_begins (directory.Entry l) offset =
 
 pub tiff_follows : CanFollow tiff_step
 tiff_follows = states_follow tiff_step tiff_tells tiff_begins
+
+-- the result at the end of the input
+abbrev pub tiff_end : Directory → Result ImageSize Halt
+tiff_end (directory.Count header) = Err Ended
+tiff_end (directory.Entry l) = listed_end l
 
 pub tiff_ends : (s : Directory) → EndsBy tiff_step s (tiff_end s)
 tiff_ends (directory.Count header) d offset far =

@@ -129,11 +129,6 @@ tiff_step (directory.Count header) offset = field header.order offset (count_byt
     (λ count. done (Next (directory.Entry (listed_first header count)) (offset + count_bytes header.version)))
 tiff_step (directory.Entry l) offset = bind (listed_step l offset) (after directory.Entry decides)
 
--- the result at the end of the input
-abbrev pub tiff_end : Directory → Result ImageSize Halt
-tiff_end (directory.Count header) = Err Ended
-tiff_end (directory.Entry l) = listed_end l
-
 -- the header, which gives the offset of the directory
 abbrev pub tiff_open : Layout (Start Directory)
 tiff_open = bind tiff_header (λ header. done (record { records = directory.Count header; offset = header.directory }))

@@ -1,7 +1,7 @@
 //! Portable bitmaps: the manual pages pbm(5), pgm(5) and ppm(5) of Netpbm.
-ghost use Rattle.std.specs.Prelude.{◌≡◌, false, IfErr, IfOk};
+ghost use Rattle.std.specs.Prelude.{◌≡◌, IfErr, IfOk};
 ghost use Rattle.imagesize_source.specs.Paying.{Nears};
-ghost use Rattle.imagesize_source.specs.Reading.{is_stopped, map_answer};
+ghost use Rattle.imagesize_source.specs.Reading.{map_answer};
 ghost use Rattle.imagesize_source.specs.State.{Follows, Runs};
 ghost use Rattle.imagesize_source.specs.Walk.{said_at};
 ghost use Rattle.imagesize_source.specs.declared.walk.Found.TheVariants as found;
