@@ -57,8 +57,8 @@ pub record IsByFooter (size : ImageSize) (d : List ℕ) : Type 0 where
   pub rests : Needs false (length d - 1) (length d) (meaning_reads d 0).marks
   pub typed : Needs false (length d - 1) (length d) (kind_reads d 0).marks
 
--- Bytes are missing. The size depends on one of those that the read requests, and if no text is read, a read ends there. Of the
--- header of what may be a TGA, it may depend on none. If no type is known, that depends on one of them too.
+-- The first bytes do not suffice. The size depends on a byte that the failed read requests. If no text is read, a read ends where
+-- that one does. Of the header of what may be a TGA, the size may depend on no byte. An unknown type depends on a later byte too.
 pub record Misses (front : List ℕ) (told : ℕ) (image : Option ImageType) (end : ℕ) : Type 0 where
   pub few : length front < 132
   pub ends : (length front < end) × (end ≤ told)

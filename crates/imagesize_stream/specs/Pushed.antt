@@ -37,8 +37,9 @@ type_of probe = probe.kind
 abbrev pub KeepsNothing : StreamProbe → StreamProbe → Type 0
 KeepsNothing old new = (new.stand ≡ old.stand) × (new.buffer ≡ old.buffer)
 
--- A probe after a chunk. Bytes past the reported length do not count. A result stays, and after it nothing is kept or counted. The
--- clauses over `front` are of each list of bytes that may have arrived before. The last one is of each input with these parts.
+-- A probe after a chunk. Bytes past the reported length do not count. A result stays, and after it nothing is kept or counted.
+-- Each clause over `front` holds for each list of bytes that may have arrived before. The last one holds for each input that has
+-- the parts so far and this chunk.
 pub record TakesIn (old new : StreamProbe) (chunk : List ℕ) : Type 0 where
   pub told : told_of new ≡ told_of old
   pub ahead : IsAhead new.stage new.stand

@@ -41,7 +41,7 @@ returns-in-None-clause-counts c =
 pub returns-in-None-clause-continues : goal.returns-in-None-clause-continues
 returns-in-None-clause-continues c = λ kind.
     let next = c.args.next.now in let old = c.args.stand.now in let buffer = c.args.buffer.now in let chunk = c.args.chunk.now in
-    let none = c.in-None.ensures in let offset = c.read_on.new.stand.offset in record {
+    let none = c.in-None.ensures in let offset = c.read_on.new.stand.offset in let last = c.read_on.new.records.next in record {
       goes_on = λ front came. (
         type_on front chunk old.told c.read_on.new.stand.told kind c.read_on.ensures.told came.0,
         none.goes_on refl (λ d. meaning_reads d 0) front came.1,
@@ -51,8 +51,8 @@ returns-in-None-clause-continues c = λ kind.
           (λ p here. omega (arith, below p here, length-append front chunk));
       marked = λ front came d begins as_long. needs_as _ _ _ _ (meaning_reads d 0).marks
           (texts_are kind true next old buffer front chunk c.requires.text came d begins) (omega arith)
-          (omega (arith, none.starts refl, ap reach_of (none.holds refl).1, reach_few c.read_on.new.records.next, c.min-stand.ensures))
-          (none.marked refl _ _ (step_read _ c.read_on.new.records.next offset (none.holds refl).1) (step_reach c.read_on.new.records.next offset)
+          (omega (arith, none.starts refl, ap reach_of (none.holds refl).1, reach_few last, c.min-stand.ensures))
+          (none.marked refl _ _ (step_read _ last offset (none.holds refl).1) (step_reach last offset)
           (λ d. meaning_reads d 0) front came.1 d begins as_long);
       typed = λ front came. tt;
     }

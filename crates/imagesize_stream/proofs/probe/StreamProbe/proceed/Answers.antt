@@ -10,7 +10,8 @@ returns-in-First c =
     let s = c.args.self.now in let now = c.begin.new in let cut = c.front_of-chunk.result.now in let here = c.in-First.is in
     let counts = c.begin.ensures.counts in let on = c.begin.ensures.continues in
     taken s _ c.args.chunk.now cut (rw here refl) (omega arith) c.front_of-chunk.ensures counts (rw here on) (λ d given part.
-    given_on First now.into s.kind now.kind s.stand now.stand s.buffer now.buffer d cut counts on given.as_long (rw here at given).known part)
+    given_on First now.into s.kind now.kind s.stand now.stand s.buffer now.buffer d cut counts on given.as_long
+    (rw here at given).known part)
 
 pub returns-in-Some : goal.returns-in-Some
 returns-in-Some c =
