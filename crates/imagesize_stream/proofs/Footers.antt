@@ -12,6 +12,7 @@ use Rattle.imagesize_fixed.specs.Tga.{is_tga, is_tga_footer, lacks_its_map, may_
 use Rattle.imagesize_pieces.proofs.Beginning.{begins_all, begins_at, begins_left}
 use Rattle.imagesize_pieces.proofs.Needing.{needs_any, needs_behind}
 use Rattle.imagesize_pieces.specs.Stream.{Begins, Needs, Reach, Says}
+use Rattle.imagesize_pieces.specs.declared.stand.Stand.{Stand}
 use Rattle.imagesize_source.specs.Input.{part, span_of}
 use Rattle.imagesize_source.specs.Layout.{Layout, bind, layout_reads}
 use Rattle.imagesize_source.specs.Layout.Layout.{«done»}
@@ -25,6 +26,8 @@ use Rattle.imagesize_stream.proofs.Heads.{whole_needed}
 use Rattle.imagesize_stream.proofs.Hearing.{kind_behind, kind_refused, meaning_any}
 use Rattle.imagesize_source.proofs.Saying.{Saying, saying, saying_bind}
 use Rattle.imagesize_stream.specs.Heard.{IsByFooter, RestsOnMore, SizeIs, TypeIs, TypeRests}
+use Rattle.imagesize_stream.specs.Probe.{CameTo}
+use Rattle.imagesize_stream.specs.declared.stage.Stage.TheVariants.{Footer}
 use Rattle.imagesize_records.specs.Streamed.{first_by, first_layout}
 use Rattle.imagesize_records.specs.declared.front.First.{First}
 use Rattle.imagesize_records.specs.declared.front.First.TheVariants as first
@@ -179,23 +182,25 @@ last_on front chunk buffer new long is kept =
     rw (all, is, ← drop-append-le (length front - 18) front chunk (omega arith), drop-drop, at) at kept
 
 -- where all came, these tell it
-pub footer_tells : (front chunk last : List ℕ) (told : ℕ) (size : ImageSize) (b : Bool) → told ≤ length (front ++ chunk)
-    → length (front ++ chunk) ≤ told → last ≡ drop (length (front ++ chunk) - 18) (front ++ chunk)
-    → ((d : List ℕ) → Begins front told d → IsByFooter size d) → is_tga_footer last ≡ b
-    → TypeIs (front ++ chunk) told (cond b (Some Tga) None)
-    × SizeIs (front ++ chunk) told (cond b (Ok size) (Err NotSupported)) × (length (front ++ chunk) ≤ told)
+pub footer_tells : (kind : Option ImageType) (size : ImageSize) (b : Bool) (old : Stand) (buffer after front chunk : List ℕ)
+    → 18 ≤ old.passed → old.passed + length chunk ≤ old.told → old.told ≤ old.passed + length chunk
+    → take (18 + length chunk - length chunk) after ≡ drop (length chunk) (take 18 buffer ++ chunk)
+    → is_tga_footer (take 18 after) ≡ b → CameTo (Footer size) kind old buffer front
+    → TypeIs (front ++ chunk) old.told (cond b (Some Tga) None)
+    × SizeIs (front ++ chunk) old.told (cond b (Ok size) (Err NotSupported)) × (length (front ++ chunk) ≤ old.told)
 unfolding part
-footer_tells front chunk last told size b all within is by_footer decides =
-    ((λ d begins. (known d begins).0), (λ d begins. (known d begins).1), within) where
-      known : (d : List ℕ) → Begins (front ++ chunk) told d
+footer_tells kind size b old buffer after front chunk some fits all kept decides came =
+    ((λ d begins. (known d begins).0), (λ d begins. (known d begins).1), omega (arith, came.0, fits, length-append front chunk)) where
+      known : (d : List ℕ) → Begins (front ++ chunk) old.told d
           → (result_ok (kind_reads d 0).answer ≡ cond b (Some Tga) None)
           × ((meaning_reads d 0).answer ≡ cond b (Ok size) (Err NotSupported))
       known d begins =
-          let whole : d ≡ front ++ chunk =
-          sym (take_all (length (front ++ chunk)) d (let few = begins.fits in omega (arith, few, all))) ∙ begins.first in
+          let whole : d ≡ front ++ chunk = sym (take_all (length (front ++ chunk)) d (let few = begins.fits in
+          omega (arith, few, all, came.0, length-append front chunk))) ∙ begins.first in
           let few : length (drop (length d - 18) d) ≤ 18 = omega (arith, length-drop (length d - 18) d) in
-          footer_known d last size b (by_footer d (begins_left front chunk told d begins))
-          (rw (take_all 18 (drop (length d - 18) d) few, whole) is) decides
+          footer_known d (take 18 after) size b (came.3 d (begins_left front chunk old.told d begins))
+          (rw (take_all 18 (drop (length d - 18) d) few, whole)
+          (last_on front chunk buffer after (omega (arith, came.0, some)) came.1 kept)) decides
 
 -- the last of the first bytes
 pub last_kept : (buffer new : List ℕ) (passed : ℕ) → passed ≤ length buffer → 18 ≤ length (take passed buffer)

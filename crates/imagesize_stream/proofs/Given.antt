@@ -17,8 +17,8 @@ use Rattle.imagesize_source.specs.Input.{part}
 use Rattle.imagesize_source.specs.declared.halt.Halt.TheVariants.{NotSupported}
 use Rattle.imagesize_source.specs.declared.span.Span.{Span}
 use Rattle.imagesize_stream.specs.Given.{DependsFrom, HasPart, IsGiven, KnownBy, MayBeAt}
-use Rattle.imagesize_stream.specs.Heard.{IsByFooter, OutOfHeader, RestsOnMore}
-use Rattle.imagesize_stream.specs.Probe.{AheadBy, CameBy, CameTo, HoldsAt, HoldsBy, IfAwaiting, IsCut, MarkedBy, NextBy, RestsOnNext, latest_by}
+use Rattle.imagesize_stream.specs.Heard.{IsByFooter, OutOfHeader}
+use Rattle.imagesize_stream.specs.Probe.{AheadBy, CameBy, CameTo, Continues, Counts, HoldsAt, HoldsBy, IfAwaiting, IsCut, IsNext, MarkedBy, NextBy, latest_by}
 use Rattle.imagesize_stream.specs.Pushed.{stage_answer}
 use Rattle.imagesize_stream.proofs.Coming.{awaiting_map, texts_stated}
 use Rattle.imagesize_records.proofs.Far.{reach_few, reach_most, reach_some}
@@ -193,24 +193,24 @@ unfolding part
 none_has d p = take_all (length d - p) [] (omega arith)
 
 -- with more bytes of the input
-pub given_on : (stage : Stage) (kind : Option ImageType) (stand : Stand) (buffer d cut : List ℕ) (passed was : ℕ)
-    → length d ≡ was → cut ≡ part d passed (length cut) → stand.told ≡ was → HoldsAt stage stand
-    → IfAwaiting stage (stand.passed ≡ passed + length cut) → CameTo stage kind stand buffer (take passed d ++ cut)
-    → IfAwaiting stage (RestsOnMore (take passed d ++ cut) was)
-    → RestsOnNext stage stand (take passed d ++ cut) was → MayBeAt stage kind stand buffer d
-given_on stage kind stand buffer d cut passed was as_long is same holds many came more marks =
-    let front : take passed d ++ cut ≡ take (passed + length cut) d = first_on d cut passed is in
-    let begins : Begins (take passed d ++ cut) was d = rw front (begins_first d was (passed + length cut) as_long) in record {
+pub given_on : (from to : Stage) (kind type : Option ImageType) (old new : Stand) (buffer after d cut : List ℕ)
+    → Counts to old new cut → Continues from to kind type old new buffer after cut → length d ≡ old.told
+    → CameTo from kind old buffer (take old.passed d) → cut ≡ part d old.passed (length cut) → MayBeAt to type new after d
+given_on from to kind type old new buffer after d cut counts on as_long came is =
+    let front : take old.passed d ++ cut ≡ take (old.passed + length cut) d = first_on d cut old.passed is in
+    let begins : Begins (take old.passed d ++ cut) old.told d =
+    rw front (begins_first d old.told (old.passed + length cut) as_long) in record {
       given = record {
-        as_long = as_long ∙ sym same;
-        known = known_from stage kind stand.start stand.offset stand.passed stand.told buffer (take passed d ++ cut) d
-            (as_long ∙ sym same) stand.fits holds (rw same begins)
-            (awaiting_map stage (λ at. front ∙ ap (λ k. take k d) (sym at)) many) came;
+        as_long = as_long ∙ sym counts.told;
+        known = known_from to type new.start new.offset new.passed new.told after (take old.passed d ++ cut) d
+            (as_long ∙ sym counts.told) new.fits counts.holds (rw counts.told begins)
+            (awaiting_map to (λ at. front ∙ ap (λ k. take k d) (sym at)) counts.passed) (on.goes_on (take old.passed d) came);
       };
-      depends = awaiting_both stage (λ at rests below. rests d begins as_long (λ p here.
-          let early = below p here in let fits = stand.fits in
-          omega (arith, early, at, ap length front, length-take (passed + length cut) d, as_long, same, fits))) many more;
-      marked = marks d begins as_long;
+      depends = awaiting_both to (λ at rests below. rests (take old.passed d) came d begins as_long (λ p here.
+          let early = below p here in let fits = new.fits in
+          omega (arith, early, at, ap length front, length-take (old.passed + length cut) d, as_long, counts.told, fits)))
+          counts.passed on.complete;
+      marked = on.marked (take old.passed d) came d begins as_long;
     }
 
 -- what is missing is ahead of what was passed by
@@ -218,47 +218,46 @@ pub next_behind : (stage : Stage) (start passed next end cut told : ℕ) → nex
     → IsCut stage start end cut → AheadBy stage start passed end told → NextBy stage start next cut told
 next_behind stage start passed next end cut told is ends ahead = grind (arith, reach_some)
 
-module _ (kind : Option ImageType) (stage : Stage) (start offset passed end told : ℕ)
-    (none : stage_answer kind stage ≡ None) (holds : HoldsBy stage start offset passed)
-    (next : NextBy stage start passed end told) where
-  pub next_none : (passed < end) × (end ≤ told) × (end ≤ passed + 1024)
+module _ (kind : Option ImageType) (stage : Stage) (stand : Stand) (none : stage_answer kind stage ≡ None)
+    (holds : HoldsAt stage stand) (next : IsNext stage stand) where
+  pub next_none : (stand.passed < stand.end) × (stand.end ≤ stand.told) × (stand.end ≤ stand.passed + 1024)
   next_none = grind (arith, reach_most)
 
   -- where it ends at the latest
-  pub early_none : passed < 12 → end ≤ 18
+  pub early_none : stand.passed < 12 → stand.end ≤ 18
   early_none few = grind arith
 
-  pub latest_none : end ≤ latest_by stage start told
+  pub latest_none : stand.end ≤ latest_by stage stand.start stand.told
   latest_none = grind arith
 
-  pub first_next : passed ≡ 0 → min 18 told ≤ end
+  pub first_next : stand.passed ≡ 0 → min 18 stand.told ≤ stand.end
   first_next is = grind arith
 
 -- the result depends on a byte of the requested span
-pub marked_none : (kind : Option ImageType) (texts : Bool) (stage : Stage) (start passed end : ℕ) (marks : List Span)
-    → stage_answer kind stage ≡ None → MarkedBy texts stage start passed end marks → OutOfHeader passed
-    → NeedsAmong texts passed end marks
-marked_none kind texts First start passed end marks none marked out = marked.0 out
-marked_none kind texts (Done size) start passed end marks none marked out = absurd cc
-marked_none kind texts stage start passed end marks none marked out =
-    needs_among texts _ _ passed end marks (omega arith) (omega arith) marked
+pub marked_none : (kind : Option ImageType) (texts : Bool) (stage : Stage) (stand : Stand) (marks : List Span)
+    → stage_answer kind stage ≡ None → MarkedBy texts stage stand.start stand.passed stand.end marks → OutOfHeader stand.passed
+    → NeedsAmong texts stand.passed stand.end marks
+marked_none kind texts First stand marks none marked out = marked.0 out
+marked_none kind texts (Done size) stand marks none marked out = absurd cc
+marked_none kind texts stage stand marks none marked out =
+    needs_among texts _ _ stand.passed stand.end marks (omega arith) (omega arith) marked
 
 -- where no text is read, a read ends where the span ends
-pub exact_none : (kind : Option ImageType) (texts : Bool) (stage : Stage) (start passed end told : ℕ) (marks : List Span)
-    → stage_answer kind stage ≡ None → NextBy stage start passed end told → MarkedBy texts stage start passed end marks
-    → texts ≡ false → 18 < end → EndsAt end marks
-exact_none kind texts stage start passed end told marks none next marked without late = grind arith
+pub exact_none : (kind : Option ImageType) (texts : Bool) (stage : Stage) (stand : Stand) (marks : List Span)
+    → stage_answer kind stage ≡ None → IsNext stage stand → MarkedBy texts stage stand.start stand.passed stand.end marks
+    → texts ≡ false → 18 < stand.end → EndsAt stand.end marks
+exact_none kind texts stage stand marks none next marked without late = grind arith
 
 -- before any byte came the stage is the first one
-pub none_passed : (kind : Option ImageType) (stage : Stage) (start offset passed : ℕ) → stage_answer kind stage ≡ None
-    → HoldsBy stage start offset passed → passed ≡ 0 → start ≤ 0
-none_passed kind stage start offset passed none holds is = grind arith
+pub none_passed : (kind : Option ImageType) (stage : Stage) (stand : Stand) → stage_answer kind stage ≡ None
+    → HoldsAt stage stand → stand.passed ≡ 0 → stand.start ≤ 0
+none_passed kind stage stand none holds is = grind arith
 
 -- In a format without texts, few bytes are requested.
-pub few_none : (kind : Option ImageType) (stage : Stage) (start offset passed end told : ℕ) (buffer d : List ℕ)
-    → stage_answer kind stage ≡ None → length d ≡ told → HoldsBy stage start offset passed
-    → NextBy stage start passed end told
-    → KnownBy stage kind start offset passed told buffer d → texts_of d ≡ false → end ≤ passed + 132
-few_none kind stage start offset passed end told buffer d none as_long holds next known without =
-    let begins = begins_first d told passed as_long in
+pub few_none : (kind : Option ImageType) (stage : Stage) (stand : Stand) (buffer d : List ℕ) → stage_answer kind stage ≡ None
+    → length d ≡ stand.told → HoldsAt stage stand → IsNext stage stand
+    → KnownBy stage kind stand.start stand.offset stand.passed stand.told buffer d → texts_of d ≡ false
+    → stand.end ≤ stand.passed + 132
+few_none kind stage stand buffer d none as_long holds next known without =
+    let begins = begins_first d stand.told stand.passed as_long in
     let texts = texts_stated (kind_reads d 0).answer in grind (arith, reach_few)

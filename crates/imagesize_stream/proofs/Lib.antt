@@ -7,3 +7,4 @@ pub mod Footers
 pub mod Ending
 pub mod Given
 pub mod Requests
+pub mod Taking

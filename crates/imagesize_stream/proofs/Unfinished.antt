@@ -24,7 +24,7 @@ use Rattle.imagesize_source.specs.declared.text.Text.{Text}
 use Rattle.imagesize_stream.proofs.Coming.{texts_known, type_on}
 use Rattle.imagesize_stream.proofs.Given.{drop_both, dropped}
 use Rattle.imagesize_stream.proofs.Skipping.{walk_needs}
-use Rattle.imagesize_stream.specs.Probe.{CameTo, HoldsAt, IsAhead, SearchedBy}
+use Rattle.imagesize_stream.specs.Probe.{CameTo, Continues, Counts, HoldsAt, SearchedBy}
 use Rattle.imagesize_records.specs.FirstReads.{ReadsText}
 use Rattle.imagesize_records.proofs.Far.{reach_few, reach_most}
 use Rattle.imagesize_records.specs.Steps.{first_text, is_text, reach_at, step}
@@ -74,59 +74,67 @@ text_needs d offset n found t still short more =
       λ none. absurd cc,
     )
 
-module _ (next : Awaited) (text : Text) (most : ℕ) (old new : Stand) (kind : Option ImageType)
-    (buffer after front chunk : List ℕ) (keeps : KeepsPending text most old new buffer after chunk)
-    (first : (offset : ℕ) → ReadsText offset text most (step next offset))
-    (came : CameTo (Records next) kind old buffer front) where
-  -- these bytes came too
-  pub text_came : CameTo (Records next) kind new after (front ++ chunk)
-  text_came = rw (keeps.told, keeps.offset, keeps.start) (
-    type_on front chunk old.told old.told kind refl came.0,
-    record {
-      as_many = omega (arith, keeps.passed, came.1.as_many, length-append front chunk);
-      rest = rw (rw keeps.start at keeps.kept, came.1.rest, came.1.as_many, drop_both old.start front chunk) refl;
-      before = came.1.before;
-      resumes = λ d begins. came.1.resumes d (begins_left front chunk old.told d begins);
-    },
-    came.2,
-  )
-
-  pub text_many : new.passed ≡ length (front ++ chunk)
-  text_many = omega (arith, keeps.passed, came.1.as_many, length-append front chunk)
-
-  -- each input that begins so depends on the byte after them
-  pub pending_needs : is_text next ≡ true → most ≤ reach_at next → (d : List ℕ) → Begins (front ++ chunk) old.told d
-      → length d ≡ old.told
-      → Needs (texts_of d) (max new.passed new.start) (min new.end (new.start + reach_at next)) (meaning_reads d 0).marks
-  unfolding part
-  pending_needs is few d begins as_long =
-      let streams = came.1 in
-      let texts : true ≡ texts_of d = sym is ∙ came.2
-      ∙ texts_known kind front d old.told came.0 (begins_left front chunk old.told d begins) in
-      let found : ℕ = new.passed - old.offset in
-      let same : take (new.passed - new.start) after ≡ part d old.offset found =
-      rw (text_came.1.rest, keeps.start, keeps.here, ← begins.first, dropped (length (front ++ chunk)) old.offset d, text_many) refl in
-      let resumes = streams.resumes d (begins_left front chunk old.told d begins) in
-      let needs = walk_needs true d next old.offset (old.offset + found)
-      (min (old.offset + most) (length d)) (span_at old.offset (length (text_part d text old.offset most)))
-      (text_any d old.offset most text (step next old.offset) (first old.offset))
-      (text_needs d old.offset most found text (ap (is_ended text) (sym same) ∙ keeps.unended)
-      (omega (arith, keeps.few, keeps.start, keeps.here)) (omega (arith, keeps.more, as_long, keeps.start, keeps.here))) in
-      needs_behind (texts_of d) _ _ streams.before _ (meaning_reads d 0).marks
-      (ap (λ (w : Reads _). w.marks) resumes)
-      (needs_as (old.offset + found) (min (old.offset + most) (length d)) (max new.passed new.start)
-      (min new.end (new.start + reach_at next)) _ texts (omega (arith, keeps.start, keeps.here))
-      (omega (arith, keeps.end, keeps.start, keeps.here, as_long, few)) needs)
-
-module _ (next : Awaited) (text : Text) (most : ℕ) (old new : Stand) (buffer after chunk : List ℕ)
+module _ (next : Awaited) (text : Text) (most : ℕ) (old new : Stand) (kind : Option ImageType) (buffer after chunk : List ℕ)
     (keeps : KeepsPending text most old new buffer after chunk) (few : most ≤ reach_at next) where
-  -- what always holds at the record, still holds
-  pub text_holds : HoldsAt (Records next) old → HoldsAt (Records next) new
-  text_holds holds = (rw keeps.offset holds.0, omega (arith, keeps, holds.1.1, few, reach_most next))
+  -- what always holds at the record, still holds, and more bytes of it are missing
+  pub text_counts : HoldsAt (Records next) old → Counts (Records next) old new chunk
+  text_counts holds = record {
+    told = keeps.told;
+    holds = (rw keeps.offset holds.0, omega (arith, keeps, holds.1.1, few, reach_most next));
+    ahead = omega (arith, keeps, few, reach_few next);
+    passed = keeps.passed;
+    whole = λ all. omega (arith, keeps.passed, keeps.more, all);
+  }
 
-  -- more bytes of it are missing
-  pub text_ahead : IsAhead (Records next) new
-  text_ahead = omega (arith, keeps, few, reach_few next)
+  module _ (first : (offset : ℕ) → ReadsText offset text most (step next offset)) (is : is_text next ≡ true) where
+    module _ (front : List ℕ) (came : CameTo (Records next) kind old buffer front) where
+      -- these bytes came too
+      text_came : CameTo (Records next) kind new after (front ++ chunk)
+      text_came = rw (keeps.told, keeps.offset, keeps.start) (
+        type_on front chunk old.told old.told kind refl came.0,
+        record {
+          as_many = omega (arith, keeps.passed, came.1.as_many, length-append front chunk);
+          rest = rw (rw keeps.start at keeps.kept, came.1.rest, came.1.as_many, drop_both old.start front chunk) refl;
+          before = came.1.before;
+          resumes = λ d begins. came.1.resumes d (begins_left front chunk old.told d begins);
+        },
+        came.2,
+      )
+
+      text_many : new.passed ≡ length (front ++ chunk)
+      text_many = omega (arith, keeps.passed, came.1.as_many, length-append front chunk)
+
+      -- each input that begins so depends on the byte after them
+      pending_needs : (d : List ℕ) → Begins (front ++ chunk) old.told d → length d ≡ old.told
+          → Needs (texts_of d) (max new.passed new.start) (min new.end (new.start + reach_at next)) (meaning_reads d 0).marks
+      unfolding part
+      pending_needs d begins as_long =
+          let streams = came.1 in
+          let texts : true ≡ texts_of d = sym is ∙ came.2
+          ∙ texts_known kind front d old.told came.0 (begins_left front chunk old.told d begins) in
+          let found : ℕ = new.passed - old.offset in
+          let same : take (new.passed - new.start) after ≡ part d old.offset found =
+          rw (text_came.1.rest, keeps.start, keeps.here, ← begins.first, dropped (length (front ++ chunk)) old.offset d, text_many) refl in
+          let resumes = streams.resumes d (begins_left front chunk old.told d begins) in
+          let needs = walk_needs true d next old.offset (old.offset + found)
+          (min (old.offset + most) (length d)) (span_at old.offset (length (text_part d text old.offset most)))
+          (text_any d old.offset most text (step next old.offset) (first old.offset))
+          (text_needs d old.offset most found text (ap (is_ended text) (sym same) ∙ keeps.unended)
+          (omega (arith, keeps.few, keeps.start, keeps.here)) (omega (arith, keeps.more, as_long, keeps.start, keeps.here))) in
+          needs_behind (texts_of d) _ _ streams.before _ (meaning_reads d 0).marks
+          (ap (λ (w : Reads _). w.marks) resumes)
+          (needs_as (old.offset + found) (min (old.offset + most) (length d)) (max new.passed new.start)
+          (min new.end (new.start + reach_at next)) _ texts (omega (arith, keeps.start, keeps.here))
+          (omega (arith, keeps.end, keeps.start, keeps.here, as_long, few)) needs)
+
+    pub text_continues : Continues (Records next) (Records next) kind kind old new buffer after chunk
+    text_continues = record {
+      goes_on = text_came;
+      complete = λ front came d begins as_long below. let needs = pending_needs front came d begins as_long in
+          omega (arith, below needs.0.0 needs.0.3, needs.0.1, text_many front came);
+      marked = pending_needs;
+      typed = λ front came. tt;
+    }
 
 -- how many bytes are known not to end the text, whether or not the chunk was kept
 pub searched_after : (kept : Bool) (stage : Stage) (next : Awaited) (text : Text) (most : ℕ) (old new : Stand)

@@ -10,6 +10,7 @@ use Rattle.imagesize.specs.declared.types.ImageType.TheVariants.{Tga}
 use Rattle.imagesize_fixed.specs.Tga.{is_tga_footer}
 use Rattle.imagesize_source.specs.Input.{part}
 use Rattle.imagesize_source.specs.Layout.{layout_reads}
+use Rattle.imagesize_source.specs.Reading.{is_stopped}
 use Rattle.imagesize_source.specs.declared.halt.Halt.{Halt}
 use Rattle.imagesize_source.specs.declared.halt.Halt.TheVariants.{NotSupported}
 use Rattle.imagesize_types.specs.declared.size.ImageSize.{ImageSize}
@@ -56,39 +57,25 @@ pub record IsByFooter (size : ImageSize) (d : List ℕ) : Type 0 where
   pub rests : Needs false (length d - 1) (length d) (meaning_reads d 0).marks
   pub typed : Needs false (length d - 1) (length d) (kind_reads d 0).marks
 
--- What the first bytes say is true of every input that begins so. If bytes are missing, it depends on one of those that the
--- read requests, and if no text is read, a read ends there. Of the header of what may be a TGA, it may depend on none.
+-- The first bytes do not suffice. The size depends on a byte that the failed read requests. If no text is read, a read ends where
+-- that one does. Of the header of what may be a TGA, the size may depend on no byte. An unknown type depends on a later byte too.
+pub record Misses (front : List ℕ) (told : ℕ) (image : Option ImageType) (end : ℕ) : Type 0 where
+  pub few : length front < 132
+  pub ends : (length front < end) × (end ≤ told)
+  pub rests : RestsOnMore front told
+  pub known : IfSome image (λ type. Says front told (λ d. kind_reads d 0) (Ok type))
+  pub typed : TypeMissing image front told
+  pub between : OutOfHeader (length front) ⊎ (18 < end) → RestsBetween (length front) (min end 132) front told
+
+-- What the first bytes say is true of every input that begins so.
 abbrev pub Hears : List ℕ → ℕ → Heard → Type 0
-Hears front told (Missing image end) =
-    RestsOnMore front told × IfSome image (λ type. Says front told (λ d. kind_reads d 0) (Ok type))
-    × (OutOfHeader (length front) ⊎ (18 < end) → RestsBetween (length front) (min end 132) front told)
-Hears front told (Answer image size) = TypeIs front told image × SizeIs front told size
+Hears front told (Missing image end) = Misses front told image end
+Hears front told (Answer image size) = TypeIs front told image × SizeIs front told size × (is_stopped size ≡ false)
 Hears front told (Records image next offset) =
     IsSteady next offset × Says front told (λ d. kind_reads d 0) (Ok image)
     × Says front told (λ d. layout_reads d (opening image)) (Ok (opened.Records next offset)) × (12 ≤ length front)
     × (is_text next ≡ has_texts image)
 Hears front told (Footer size) = (18 ≤ length front) × ((d : List ℕ) → Begins front told d → IsByFooter size d)
-
--- If bytes are missing and no type is known, the type depends on one of them.
-abbrev pub HearsType : List ℕ → ℕ → Heard → Type 0
-HearsType front told (Missing image end) = TypeMissing image front told
-HearsType front told (Answer image size) = Unit {0}
-HearsType front told (Records image next offset) = Unit {0}
-HearsType front told (Footer size) = Unit {0}
-
--- P, if bytes are missing
-abbrev pub IfMissing : Heard → Type 0 → Type 0
-IfMissing (Missing image end) P = P
-IfMissing (Answer image size) P = Unit {0}
-IfMissing (Records image next offset) P = Unit {0}
-IfMissing (Footer size) P = Unit {0}
-
--- what holds of the size or the error, if it is known
-abbrev pub IfAnswer : Heard → (Result ImageSize Halt → Type 0) → Type 0
-IfAnswer (Missing image end) Holds = Unit {0}
-IfAnswer (Answer image size) Holds = Holds size
-IfAnswer (Records image next offset) Holds = Unit {0}
-IfAnswer (Footer size) Holds = Unit {0}
 
 -- it requests no byte from this offset on
 abbrev pub EndsIn : ℕ → Heard → Type 0
@@ -96,10 +83,3 @@ EndsIn most (Missing image end) = end ≤ most
 EndsIn most (Answer image size) = Unit {0}
 EndsIn most (Records image next offset) = Unit {0}
 EndsIn most (Footer size) = Unit {0}
-
--- the read that missed a byte requests more than these bytes, and none past the end
-abbrev pub EndsBehind : List ℕ → ℕ → Heard → Type 0
-EndsBehind front told (Missing image end) = (length front < end) × (end ≤ told)
-EndsBehind front told (Answer image size) = Unit {0}
-EndsBehind front told (Records image next offset) = Unit {0}
-EndsBehind front told (Footer size) = Unit {0}

@@ -1,5 +1,5 @@
 -- A probe whose bytes arrive in chunks: which bytes arrived, and what they say.
-use Rattle.std.specs.Prelude.{◌≡◌, ℕ, ◌+◌, ◌-◌, ◌<◌, ◌≤◌, max, min, Bool, false, List, length, drop, take, Option, None, Some, IfSome, Result}
+use Rattle.std.specs.Prelude.{◌≡◌, ℕ, ◌+◌, ◌-◌, ◌<◌, ◌≤◌, max, min, Bool, false, List, ◌++◌, length, drop, take, Option, None, Some, IfSome, Result}
 use Rattle.std.specs.Coded.{Unit-prop, coded_bool, le_prop, →_prop, ×_prop}
 use denote.Struct.Props.{≡_prop}
 use Rattle.imagesize.specs.Meaning.{meaning_reads}
@@ -11,7 +11,7 @@ use Rattle.imagesize_source.specs.Reading.{is_stopped}
 use Rattle.imagesize_source.specs.Text.{is_ended}
 use Rattle.imagesize_source.specs.declared.halt.Halt.{Halt}
 use Rattle.imagesize_source.specs.declared.span.Span.{Span}
-use Rattle.imagesize_stream.specs.Heard.{IsByFooter, OutOfHeader, SizeIs, TypeIs, TypeMissing, TypeRests}
+use Rattle.imagesize_stream.specs.Heard.{IsByFooter, OutOfHeader, RestsOnMore, SizeIs, TypeIs, TypeMissing, TypeRests}
 use Rattle.imagesize_records.specs.Steps.{IsSteady, first_text, is_text, reach_at, reach_of, steady_prop, step}
 use Rattle.imagesize_records.specs.declared.awaited.Awaited.{Awaited}
 use Rattle.imagesize_stream.specs.declared.stage.Stage.{Stage}
@@ -152,3 +152,19 @@ RestsOnNext stage stand front told = (d : List ℕ) → Begins front told d → 
 abbrev pub stage_after : Awaited → Option (Result ImageSize Halt) → Stage
 stage_after next None = Records next
 stage_after next (Some size) = Done size
+
+-- The position of a probe after a chunk that leads to this stage. While there is no result, the whole chunk is counted, and the
+-- input has more bytes.
+pub record Counts (stage : Stage) (old new : Stand) (chunk : List ℕ) : Type 0 where
+  pub told : new.told ≡ old.told
+  pub holds : HoldsAt stage new
+  pub ahead : IsAhead stage new
+  pub passed : IfAwaiting stage (new.passed ≡ old.passed + length chunk)
+  pub whole : IfAwaiting stage (old.told ≤ old.passed + length chunk → ⊥)
+
+-- A chunk leads from one stage to another. This is what is known after it, for each list of bytes that may have arrived before.
+pub record Continues (from to : Stage) (kind type : Option ImageType) (old new : Stand) (buffer after chunk : List ℕ) : Type 0 where
+  pub goes_on : (front : List ℕ) → CameTo from kind old buffer front → CameTo to type new after (front ++ chunk)
+  pub complete : IfAwaiting to ((front : List ℕ) → CameTo from kind old buffer front → RestsOnMore (front ++ chunk) old.told)
+  pub marked : (front : List ℕ) → CameTo from kind old buffer front → RestsOnNext to new (front ++ chunk) old.told
+  pub typed : (front : List ℕ) → CameTo from kind old buffer front → TypedBy to type (front ++ chunk) old.told

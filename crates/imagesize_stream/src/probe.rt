@@ -1,11 +1,11 @@
 //! A push parser: the caller passes the bytes of an image as they arrive, in chunks of any length.
-ghost use Rattle.std.specs.Prelude.{◌≡◌, ℕ, ◌+◌, ◌-◌, ◌<◌, ◌≤◌, ◌^◌, ◌++◌, [], false, true, List, length, take, max, min, Option, None, Some, IfSome, Err, unwrap_or};
+ghost use Rattle.std.specs.Prelude.{◌≡◌, ℕ, ◌+◌, ◌-◌, ◌≤◌, ◌^◌, ◌++◌, [], false, true, List, length, take, max, min, Option, None, Some, IfSome, Err, unwrap_or};
 ghost use Rattle.std.specs.Result.{result_ok};
 ghost use Rattle.imagesize.specs.Meaning.{kind_of, meaning};
 ghost use Rattle.imagesize_pieces.specs.Stream.{AllBelow, Begins};
 ghost use Rattle.imagesize_source.specs.Errors.{is_stopped};
 ghost use Rattle.imagesize_source.specs.Outcome.{stated};
-ghost use Rattle.imagesize_stream.specs.Given.{HasPart, IsGiven, MayBeAt};
+ghost use Rattle.imagesize_stream.specs.Given.{MayBeAt};
 ghost use Rattle.imagesize_stream.specs.Heard.{RestsOnMore};
 ghost use Rattle.imagesize_stream.specs.Probe.{HoldsAt, IfAwaiting, IsAhead, IsCut, IsNext, SearchedBy, TypedBy, holds_prop, searched_prop};
 
@@ -57,7 +57,7 @@ pub struct StreamProbe {
 }
 
 impl StreamProbe {
-    ghost use Rattle.imagesize_stream.specs.Pushed.{Came, KeepsNothing, answer_of, told_of, type_of};
+    ghost use Rattle.imagesize_stream.specs.Pushed.{Came, KeepsNothing, TakesIn, answer_of, told_of, type_of};
 
     /// Begins an input of `total` bytes, or of unknown length. Bytes past that length do not count.
     pub fn new(total: Option<u64>) -> StreamProbe
@@ -154,24 +154,7 @@ impl StreamProbe {
     // Reads the next chunk. Bytes past the reported length do not count. Not inlined, so that the callers stay small.
     #[inline(never)]
     pub(crate) fn take_in(&mut self, chunk: &[u8])
-        ensures told { told_of self.new ≡ told_of self.old }
-        ensures ahead { IsAhead self.new.stage self.new.stand }
-        ensures passed { IfAwaiting self.new.stage (self.new.stand.passed
-            ≡ self.old.stand.passed + length (take (self.old.stand.told - self.old.stand.passed) chunk.now)) }
-        ensures keeps { IfSome (answer_of self.old) (λ answer. answer_of self.new ≡ Some answer) }
-        ensures idle { IfSome (answer_of self.old) (λ _. KeepsNothing self.old self.new) }
-        ensures goes_on { (front : List ℕ) → Came self.old front
-            → Came self.new (front ++ take (told_of self.old - length front) chunk.now) }
-        ensures complete { IfAwaiting self.new.stage ((front : List ℕ) → Came self.old front
-            → RestsOnMore (front ++ take (told_of self.old - length front) chunk.now) (told_of self.old)) }
-        ensures whole { IfAwaiting self.new.stage ((front : List ℕ) → Came self.old front
-            → told_of self.old ≤ length front + length chunk.now → ⊥) }
-        ensures typed { (front : List ℕ) → Came self.old front
-            → TypedBy self.new.stage self.new.kind (front ++ take (told_of self.old - length front) chunk.now) (told_of self.old) }
-
-        // Of each input with these parts:
-        ensures parts { (d : List ℕ) → IsGiven self.old.stage self.old.kind self.old.stand self.old.buffer d
-            → HasPart d self.old.stand.passed chunk.now → MayBeAt self.new.stage self.new.kind self.new.stand self.new.buffer d }
+        ensures { TakesIn self.old self.new chunk.now }
     {
         if self.awaits_text(chunk) {
             self.take_in_text(chunk);
@@ -183,24 +166,7 @@ impl StreamProbe {
     // Reads the next chunk, where the next record is a text. Not inlined, so that other records skip its stack frame.
     #[inline(never)]
     fn take_in_text(&mut self, chunk: &[u8])
-        ensures told { told_of self.new ≡ told_of self.old }
-        ensures ahead { IsAhead self.new.stage self.new.stand }
-        ensures passed { IfAwaiting self.new.stage (self.new.stand.passed
-            ≡ self.old.stand.passed + length (take (self.old.stand.told - self.old.stand.passed) chunk.now)) }
-        ensures keeps { IfSome (answer_of self.old) (λ answer. answer_of self.new ≡ Some answer) }
-        ensures idle { IfSome (answer_of self.old) (λ _. KeepsNothing self.old self.new) }
-        ensures goes_on { (front : List ℕ) → Came self.old front
-            → Came self.new (front ++ take (told_of self.old - length front) chunk.now) }
-        ensures complete { IfAwaiting self.new.stage ((front : List ℕ) → Came self.old front
-            → RestsOnMore (front ++ take (told_of self.old - length front) chunk.now) (told_of self.old)) }
-        ensures whole { IfAwaiting self.new.stage ((front : List ℕ) → Came self.old front
-            → told_of self.old ≤ length front + length chunk.now → ⊥) }
-        ensures typed { (front : List ℕ) → Came self.old front
-            → TypedBy self.new.stage self.new.kind (front ++ take (told_of self.old - length front) chunk.now) (told_of self.old) }
-
-        // Of each input with these parts:
-        ensures parts { (d : List ℕ) → IsGiven self.old.stage self.old.kind self.old.stand self.old.buffer d
-            → HasPart d self.old.stand.passed chunk.now → MayBeAt self.new.stage self.new.kind self.new.stand self.new.buffer d }
+        ensures { TakesIn self.old self.new chunk.now }
     {
         if self.keep_text(chunk) {
             return;
@@ -226,24 +192,7 @@ impl StreamProbe {
 
     // Continues the stage with the next chunk.
     fn proceed(&mut self, chunk: &[u8])
-        ensures told { told_of self.new ≡ told_of self.old }
-        ensures ahead { IsAhead self.new.stage self.new.stand }
-        ensures passed { IfAwaiting self.new.stage (self.new.stand.passed
-            ≡ self.old.stand.passed + length (take (self.old.stand.told - self.old.stand.passed) chunk.now)) }
-        ensures keeps { IfSome (answer_of self.old) (λ answer. answer_of self.new ≡ Some answer) }
-        ensures idle { IfSome (answer_of self.old) (λ _. KeepsNothing self.old self.new) }
-        ensures goes_on { (front : List ℕ) → Came self.old front
-            → Came self.new (front ++ take (told_of self.old - length front) chunk.now) }
-        ensures complete { IfAwaiting self.new.stage ((front : List ℕ) → Came self.old front
-            → RestsOnMore (front ++ take (told_of self.old - length front) chunk.now) (told_of self.old)) }
-        ensures whole { IfAwaiting self.new.stage ((front : List ℕ) → Came self.old front
-            → told_of self.old ≤ length front + length chunk.now → ⊥) }
-        ensures typed { (front : List ℕ) → Came self.old front
-            → TypedBy self.new.stage self.new.kind (front ++ take (told_of self.old - length front) chunk.now) (told_of self.old) }
-
-        // Of each input with these parts:
-        ensures parts { (d : List ℕ) → IsGiven self.old.stage self.old.kind self.old.stand self.old.buffer d
-            → HasPart d self.old.stand.passed chunk.now → MayBeAt self.new.stage self.new.kind self.new.stand self.new.buffer d }
+        ensures { TakesIn self.old self.new chunk.now }
     {
         let chunk = front_of(chunk, self.stand.told - self.stand.passed);
         self.searched = 0;
@@ -303,23 +252,9 @@ impl StreamProbe {
     // all chunks of a few bytes are such. For them this saves a walk, which searches the text from its start.
     #[inline(always)]
     fn keep_text(&mut self, chunk: &[u8]) -> bool
-        ensures told { told_of self.new ≡ told_of self.old }
         ensures stays { result ≡ false → self.new ≡ self.old }
         ensures unanswered { result ≡ true → (answer_of self.old ≡ None) × (answer_of self.new ≡ None) }
-        ensures ahead { result ≡ true → IsAhead self.new.stage self.new.stand }
-        ensures passed { result ≡ true → self.new.stand.passed
-            ≡ self.old.stand.passed + length (take (self.old.stand.told - self.old.stand.passed) chunk.now) }
-        ensures goes_on { result ≡ true → (front : List ℕ) → Came self.old front
-            → Came self.new (front ++ take (told_of self.old - length front) chunk.now) }
-        ensures complete { result ≡ true → (front : List ℕ) → Came self.old front
-            → RestsOnMore (front ++ take (told_of self.old - length front) chunk.now) (told_of self.old) }
-        ensures whole { result ≡ true → (front : List ℕ) → Came self.old front → told_of self.old ≤ length front + length chunk.now → ⊥ }
-        ensures typed { result ≡ true → (front : List ℕ) → Came self.old front
-            → TypedBy self.new.stage self.new.kind (front ++ take (told_of self.old - length front) chunk.now) (told_of self.old) }
-
-        // Of each input with these parts:
-        ensures parts { result ≡ true → (d : List ℕ) → IsGiven self.old.stage self.old.kind self.old.stand self.old.buffer d
-            → HasPart d self.old.stand.passed chunk.now → MayBeAt self.new.stage self.new.kind self.new.stand self.new.buffer d }
+        ensures takes { result ≡ true → TakesIn self.old self.new chunk.now }
     {
         let more = front_of(chunk, self.stand.told - self.stand.passed);
         let Stage::Records { next } = &self.stage else {

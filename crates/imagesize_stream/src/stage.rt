@@ -1,12 +1,12 @@
 //! The stages of a push parser, and how each chunk continues them.
-ghost use Rattle.std.specs.Prelude.{◌≡◌, ℕ, ◌+◌, ◌-◌, ◌<◌, ◌≤◌, ◌++◌, List, Option, true, false, length, take};
+ghost use Rattle.std.specs.Prelude.{◌≡◌, ℕ, ◌+◌, ◌<◌, ◌≤◌, ◌++◌, List, Option, true, false, length, take};
 ghost use Rattle.imagesize.specs.declared.types.ImageType.{ImageType};
 ghost use Rattle.imagesize_source.specs.Input.{part};
 ghost use Rattle.imagesize_stream.specs.Given.{IsGiven, MayBeAt};
 ghost use Rattle.imagesize_stream.specs.Heard.{RestsOnMore};
-ghost use Rattle.imagesize_stream.specs.Probe.{CameTo, HoldsAt, IfAwaiting, IsAhead, RestsOnNext, TypedBy, stage_after};
+ghost use Rattle.imagesize_stream.specs.Probe.{CameTo, Continues, Counts, HoldsAt, IfAwaiting, RestsOnNext, TypedBy, stage_after};
 ghost use Rattle.imagesize_stream.specs.Skips.{PassesOver};
-ghost use Rattle.imagesize_records.specs.Steps.{IsSteady, is_text};
+ghost use Rattle.imagesize_records.specs.Steps.{is_text};
 ghost use Rattle.imagesize_stream.specs.declared.stage.Stage.TheVariants as stage;
 
 use crate::hear::{Heard, hear};
@@ -79,24 +79,11 @@ pub(crate) fn walk(
     buffer: &mut [u8; ROOM],
     chunk: &[u8],
 ) -> Option<Result<ImageSize, Halt>>
-    requires steady { IsSteady next.old stand.old.offset }
-    requires few { stand.old.passed - stand.old.start ≤ 1023 }
-    requires typed { 12 ≤ stand.old.passed }
+    requires holds { HoldsAt (stage.Records next.old) stand.old }
     requires fits { stand.old.passed + length chunk.now ≤ stand.old.told }
-    ensures told { stand.new.told ≡ stand.old.told }
-    ensures holds { HoldsAt (stage_after next.new result) stand.new }
-    ensures ahead { IsAhead (stage_after next.new result) stand.new }
-    ensures passed { IfAwaiting (stage_after next.new result) (stand.new.passed ≡ stand.old.passed + length chunk.now) }
-
-    // For each list of bytes that may have arrived before:
-    ensures goes_on { (kind : Option ImageType) (front : List ℕ) → CameTo (stage.Records next.old) kind stand.old buffer.old front
-        → CameTo (stage_after next.new result) kind stand.new buffer.new (front ++ chunk.now) }
-    ensures complete { IfAwaiting (stage_after next.new result) ((kind : Option ImageType) (front : List ℕ)
-        → CameTo (stage.Records next.old) kind stand.old buffer.old front
-        → RestsOnMore (front ++ chunk.now) stand.old.told) }
-    ensures marked { (kind : Option ImageType) (front : List ℕ) → CameTo (stage.Records next.old) kind stand.old buffer.old front
-        → RestsOnNext (stage_after next.new result) stand.new (front ++ chunk.now) stand.old.told }
-    ensures whole { IfAwaiting (stage_after next.new result) (stand.old.told ≤ stand.old.passed + length chunk.now → ⊥) }
+    ensures counts { Counts (stage_after next.new result) stand.old stand.new chunk.now }
+    ensures continues { (kind : Option ImageType) → Continues (stage.Records next.old) (stage_after next.new result) kind kind
+        stand.old stand.new buffer.old buffer.new chunk.now }
 {
     if next.is_text() {
         return walk_texts(next, stand, buffer, chunk);
@@ -112,25 +99,11 @@ pub(crate) fn walk(
 
 // Begins the walk at this record, and returns the stage after the chunk.
 fn walk_from(next: Awaited, stand: &mut Stand, buffer: &mut [u8; ROOM], chunk: &[u8]) -> Stage
-    requires steady { IsSteady next stand.old.offset }
-    requires few { stand.old.passed - stand.old.start ≤ 1023 }
-    requires typed { 12 ≤ stand.old.passed }
+    requires holds { HoldsAt (stage.Records next) stand.old }
     requires fits { stand.old.passed + length chunk.now ≤ stand.old.told }
-    ensures told { stand.new.told ≡ stand.old.told }
-    ensures holds { HoldsAt result stand.new }
-    ensures ahead { IsAhead result stand.new }
-    ensures passed { IfAwaiting result (stand.new.passed ≡ stand.old.passed + length chunk.now) }
-
-    // For each list of bytes that may have arrived before:
-    ensures goes_on { (kind : Option ImageType) (front : List ℕ) → CameTo (stage.Records next) kind stand.old buffer.old front
-        → CameTo result kind stand.new buffer.new (front ++ chunk.now) }
-    ensures complete { IfAwaiting result ((kind : Option ImageType) (front : List ℕ)
-        → CameTo (stage.Records next) kind stand.old buffer.old front
-        → RestsOnMore (front ++ chunk.now) stand.old.told) }
-    ensures marked { (kind : Option ImageType) (front : List ℕ) → CameTo (stage.Records next) kind stand.old buffer.old front
-        → RestsOnNext result stand.new (front ++ chunk.now) stand.old.told }
-    ensures typed { (kind : Option ImageType) (front : List ℕ) (told : ℕ) → TypedBy result kind front told }
-    ensures whole { IfAwaiting result (stand.old.told ≤ stand.old.passed + length chunk.now → ⊥) }
+    ensures counts { Counts result stand.old stand.new chunk.now }
+    ensures continues { (kind : Option ImageType) → Continues (stage.Records next) result kind kind stand.old stand.new
+        buffer.old buffer.new chunk.now }
 {
     let mut next = next;
     match walk(&mut next, stand, buffer, chunk) {
@@ -146,25 +119,12 @@ fn walk_texts(
     buffer: &mut [u8; ROOM],
     chunk: &[u8],
 ) -> Option<Result<ImageSize, Halt>>
-    requires steady { IsSteady next.old stand.old.offset }
+    requires holds { HoldsAt (stage.Records next.old) stand.old }
     requires text { is_text next.old ≡ true }
-    requires few { stand.old.passed - stand.old.start ≤ 1023 }
-    requires typed { 12 ≤ stand.old.passed }
     requires fits { stand.old.passed + length chunk.now ≤ stand.old.told }
-    ensures told { stand.new.told ≡ stand.old.told }
-    ensures holds { HoldsAt (stage_after next.new result) stand.new }
-    ensures ahead { IsAhead (stage_after next.new result) stand.new }
-    ensures passed { IfAwaiting (stage_after next.new result) (stand.new.passed ≡ stand.old.passed + length chunk.now) }
-
-    // For each list of bytes that may have arrived before:
-    ensures goes_on { (kind : Option ImageType) (front : List ℕ) → CameTo (stage.Records next.old) kind stand.old buffer.old front
-        → CameTo (stage_after next.new result) kind stand.new buffer.new (front ++ chunk.now) }
-    ensures complete { IfAwaiting (stage_after next.new result) ((kind : Option ImageType) (front : List ℕ)
-        → CameTo (stage.Records next.old) kind stand.old buffer.old front
-        → RestsOnMore (front ++ chunk.now) stand.old.told) }
-    ensures marked { (kind : Option ImageType) (front : List ℕ) → CameTo (stage.Records next.old) kind stand.old buffer.old front
-        → RestsOnNext (stage_after next.new result) stand.new (front ++ chunk.now) stand.old.told }
-    ensures whole { IfAwaiting (stage_after next.new result) (stand.old.told ≤ stand.old.passed + length chunk.now → ⊥) }
+    ensures counts { Counts (stage_after next.new result) stand.old stand.new chunk.now }
+    ensures continues { (kind : Option ImageType) → Continues (stage.Records next.old) (stage_after next.new result) kind kind
+        stand.old stand.new buffer.old buffer.new chunk.now }
 {
     let mut texts = Texts {
         next: *next,
@@ -190,19 +150,8 @@ pub(crate) fn wait(
 ) -> Stage
     requires some { 18 ≤ stand.old.passed }
     requires fits { stand.old.passed + length chunk.now ≤ stand.old.told }
-    ensures told { stand.new.told ≡ stand.old.told }
-    ensures holds { HoldsAt result stand.new }
-    ensures ahead { IsAhead result stand.new }
-    ensures passed { IfAwaiting result (stand.new.passed ≡ stand.old.passed + length chunk.now) }
-    ensures goes_on { (front : List ℕ) → CameTo (stage.Footer size) kind.old stand.old buffer.old front
-        → CameTo result kind.new stand.new buffer.new (front ++ chunk.now) }
-    ensures complete { IfAwaiting result ((front : List ℕ) → CameTo (stage.Footer size) kind.old stand.old buffer.old front
-        → RestsOnMore (front ++ chunk.now) stand.old.told) }
-    ensures marked { (front : List ℕ) → CameTo (stage.Footer size) kind.old stand.old buffer.old front
-        → RestsOnNext result stand.new (front ++ chunk.now) stand.old.told }
-    ensures typed { (front : List ℕ) → CameTo (stage.Footer size) kind.old stand.old buffer.old front
-        → TypedBy result kind.new (front ++ chunk.now) stand.old.told }
-    ensures whole { IfAwaiting result (stand.old.told ≤ stand.old.passed + length chunk.now → ⊥) }
+    ensures counts { Counts result stand.old stand.new chunk.now }
+    ensures continues { Continues (stage.Footer size) result kind.old kind.new stand.old stand.new buffer.old buffer.new chunk.now }
 
     // Of each input with these parts:
     ensures parts { (d : List ℕ) → IsGiven (stage.Footer size) kind.old stand.old buffer.old d
@@ -241,19 +190,8 @@ pub(crate) fn begin(
     requires first { stand.old.start ≡ 0 }
     requires few { stand.old.passed < 132 }
     requires fits { stand.old.passed + length chunk.now ≤ stand.old.told }
-    ensures told { stand.new.told ≡ stand.old.told }
-    ensures holds { HoldsAt into.new stand.new }
-    ensures ahead { IsAhead into.new stand.new }
-    ensures passed { IfAwaiting into.new (stand.new.passed ≡ stand.old.passed + length chunk.now) }
-    ensures goes_on { (front : List ℕ) → CameTo stage.First kind.old stand.old buffer.old front
-        → CameTo into.new kind.new stand.new buffer.new (front ++ chunk.now) }
-    ensures complete { IfAwaiting into.new ((front : List ℕ) → CameTo stage.First kind.old stand.old buffer.old front
-        → RestsOnMore (front ++ chunk.now) stand.old.told) }
-    ensures marked { (front : List ℕ) → CameTo stage.First kind.old stand.old buffer.old front
-        → RestsOnNext into.new stand.new (front ++ chunk.now) stand.old.told }
-    ensures typed { (front : List ℕ) → CameTo stage.First kind.old stand.old buffer.old front
-        → TypedBy into.new kind.new (front ++ chunk.now) stand.old.told }
-    ensures whole { IfAwaiting into.new (stand.old.told ≤ stand.old.passed + length chunk.now → ⊥) }
+    ensures counts { Counts into.new stand.old stand.new chunk.now }
+    ensures continues { Continues stage.First into.new kind.old kind.new stand.old stand.new buffer.old buffer.new chunk.now }
 {
     let left = FIRST - stand.passed;
     let more = front_of(chunk, left);
@@ -275,15 +213,11 @@ fn begun(
     requires few { stand.old.passed ≤ 132 }
     requires all { stand.old.passed < 132 → length chunk.now ≡ 0 }
     requires fits { stand.old.passed + length chunk.now ≤ stand.old.told }
-    ensures told { stand.new.told ≡ stand.old.told }
-    ensures holds { HoldsAt into.new stand.new }
-    ensures ahead { IsAhead into.new stand.new }
-    ensures passed { IfAwaiting into.new (stand.new.passed ≡ stand.old.passed + length chunk.now) }
+    ensures counts { Counts into.new stand.old stand.new chunk.now }
     ensures goes_on { CameTo into.new kind.new stand.new buffer.new (take stand.old.passed buffer.old ++ chunk.now) }
     ensures complete { IfAwaiting into.new (RestsOnMore (take stand.old.passed buffer.old ++ chunk.now) stand.old.told) }
     ensures marked { RestsOnNext into.new stand.new (take stand.old.passed buffer.old ++ chunk.now) stand.old.told }
     ensures typed { TypedBy into.new kind.new (take stand.old.passed buffer.old ++ chunk.now) stand.old.told }
-    ensures whole { IfAwaiting into.new (stand.old.told ≤ stand.old.passed + length chunk.now → ⊥) }
 {
     let passed = stand.passed as usize;
     match hear(&buffer[..passed], stand.told) {

@@ -4,22 +4,19 @@ use Rattle.imagesize_records.proofs.Plain.{first_plain}
 use Rattle.imagesize_records.proofs.Reaches.{first_reaches}
 use Rattle.imagesize_stream.proofs.hear.hear_type.Goals as goal
 
-pub returns-then-is_faulted-clause-typed : goal.returns-then-is_faulted-clause-typed
-returns-then-is_faulted-clause-typed c =
-    let faults = sym c.is_faulted.ensures ∙ c.if-is_faulted.true in
-    type_asked c.args.bytes.now c.args.told _
-    (λ d begins as_long. c.read_front-found.ensures.marked faults d begins as_long false 132 first_plain first_reaches)
-
 pub returns-then-is_faulted-clause-hears : goal.returns-then-is_faulted-clause-hears
 returns-then-is_faulted-clause-hears c =
-    let faults = sym c.is_faulted.ensures ∙ c.if-is_faulted.true in
+    let faults = sym c.is_faulted.ensures ∙ c.if-is_faulted.true in let found = c.read_front-found.ensures in
     let asked = first_asked c.args.bytes.now c.args.told _
-    (λ d begins as_long. c.read_front-found.ensures.marked faults d begins as_long false 132 first_plain first_reaches) in
-    (rests_more c.args.bytes.now c.args.told _ asked, tt, λ _. asked)
-
-pub returns-then-is_faulted-clause-few : goal.returns-then-is_faulted-clause-few
-returns-then-is_faulted-clause-few c =
-    c.read_front-found.ensures.few (sym c.is_faulted.ensures ∙ c.if-is_faulted.true) 132 first_reaches
+    (λ d begins as_long. found.marked faults d begins as_long false 132 first_plain first_reaches) in record {
+      few = found.few faults 132 first_reaches;
+      ends = found.ends faults;
+      rests = rests_more c.args.bytes.now c.args.told _ asked;
+      known = tt;
+      typed = type_asked c.args.bytes.now c.args.told _
+          (λ d begins as_long. found.marked faults d begins as_long false 132 first_plain first_reaches);
+      between = λ _. asked;
+    }
 
 pub hear_size-requires-clause-image : goal.hear_size-requires-clause-image
 hear_size-requires-clause-image c =
@@ -28,8 +25,9 @@ hear_size-requires-clause-image c =
 
 pub returns-in-Err-clause-hears : goal.returns-in-Err-clause-hears
 returns-in-Err-clause-hears c =
-    let says = c.read_front-found.ensures.says (sym c.is_faulted.ensures ∙ c.if-is_faulted.false) in
-    type_refused c.args.bytes.now c.args.told c.in-Err.halt (rw c.in-Err.is at says)
+    let sure = sym c.is_faulted.ensures ∙ c.if-is_faulted.false in let found = c.read_front-found.ensures in
+    let refused = type_refused c.args.bytes.now c.args.told c.in-Err.halt (rw c.in-Err.is at (found.says sure)) in
+    (refused.0, refused.1, rw c.in-Err.is at (found.unstopped sure))
 
 pub returns-in-MaybeTga-clause-head : goal.returns-in-MaybeTga-clause-head
 returns-in-MaybeTga-clause-head c = λ few.

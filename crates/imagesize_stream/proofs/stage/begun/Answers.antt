@@ -1,4 +1,4 @@
-use Rattle.std.proofs.Common.{◌≡◌, inl, inr, Some, None, length, take, sym, ◌∙◌, subst, arith}
+use Rattle.std.proofs.Common.{◌≡◌, inl, inr, Some, None, length, take, refl, sym, ◌∙◌, subst, arith, rules}
 use Rattle.std.proofs.lemmas.List.{length-take}
 use Rattle.imagesize.specs.Meaning.{meaning_reads}
 use Rattle.imagesize.specs.Parted.{texts_of}
@@ -8,55 +8,36 @@ use Rattle.imagesize_pieces.proofs.Needing.{needs_among}
 use Rattle.imagesize_stream.proofs.Footers.{last_kept}
 use Rattle.imagesize_stream.proofs.Coming.{awaiting_map, missing_on, opened_came}
 use Rattle.imagesize_stream.specs.Heard.{OutOfHeader}
-use Rattle.imagesize_stream.specs.Probe.{CameBy}
-use Rattle.imagesize_stream.specs.declared.stage.Stage.TheVariants.{Footer, Records}
-use Rattle.imagesize_stream.proofs.stage.begun.Goals.{After-keep_behind, In-Records}
+use Rattle.imagesize_stream.specs.Probe.{CameTo}
+use Rattle.imagesize_stream.specs.declared.stage.Stage.TheVariants.{Footer}
 use Rattle.imagesize_stream.proofs.stage.begun.Goals as goal
 
--- the bytes before the walk
-opened : (c : In-Records) → let s = c.args.stand.now in
-    CameBy (Records c.in-Records.next) (Some c.in-Records.image) s.start c.in-Records.offset s.passed s.told c.args.buffer.now
-    (take s.passed c.args.buffer.now)
-opened c =
-    let s = c.args.stand.now in let hears = c.in-Records.ensures.hears in
-    opened_came c.args.buffer.now s.passed s.start s.told c.in-Records.offset c.in-Records.next c.in-Records.image
-    c.requires.first (omega (arith, c.requires.few)) hears.1 hears.2 hears.4
+pub returns-in-Records : goal.returns-in-Records
+returns-in-Records c =
+    let stand = c.args.stand.now in let buffer = c.args.buffer.now in
+    let hears = c.in-Records.ensures.hears in let on = c.walk_from.ensures.continues (Some c.in-Records.image) in
+    let came = opened_came buffer stand.passed stand.start stand.told c.in-Records.offset c.in-Records.next c.in-Records.image
+    c.requires.first (omega (arith, c.requires.few)) hears.1 hears.2 hears.4 in record {
+      counts = search rules;
+      goes_on = on.goes_on _ came;
+      complete = awaiting_map c.walk_from.result (λ rests. rests _ came) on.complete;
+      marked = on.marked _ came;
+      typed = on.typed _ came;
+    }
 
-pub returns-in-Records-clause-goes_on : goal.returns-in-Records-clause-goes_on
-returns-in-Records-clause-goes_on c = c.walk_from.ensures.goes_on (Some c.in-Records.image) _
-    (opened (goal.at.returns-in-Records-clause-goes_on c).In-Records)
-
-pub returns-in-Records-clause-complete : goal.returns-in-Records-clause-complete
-returns-in-Records-clause-complete c = awaiting_map c.walk_from.result (λ rests. rests (Some c.in-Records.image) _
-    (opened (goal.at.returns-in-Records-clause-complete c).In-Records)) c.walk_from.ensures.complete
-
-pub returns-in-Records-clause-marked : goal.returns-in-Records-clause-marked
-returns-in-Records-clause-marked c = c.walk_from.ensures.marked (Some c.in-Records.image) _
-    (opened (goal.at.returns-in-Records-clause-marked c).In-Records)
-
--- the bytes before the wait for the last ones
-waits : (c : After-keep_behind) → let s = c.args.stand.now in
-    CameBy (Footer c.in-Footer.size) None s.start s.offset s.passed s.told c.keep_behind.new.buffer (take s.passed c.args.buffer.now)
-waits c =
-    let hears = c.in-Footer.ensures.hears in
-    let last = last_kept c.args.buffer.now c.keep_behind.new.buffer c.args.stand.now.passed (omega (arith, c.requires.few)) hears.0
-    c.keep_behind.ensures in (last.0, last.1, tt, hears.1)
-
-pub returns-in-Footer-clause-goes_on : goal.returns-in-Footer-clause-goes_on
-returns-in-Footer-clause-goes_on c =
-    c.wait.ensures.goes_on _ (waits (goal.at.returns-in-Footer-clause-goes_on c).After-keep_behind)
-
-pub returns-in-Footer-clause-complete : goal.returns-in-Footer-clause-complete
-returns-in-Footer-clause-complete c = awaiting_map c.wait.result
-    (λ rests. rests _ (waits (goal.at.returns-in-Footer-clause-complete c).After-keep_behind)) c.wait.ensures.complete
-
-pub returns-in-Footer-clause-marked : goal.returns-in-Footer-clause-marked
-returns-in-Footer-clause-marked c =
-    c.wait.ensures.marked _ (waits (goal.at.returns-in-Footer-clause-marked c).After-keep_behind)
-
-pub returns-in-Footer-clause-typed : goal.returns-in-Footer-clause-typed
-returns-in-Footer-clause-typed c =
-    c.wait.ensures.typed _ (waits (goal.at.returns-in-Footer-clause-typed c).After-keep_behind)
+pub returns-in-Footer : goal.returns-in-Footer
+returns-in-Footer c =
+    let stand = c.args.stand.now in let buffer = c.args.buffer.now in
+    let hears = c.in-Footer.ensures.hears in let on = c.wait.ensures.continues in
+    let last = last_kept buffer c.keep_behind.new.buffer stand.passed (omega (arith, c.requires.few)) hears.0 c.keep_behind.ensures in
+    let came : CameTo (Footer c.in-Footer.size) None stand c.keep_behind.new.buffer (take stand.passed buffer) =
+    (last.0, last.1, tt, hears.1) in record {
+      counts = c.wait.ensures.counts;
+      goes_on = on.goes_on _ came;
+      complete = awaiting_map c.wait.result (λ rests. rests _ came) on.complete;
+      marked = on.marked _ came;
+      typed = on.typed _ came;
+    }
 
 pub returns-in-Missing-clause-marked : goal.returns-in-Missing-clause-marked
 returns-in-Missing-clause-marked c = λ d begins as_long.
@@ -65,22 +46,28 @@ returns-in-Missing-clause-marked c = λ d begins as_long.
     length-take c.args.stand.now.passed c.args.buffer.now ∙ omega (arith, c.requires.few) in
     let starts = begins_left front c.args.chunk.now c.args.stand.now.told d begins in (
       λ out. needs_among (texts_of d) (length front) _ _ _ (meaning_reads d 0).marks (omega (arith, many))
-          (omega (arith, c.in-Missing.ensures.ends.1))
-          (c.in-Missing.ensures.hears.2 (inl (subst OutOfHeader (sym many) out)) d starts as_long),
+          (omega (arith, c.in-Missing.ensures.hears.ends.1))
+          (c.in-Missing.ensures.hears.between (inl (subst OutOfHeader (sym many) out)) d starts as_long),
       λ late no_text. subst (λ e. EndsAt e (meaning_reads d 0).marks)
-          (omega (arith, late, c.in-Missing.ensures.ends.1))
-          ((c.in-Missing.ensures.hears.2 (inr (omega (arith, late))) d starts as_long).1 no_text),
+          (omega (arith, late, c.in-Missing.ensures.hears.ends.1))
+          ((c.in-Missing.ensures.hears.between (inr (omega (arith, late))) d starts as_long).1 no_text),
     )
 
-pub returns-in-Missing-clause-ahead : goal.returns-in-Missing-clause-ahead
-returns-in-Missing-clause-ahead c =
+pub returns-in-Missing-clause-counts : goal.returns-in-Missing-clause-counts
+returns-in-Missing-clause-counts c =
     let many = length-take c.args.stand.now.passed c.args.buffer.now in
-    let missing = c.in-Missing.ensures in
-    omega (arith, many, missing.ends, missing.few, missing.head, c.requires.few, c.requires.first)
+    let missing = c.in-Missing.ensures.hears in let few = missing.few in
+    let none = c.requires.all (omega (arith, many, few, c.requires.few)) in record {
+      told = refl;
+      holds = omega (arith, many, few, c.requires.few, c.requires.first);
+      ahead = omega (arith, many, missing.ends, few, c.in-Missing.ensures.head, c.requires.few, c.requires.first);
+      passed = omega (arith, none);
+      whole = λ all. omega (arith, many, all, none, missing.ends, c.requires.few);
+    }
 
 pub returns-in-Missing-clause-typed : goal.returns-in-Missing-clause-typed
 returns-in-Missing-clause-typed c =
     let many = length-take c.args.stand.now.passed c.args.buffer.now in
-    let few = c.in-Missing.ensures.few in
+    let few = c.in-Missing.ensures.hears.few in
     missing_on c.in-Missing.image (take c.args.stand.now.passed c.args.buffer.now) c.args.chunk.now c.args.stand.now.told
-    (c.requires.all (omega (arith, many, few, c.requires.few))) c.in-Missing.ensures.typed
+    (c.requires.all (omega (arith, many, few, c.requires.few))) c.in-Missing.ensures.hears.typed

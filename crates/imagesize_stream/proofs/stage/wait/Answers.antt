@@ -10,32 +10,47 @@ use Rattle.imagesize_stream.proofs.Footers.{footer_tells, last_on}
 use Rattle.imagesize_stream.proofs.Given.{footer_came, footer_known, footer_on}
 use Rattle.imagesize_stream.proofs.stage.wait.Goals as goal
 
-pub returns-then-stand-clause-goes_on : goal.returns-then-stand-clause-goes_on
-returns-then-stand-clause-goes_on c = λ front came. (
-  omega (arith, came.0, length-append front c.args.chunk.now),
-  last_on front c.args.chunk.now c.args.buffer.now c.keep_behind.new.buffer (omega (arith, came.0, c.requires.some)) came.1
-      c.keep_behind.ensures,
-  says_on front c.args.chunk.now c.args.stand.now.told c.args.kind.now came.2,
-  λ d begins. came.3 d (begins_left front c.args.chunk.now c.args.stand.now.told d begins),
-)
+pub returns-then-stand-clause-continues : goal.returns-then-stand-clause-continues
+returns-then-stand-clause-continues c =
+    let told = c.args.stand.now.told in let chunk = c.args.chunk.now in record {
+      goes_on = λ front came. (
+        omega (arith, came.0, length-append front chunk),
+        last_on front chunk c.args.buffer.now c.keep_behind.new.buffer (omega (arith, came.0, c.requires.some)) came.1
+            c.keep_behind.ensures,
+        says_on front chunk told c.args.kind.now came.2,
+        λ d begins. came.3 d (begins_left front chunk told d begins),
+      );
+      complete = λ front came d begins as_long below.
+          let rests = (came.3 d (begins_left front chunk told d begins)).rests in let last = below rests.0.0 rests.0.3 in
+          omega (arith, last, rests.0.1, as_long, came.0, c.if-stand.true, length-append front chunk);
+      marked = λ front came d begins as_long. needs_wider (texts_of d) (length d - 1) (length d) _ _ (meaning_reads d 0).marks
+          (omega (arith, as_long, c.if-stand.true)) (omega (arith, as_long))
+          (needs_texts (texts_of d) (length d - 1) (length d) (meaning_reads d 0).marks
+          (came.3 d (begins_left front chunk told d begins)).rests);
+      typed = λ front came d begins as_long below.
+          let typed = (came.3 d (begins_left front chunk told d begins)).typed in let last = below typed.0.0 typed.0.3 in
+          omega (arith, last, typed.0.1, as_long, came.0, c.if-stand.true, length-append front chunk);
+    }
 
-pub returns-then-is_footer-clause-goes_on : goal.returns-then-is_footer-clause-goes_on
-returns-then-is_footer-clause-goes_on c = λ front came.
-    let many = length-append front c.args.chunk.now in
-    footer_tells front c.args.chunk.now (take 18 c.keep_behind.new.buffer) c.args.stand.now.told c.args.size true
-    (omega (arith, came.0, c.if-stand.false, many)) (omega (arith, came.0, c.requires.fits, many))
-    (last_on front c.args.chunk.now c.args.buffer.now c.keep_behind.new.buffer (omega (arith, came.0, c.requires.some)) came.1
-    c.keep_behind.ensures)
-    came.3 (ap is_tga_footer (sym c.copy_from_slice.ensures.after) ∙ sym c.is_footer.ensures ∙ c.if-is_footer.true)
+pub returns-then-is_footer-clause-continues : goal.returns-then-is_footer-clause-continues
+returns-then-is_footer-clause-continues c = record {
+  goes_on = λ front. footer_tells c.args.kind.now c.args.size true c.args.stand.now c.args.buffer.now c.keep_behind.new.buffer
+      front c.args.chunk.now c.requires.some c.requires.fits c.if-stand.false c.keep_behind.ensures
+      (ap is_tga_footer (sym c.copy_from_slice.ensures.after) ∙ sym c.is_footer.ensures ∙ c.if-is_footer.true);
+  complete = tt;
+  marked = λ front came d begins as_long. tt;
+  typed = λ front came. tt;
+}
 
-pub returns-clause-goes_on : goal.returns-clause-goes_on
-returns-clause-goes_on c = λ front came.
-    let many = length-append front c.args.chunk.now in
-    footer_tells front c.args.chunk.now (take 18 c.keep_behind.new.buffer) c.args.stand.now.told c.args.size false
-    (omega (arith, came.0, c.if-stand.false, many)) (omega (arith, came.0, c.requires.fits, many))
-    (last_on front c.args.chunk.now c.args.buffer.now c.keep_behind.new.buffer (omega (arith, came.0, c.requires.some)) came.1
-    c.keep_behind.ensures)
-    came.3 (ap is_tga_footer (sym c.copy_from_slice.ensures.after) ∙ sym c.is_footer.ensures ∙ c.if-is_footer.false)
+pub returns-clause-continues : goal.returns-clause-continues
+returns-clause-continues c = record {
+  goes_on = λ front. footer_tells c.args.kind.now c.args.size false c.args.stand.now c.args.buffer.now c.keep_behind.new.buffer
+      front c.args.chunk.now c.requires.some c.requires.fits c.if-stand.false c.keep_behind.ensures
+      (ap is_tga_footer (sym c.copy_from_slice.ensures.after) ∙ sym c.is_footer.ensures ∙ c.if-is_footer.false);
+  complete = tt;
+  marked = λ front came d begins as_long. tt;
+  typed = λ front came. tt;
+}
 
 pub returns-then-stand-clause-parts : goal.returns-then-stand-clause-parts
 returns-then-stand-clause-parts c = λ d given part.
@@ -53,13 +68,6 @@ returns-then-stand-clause-parts c = λ d given part.
           (omega (arith, given.as_long, c.if-stand.true)) (omega (arith, given.as_long))
           (needs_texts (texts_of d) (length d - 1) (length d) (meaning_reads d 0).marks rests);
     }
-
-pub returns-then-stand-clause-marked : goal.returns-then-stand-clause-marked
-returns-then-stand-clause-marked c = λ front came d begins as_long.
-    needs_wider (texts_of d) (length d - 1) (length d) _ _ (meaning_reads d 0).marks
-    (omega (arith, as_long, c.if-stand.true)) (omega (arith, as_long))
-    (needs_texts (texts_of d) (length d - 1) (length d) (meaning_reads d 0).marks
-    (came.3 d (begins_left front c.args.chunk.now c.args.stand.now.told d begins)).rests)
 
 pub returns-then-is_footer-clause-parts : goal.returns-then-is_footer-clause-parts
 returns-then-is_footer-clause-parts c = λ d given part.
@@ -92,9 +100,3 @@ returns-clause-parts c = λ d given part.
       depends = tt;
       marked = tt;
     }
-
-pub returns-then-stand-clause-typed : goal.returns-then-stand-clause-typed
-returns-then-stand-clause-typed c = λ front came d begins as_long below.
-    let typed = (came.3 d (begins_left front c.args.chunk.now c.args.stand.now.told d begins)).typed in
-    let last = below typed.0.0 typed.0.3 in
-    omega (arith, last, typed.0.1, as_long, came.0, c.if-stand.true, length-append front c.args.chunk.now)

@@ -24,12 +24,11 @@ at_first : (p s u : StreamProbe) → 132 ≤ length p.buffer → IfSome (answer_
 at_first p s u enough kept keeps p_holds s_holds came many moves none =
     let after = sym keeps ∙ none in
     let before = none_before (answer_of p) (answer_of s) kept after in
-    let begins : p.stand.passed ≡ 0 = as_many p.kind p.stage p.stand.start p.stand.offset p.stand.passed p.stand.told
-    p.buffer [] before enough p_holds came in
+    let begins : p.stand.passed ≡ 0 = as_many p.kind p.stage p.stand p.buffer [] before enough p_holds came in
     let all = awaiting_none s.kind s.stage after many in
     let none_came : s.stand.passed ≡ 0 =
     omega (arith, all, begins, length-take {A = ℕ} (p.stand.told - p.stand.passed) []) in
-    let start = none_passed s.kind s.stage s.stand.start s.stand.offset s.stand.passed after s_holds none_came in
+    let start = none_passed s.kind s.stage s.stand after s_holds none_came in
     let moved = awaiting_none u.kind u.stage none moves in omega (arith, moved, none_came, start)
 
 pub returns-clause-first : goal.returns-clause-first
@@ -38,8 +37,7 @@ returns-clause-first c =
     wants (answer_of u) u.stand _ (λ none.
     let at = at_first p s u (omega arith) c.take_in.ensures.keeps c.skip.ensures.keeps p.holds s.holds
     c.new-probe.ensures.begins c.take_in.ensures.passed c.skip.ensures.passed none in
-    let ends = first_next u.kind u.stage u.stand.start u.stand.offset u.stand.passed u.stand.end u.stand.told none u.holds
-    c.skip.ensures.next at in
+    let ends = first_next u.kind u.stage u.stand none u.holds c.skip.ensures.next at in
     (at, omega (arith, at, ends)))
 
 pub returns-clause-few : goal.returns-clause-few
@@ -48,6 +46,5 @@ returns-clause-few c =
     wants (answer_of u) u.stand _ (λ none.
     let at = at_first p s u (omega arith) c.take_in.ensures.keeps c.skip.ensures.keeps p.holds s.holds
     c.new-probe.ensures.begins c.take_in.ensures.passed c.skip.ensures.passed none in
-    let few = early_none u.kind u.stage u.stand.start u.stand.offset u.stand.passed u.stand.end u.stand.told none u.holds
-    c.skip.ensures.next (omega (arith, at)) in
+    let few = early_none u.kind u.stage u.stand none u.holds c.skip.ensures.next (omega (arith, at)) in
     omega (arith, few))

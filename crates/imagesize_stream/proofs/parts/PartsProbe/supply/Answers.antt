@@ -33,7 +33,7 @@ came_to : (s t : StreamProbe) (offset : ℕ) (bytes behind : List ℕ) → answe
     → IfAwaiting t.stage (t.stand.passed ≡ s.stand.passed + length (take (s.stand.told - s.stand.passed) behind))
     → (s.stand.passed < s.stand.end) × (min s.stand.end (offset + length bytes) ≤ t.stand.passed)
 came_to s t offset bytes behind none later holds next before is many =
-    let ahead = next_none s.kind s.stage s.stand.start s.stand.offset s.stand.passed s.stand.end s.stand.told none holds next in
+    let ahead = next_none s.kind s.stage s.stand none holds next in
     let comes = awaiting_none t.kind t.stage later many in (
       ahead.0,
       omega (

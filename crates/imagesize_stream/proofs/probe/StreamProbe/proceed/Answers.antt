@@ -1,73 +1,39 @@
-use Rattle.std.proofs.Common.{length, take, ◌∙◌}
-use Rattle.imagesize_stream.proofs.Coming.{awaiting_map}
-use Rattle.imagesize_stream.proofs.Ending.{rests_cut}
-use Rattle.imagesize_stream.proofs.Given.{cut_part, given_on}
+use Rattle.std.proofs.Common.{refl, arith}
+use Rattle.imagesize_stream.proofs.Given.{given_on}
+use Rattle.imagesize_stream.proofs.Taking.{taken}
 use Rattle.imagesize_stream.proofs.Unfinished.{none_searched}
-use Rattle.imagesize_stream.specs.declared.stage.Stage.TheVariants.{Done, Records}
+use Rattle.imagesize_stream.specs.declared.stage.Stage.TheVariants.{Done, First, Records}
 use Rattle.imagesize_stream.proofs.probe.StreamProbe.proceed.Goals as goal
 
-pub returns-in-First-clause-parts : goal.returns-in-First-clause-parts
-returns-in-First-clause-parts c = λ d given has.
-    let s = c.args.self.now in
-    let cut = c.front_of-chunk.result.now in
-    let is = cut_part d cut s.stand.passed (length c.args.chunk.now) (c.front_of-chunk.ensures ∙ (rw given.as_long at has)) in
-    let here = rw c.in-First.is at given in
-    let now = c.begin.new in
-    given_on c.begin.new.into now.kind now.stand now.buffer d cut s.stand.passed s.stand.told given.as_long is
-    c.begin.ensures.told c.begin.ensures.holds c.begin.ensures.passed
-    (c.begin.ensures.goes_on (take s.stand.passed d) here.known)
-    (awaiting_map c.begin.new.into (λ rests. rests (take s.stand.passed d) here.known) c.begin.ensures.complete)
-    (c.begin.ensures.marked (take s.stand.passed d) here.known)
+pub returns-in-First : goal.returns-in-First
+returns-in-First c =
+    let s = c.args.self.now in let now = c.begin.new in let cut = c.front_of-chunk.result.now in let here = c.in-First.is in
+    let counts = c.begin.ensures.counts in let on = c.begin.ensures.continues in
+    taken s _ c.args.chunk.now cut (rw here refl) (omega arith) c.front_of-chunk.ensures counts (rw here on) (λ d given part.
+    given_on First now.into s.kind now.kind s.stand now.stand s.buffer now.buffer d cut counts on given.as_long
+    (rw here at given).known part)
 
-pub returns-in-Some-clause-goes_on : goal.returns-in-Some-clause-goes_on
-returns-in-Some-clause-goes_on c = λ front came.
-    let s = c.args.self.now in
-    let here = rw c.in-Records.is at came in
-    rw (c.front_of-chunk.ensures, here.1.as_many) at (c.in-Some.ensures.goes_on s.kind front here)
+pub returns-in-Some : goal.returns-in-Some
+returns-in-Some c =
+    let s = c.args.self.now in let now = c.walk-found.new in let cut = c.front_of-chunk.result.now in let here = c.in-Records.is in
+    let counts = c.in-Some.ensures.counts in let on = c.in-Some.ensures.continues s.kind in
+    taken s _ c.args.chunk.now cut (rw here refl) (omega arith) c.front_of-chunk.ensures counts (rw here on) (λ d given part.
+    given_on (Records c.in-Records.next) (Done c.in-Some.size) s.kind s.kind s.stand now.stand s.buffer now.buffer d cut counts on
+    given.as_long (rw here at given).known part)
 
-pub returns-in-Some-clause-parts : goal.returns-in-Some-clause-parts
-returns-in-Some-clause-parts c = λ d given has.
-    let s = c.args.self.now in
-    let cut = c.front_of-chunk.result.now in
-    let is = cut_part d cut s.stand.passed (length c.args.chunk.now) (c.front_of-chunk.ensures ∙ (rw given.as_long at has)) in
-    let here = rw c.in-Records.is at given in
-    let now = c.walk-found.new in
-    given_on (Done c.in-Some.size) s.kind now.stand now.buffer d cut s.stand.passed s.stand.told given.as_long is
-    c.in-Some.ensures.told c.in-Some.ensures.holds tt (c.in-Some.ensures.goes_on s.kind (take s.stand.passed d) here.known)
-    tt (c.in-Some.ensures.marked s.kind (take s.stand.passed d) here.known)
+pub returns-in_default : goal.returns-in_default
+returns-in_default c =
+    let s = c.args.self.now in let now = c.walk-found.new in let cut = c.front_of-chunk.result.now in let here = c.in-Records.is in
+    let counts = c.in_default.ensures.counts in let on = c.in_default.ensures.continues s.kind in
+    taken s _ c.args.chunk.now cut (rw here refl) (omega arith) c.front_of-chunk.ensures counts (rw here on) (λ d given part.
+    given_on (Records c.in-Records.next) (Records now.next) s.kind s.kind s.stand now.stand s.buffer now.buffer d cut counts on
+    given.as_long (rw here at given).known part)
 
-pub returns-in_default-clause-goes_on : goal.returns-in_default-clause-goes_on
-returns-in_default-clause-goes_on c = λ front came.
-    let s = c.args.self.now in
-    let here = rw c.in-Records.is at came in
-    rw (c.front_of-chunk.ensures, here.1.as_many) at (c.in_default.ensures.goes_on s.kind front here)
-
-pub returns-in_default-clause-complete : goal.returns-in_default-clause-complete
-returns-in_default-clause-complete c = λ front came.
-    let s = c.args.self.now in
-    let here = rw c.in-Records.is at came in
-    rests_cut front c.args.chunk.now c.front_of-chunk.result.now s.stand.passed s.stand.told here.1.as_many
-    c.front_of-chunk.ensures (c.in_default.ensures.complete s.kind front here)
-
-pub returns-in_default-clause-parts : goal.returns-in_default-clause-parts
-returns-in_default-clause-parts c = λ d given has.
-    let s = c.args.self.now in
-    let cut = c.front_of-chunk.result.now in
-    let is = cut_part d cut s.stand.passed (length c.args.chunk.now) (c.front_of-chunk.ensures ∙ (rw given.as_long at has)) in
-    let here = rw c.in-Records.is at given in
-    let now = c.walk-found.new in
-    given_on (Records now.next) s.kind now.stand now.buffer d cut s.stand.passed s.stand.told given.as_long is
-    c.in_default.ensures.told c.in_default.ensures.holds c.in_default.ensures.passed
-    (c.in_default.ensures.goes_on s.kind (take s.stand.passed d) here.known)
-    (c.in_default.ensures.complete s.kind (take s.stand.passed d) here.known)
-    (c.in_default.ensures.marked s.kind (take s.stand.passed d) here.known)
-
-pub returns-in-Footer-clause-parts : goal.returns-in-Footer-clause-parts
-returns-in-Footer-clause-parts c = λ d given has.
-    let s = c.args.self.now in
-    let cut = c.front_of-chunk.result.now in
-    let is = cut_part d cut s.stand.passed (length c.args.chunk.now) (c.front_of-chunk.ensures ∙ (rw given.as_long at has)) in
-    c.wait-self.ensures.parts d (rw c.in-Footer.is at given) is
+pub returns-in-Footer : goal.returns-in-Footer
+returns-in-Footer c =
+    let s = c.args.self.now in let cut = c.front_of-chunk.result.now in let here = c.in-Footer.is in
+    taken s _ c.args.chunk.now cut (rw here refl) (omega arith) c.front_of-chunk.ensures c.wait-self.ensures.counts
+    (rw here c.wait-self.ensures.continues) (λ d given part. c.wait-self.ensures.parts d (rw here at given) part)
 
 pub invariant_of-self-clause-pending : goal.invariant_of-self-clause-pending
 invariant_of-self-clause-pending c = none_searched c.begin.new.into _ _

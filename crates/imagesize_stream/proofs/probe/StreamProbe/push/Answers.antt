@@ -17,25 +17,22 @@ returns-clause-says c = λ front came.
     let new = c.take_in.new.self in let told = c.args.self.now.stand.told in
     let same = c.pass_over.ensures.stays c.if-pass_over.false in
     let goes_on = rw same at c.take_in.ensures.goes_on in
-    tells_all new.kind new.stage new.stand.start new.stand.offset new.stand.passed new.stand.told told new.buffer
-    (front ++ take (told - length front) c.args.chunk.now) c.answer.result c.answer.ensures.is
-    (c.take_in.ensures.told ∙ ap told_of same) (goes_on front came)
+    tells_all new.kind new.stage new.stand told new.buffer (front ++ take (told - length front) c.args.chunk.now) c.answer.result
+    c.answer.ensures.is (c.take_in.ensures.told ∙ ap told_of same) (goes_on front came)
 
 pub returns-clause-typed : goal.returns-clause-typed
 returns-clause-typed c = λ none front came d begins as_long below.
     let told = c.args.self.now.stand.told in let new = c.take_in.new.self in
     let same = c.pass_over.ensures.stays c.if-pass_over.false in
     let goes_on = rw same at c.take_in.ensures.goes_on in let typed = rw same at c.take_in.ensures.typed in
-    type_complete new.kind new.stage new.stand.start new.stand.offset new.stand.passed new.stand.told told new.buffer
-    (front ++ take (told - length front) c.args.chunk.now) d none (c.take_in.ensures.told ∙ ap told_of same)
-    (goes_on front came) (typed front came) begins as_long
+    type_complete new.kind new.stage new.stand told new.buffer (front ++ take (told - length front) c.args.chunk.now) d none
+    (c.take_in.ensures.told ∙ ap told_of same) (goes_on front came) (typed front came) begins as_long
     (λ p here. let early = below p here in omega (arith, early, length-append front (take (told - length front) c.args.chunk.now)))
 
 pub returns-then-pass_over-clause-typed : goal.returns-then-pass_over-clause-typed
 returns-then-pass_over-clause-typed c = λ none front came d begins as_long below.
     let told = c.args.self.now.stand.told in let new = c.pass_over.new.self in
-    type_complete new.kind new.stage new.stand.start new.stand.offset new.stand.passed new.stand.told told new.buffer
-    (front ++ take (told - length front) c.args.chunk.now) d none c.pass_over.ensures.told
-    (c.pass_over.ensures.goes_on c.if-pass_over.true front came)
+    type_complete new.kind new.stage new.stand told new.buffer (front ++ take (told - length front) c.args.chunk.now) d none
+    c.pass_over.ensures.told (c.pass_over.ensures.goes_on c.if-pass_over.true front came)
     (c.pass_over.ensures.typed c.if-pass_over.true front came) begins as_long
     (λ p here. let early = below p here in omega (arith, early, length-append front (take (told - length front) c.args.chunk.now)))
