@@ -522,7 +522,7 @@ fn read_container<S: Source>(
     ensures runs { Follows (S.state source.old) (S.state source.new) (map_answer (said_at next.new offset) result)
         (heif_step (sought.Box container) offset) }
 {
-    match read_box(source, offset, container_name(container))? {
+    match read_named(container, source, offset)? {
         Found::Answer(found) => {
             // In `meta`, a version and flags come before the other boxes.
             let length = match container {
@@ -542,15 +542,23 @@ fn read_container<S: Source>(
     }
 }
 
-// The name of a container.
+// Reads the box at an offset, and whether it is this container. To compare with a constant name takes one instruction.
 #[inline(always)]
-fn container_name(container: Container) -> &'static [u8; 4]
-    ensures { result.now ≡ container_name container }
+fn read_named<S: Source>(
+    container: Container,
+    source: &mut S,
+    offset: u64,
+) -> Result<Found<FoundBox>, Halt>
+    ensures pays { IfOk result (λ _. Paid (S.state source.old) (S.state source.new) offset) }
+    ensures nears { IfOk result (λ found. Nears (S.state source.old) (S.state source.new) offset
+        (said_at {S = Unit {0}} tt offset found)) }
+    ensures runs { Follows (S.state source.old) (S.state source.new) (map_answer (said_at {S = Unit {0}} tt offset) result)
+        (searched_box (container_name container) offset) }
 {
     match container {
-        Container::Meta => b"meta",
-        Container::Iprp => b"iprp",
-        Container::Ipco => b"ipco",
+        Container::Meta => read_box(source, offset, b"meta"),
+        Container::Iprp => read_box(source, offset, b"iprp"),
+        Container::Ipco => read_box(source, offset, b"ipco"),
     }
 }
 
