@@ -1,14 +1,13 @@
 //! TIFF, by "TIFF Revision 6.0" (section 2), and BigTIFF, by "The BigTIFF File Format".
 ghost use Rattle.std.specs.Prelude.{◌≡◌, ◌+◌, ◌<◌, ◌≤◌, IfErr, IfOk, false, take, length};
-ghost use Rattle.imagesize_walked.specs.Tiff.{byte_order, count_bytes, directory_at, entry_bytes, head_bytes, is_tiff, field_type_in, field_type_of, side_with, stated_offset, tag_in, tiff, tiff_entries, tiff_entry, tiff_head, tiff_header, tiff_value, value_bytes, value_of, version_of};
+ghost use Rattle.imagesize_walked.specs.Tiff.{byte_order, count_bytes, directory_at, entry_bytes, head_bytes, is_tiff, field_type_in, field_type_of, side_with, stated_offset, tag_in, tiff, tiff_entry, tiff_head, tiff_header, tiff_value, value_bytes, value_of, version_of};
 ghost use Rattle.imagesize_walked.specs.Walks.{listed_end, listed_first, listed_step, tiff_open, tiff_step};
 ghost use Rattle.imagesize_walked.specs.declared.formats.tiff.Directory.TheVariants as directory;
 ghost use Rattle.imagesize_types.specs.Sides.{size_if_known};
-ghost use Rattle.imagesize_source.specs.Chain.{chain_at};
 ghost use Rattle.imagesize_source.specs.Paying.{Nears, Paid, ahead_of};
 ghost use Rattle.imagesize_source.specs.Walk.{said_at};
 ghost use Rattle.imagesize_source.specs.Reading.{is_stopped, map_answer, number_read};
-ghost use Rattle.imagesize_source.specs.State.{Runs, Follows, IsSound};
+ghost use Rattle.imagesize_source.specs.State.{Runs, Follows};
 
 use imagesize_source::readings::{
     read_bytes, read_exact_at, read_u16, read_u32, read_u64, read_whole_behind,
@@ -324,7 +323,6 @@ fn read_next<S: Source, const HEAD: usize, const VALUE: usize>(
 ) -> Result<Found<ImageSize>, Halt>
     requires head { HEAD ≡ head_bytes listed.old.version }
     requires value { VALUE ≡ value_bytes listed.old.version }
-    ensures version { listed.new.version ≡ listed.old.version }
     ensures nears { IfOk result (λ found. Nears (S.state source.old) (S.state source.new) offset (said_at listed.new offset found)) }
     ensures stays { IfErr result (λ _. listed.new ≡ listed.old) }
     ensures runs { Follows (S.state source.old) (S.state source.new) (map_answer (said_at listed.new offset) result)
