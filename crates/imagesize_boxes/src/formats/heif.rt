@@ -522,7 +522,7 @@ fn read_container<S: Source>(
     ensures runs { Follows (S.state source.old) (S.state source.new) (map_answer (said_at next.new offset) result)
         (heif_step (sought.Box container) offset) }
 {
-    match read_named(container, source, offset)? {
+    match read_box(source, offset, container_name(container))? {
         Found::Answer(found) => {
             // In `meta`, a version and flags come before the other boxes.
             let length = match container {
@@ -542,23 +542,15 @@ fn read_container<S: Source>(
     }
 }
 
-// Reads the box at an offset, and whether it is this container. To compare with a constant name takes one instruction.
+// The name of a container.
 #[inline(always)]
-fn read_named<S: Source>(
-    container: Container,
-    source: &mut S,
-    offset: u64,
-) -> Result<Found<FoundBox>, Halt>
-    ensures pays { IfOk result (λ _. Paid (S.state source.old) (S.state source.new) offset) }
-    ensures nears { IfOk result (λ found. Nears (S.state source.old) (S.state source.new) offset
-        (said_at {S = Unit {0}} tt offset found)) }
-    ensures runs { Follows (S.state source.old) (S.state source.new) (map_answer (said_at {S = Unit {0}} tt offset) result)
-        (searched_box (container_name container) offset) }
+fn container_name(container: Container) -> &'static [u8; 4]
+    ensures { result.now ≡ container_name container }
 {
     match container {
-        Container::Meta => read_box(source, offset, b"meta"),
-        Container::Iprp => read_box(source, offset, b"iprp"),
-        Container::Ipco => read_box(source, offset, b"ipco"),
+        Container::Meta => b"meta",
+        Container::Iprp => b"iprp",
+        Container::Ipco => b"ipco",
     }
 }
 
