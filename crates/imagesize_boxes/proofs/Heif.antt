@@ -12,10 +12,8 @@ use Rattle.std.specs.List.{find, last_or, sum_by}
 use Rattle.std.specs.Option.{option_or}
 use Rattle.std.specs.Prelude.{codes, flat_map, fold, nat_lt, nat_le, unwrap_or, ok_or, option_map, slice_get, filter}
 use Rattle.imagesize_boxes.specs.Heif.{heif_compression, is_general, is_named, box_size, box_searched, search_for, searched_box, extents_size, property_found, property_at, extents_of, rotations_of, skipped_bytes, no_pixels, largest_or_none, largest_extents, turn_by, heif_answer, property_or_answer, properties, heif, heif_in_meta, heif_in_iprp}
-use Rattle.imagesize_boxes.specs.Walks.{container_leads, container_name, earlier_largest, gathered_answer, gathered_first, gathered_with, heif_open, heif_step, list_step, property_or_result, search_step}
+use Rattle.imagesize_boxes.specs.Walks.{earlier_largest, gathered_answer, gathered_first, gathered_with, heif_ending, heif_open, heif_step, ipco_leads, iprp_leads, list_step, meta_leads, property_or_result, search_step}
 use Rattle.imagesize_boxes.specs.declared.formats.heif.Boxes as heif
-use Rattle.imagesize_boxes.specs.declared.formats.heif.Container.{Container}
-use Rattle.imagesize_boxes.specs.declared.formats.heif.Container.TheVariants.{Ipco, Iprp, Meta}
 use Rattle.imagesize_boxes.specs.declared.formats.heif.Sought.{Sought}
 use Rattle.imagesize_boxes.specs.declared.formats.heif.Sought.TheVariants as sought
 use Rattle.imagesize_boxes.specs.declared.formats.heif.FoundBox.{FoundBox}
@@ -31,7 +29,7 @@ use Rattle.imagesize_source.specs.declared.halt.Halt.TheVariants.{Corrupted, End
 use Rattle.imagesize_source.specs.declared.endian.Endian.TheVariants.{Big}
 use Rattle.imagesize_source.specs.Agreement.{IsLocal}
 use Rattle.imagesize_source.specs.Chain.{Said, Decided, Next, Advances, Chain, next_record, start, verdict, chain_at}
-use Rattle.imagesize_source.specs.Counts.{AtMost, Each}
+use Rattle.imagesize_source.specs.Counts.{AtMost}
 use Rattle.imagesize_source.specs.Input.{span_of}
 use Rattle.imagesize_source.specs.Layout.{Layout, accept, begin_record, bytes, refuse, done, layout_reads, bind, whole}
 use Rattle.imagesize_source.specs.Walk.{CanFollow, EndsBy, after, decides, run}
@@ -48,7 +46,7 @@ use Rattle.imagesize_source.proofs.Chains.{chain_stop}
 use Rattle.imagesize_source.proofs.Counts.{Bounded, bounded_then, then_within, total-span_of, total_behind}
 use Rattle.imagesize_source.proofs.Bytes.{first_four}
 use Rattle.imagesize_source.proofs.Layouts.{bind_bind, no_part, no_span, then_then}
-use Rattle.imagesize_source.proofs.Agreement.{each_texts, local_bytes, local_then, local_number}
+use Rattle.imagesize_source.proofs.Agreement.{local_bytes, local_then, local_number, without_texts}
 use Rattle.imagesize_source.proofs.Tests.{on_test}
 use Rattle.imagesize_source.proofs.Way.{RecordedLaws}
 use Rattle.imagesize_source.proofs.Lists.{last_push}
@@ -75,19 +73,20 @@ by_searched P tag offset head found small next =
     (λ _. on_test P (nat_lt (box_size head) 8) (refuse (InvalidHeifBoxSize (box_size head)))
     (done (Next tt (offset + box_size head))) (λ _. small) (λ no. next (grind (arith, nat_tests))))
 
--- each box of a search is after the one before
-searched_tells : (tag : List ℕ) (offset : ℕ) → Tells (λ p. offset < p) (searched_box tag offset)
-searched_tells tag offset = λ head. by_searched (Tells (λ p. offset < p)) tag offset head tt tt (λ big. omega arith)
-
 pub search_advances : (tag : List ℕ) (first : ℕ) (d : List ℕ) → Advances (search_for tag first) d
 search_advances tag first = advances (search_for tag first)
-    (λ passed offset. searched_tells tag offset) (λ passed offset. (omega arith, omega arith))
+    (λ passed offset head. by_searched (Tells (λ p. offset < p)) tag offset head tt tt (λ big. omega arith))
+    (λ passed offset. (omega arith, omega arith))
 
 -- from the end of the input on there is no box
 none_searched : (tag : List ℕ) (d : List ℕ) (offset : ℕ) → length d ≤ offset
     → uncounted (layout_reads d (searched_box tag offset)) ≡ refuses Ended
 none_searched tag d offset far =
     ap uncounted (bytes_beyond d offset 8 (λ head. box_searched tag offset head) far (omega arith))
+
+-- The boxes of a search over its name: each is after the one before.
+searched_tells : (tag : List ℕ) (offset : ℕ) → Tells (λ p. offset < p) (searched_box tag offset)
+searched_tells tag offset = λ head. by_searched (Tells (λ p. offset < p)) tag offset head tt tt (λ big. omega arith)
 
 pub search_tells : (boxes : heif.Boxes) (offset : ℕ) → Tells (λ p. offset < p) (search_step boxes offset)
 search_tells boxes offset = tells_bind (λ p. offset < p) (searched_box boxes.name offset) (after (λ _. boxes) decides)
@@ -340,44 +339,43 @@ list_saturated all offset at = saturated_by (λ p d. chain_at (properties all p)
     (refuses NotEnoughData) offset at
     (λ d p far. refused_chain (properties all p) d NotEnoughData (none_listed d [] (all - sum_by skipped_bytes []) p far))
 
--- what is found in a box is after its offset
-leads_tell : (c : Container) (offset : ℕ) (found : FoundBox) → Tells (λ p. offset < p) (container_leads c offset found)
-leads_tell Meta offset found = λ version. omega arith
-leads_tell Iprp offset found = omega arith
-leads_tell Ipco offset found = omega arith
-
 -- The whole way in one walk: each record is after the one before.
 pub heif_tells : (s : Sought) (offset : ℕ) → Tells (λ p. offset < p) (heif_step s offset)
-heif_tells (sought.Box c) offset =
-    tells_bind (λ p. offset < p) (searched_box (container_name c) offset) (after (λ _. sought.Box c) (container_leads c offset))
-    (searched_tells (container_name c) offset) (leads_tell c offset) (λ v q later. later)
+heif_tells sought.Meta offset =
+    tells_bind (λ p. offset < p) (searched_box (codes "meta") offset) (after (λ _. sought.Meta) (meta_leads offset))
+    (searched_tells (codes "meta") offset) (λ meta version. omega arith) (λ v q later. later)
+heif_tells sought.Iprp offset =
+    tells_bind (λ p. offset < p) (searched_box (codes "iprp") offset) (after (λ _. sought.Iprp) (iprp_leads offset))
+    (searched_tells (codes "iprp") offset) (λ iprp. omega arith) (λ v q later. later)
+heif_tells sought.Ipco offset =
+    tells_bind (λ p. offset < p) (searched_box (codes "ipco") offset) (after (λ _. sought.Ipco) (ipco_leads offset))
+    (searched_tells (codes "ipco") offset) (λ ipco. omega arith) (λ v q later. later)
 heif_tells (sought.Property g) offset =
     tells_bind (λ p. offset < p) (list_step g offset) (after sought.Property decides) (list_tells g offset) (λ size. tt)
     (λ g q later. later)
 
 pub heif_begins : (s : Sought) (offset : ℕ) → Begins offset (heif_step s offset)
-heif_begins (sought.Box c) offset = (omega arith, omega arith)
+heif_begins sought.Meta offset = (omega arith, omega arith)
+heif_begins sought.Iprp offset = (omega arith, omega arith)
+heif_begins sought.Ipco offset = (omega arith, omega arith)
 heif_begins (sought.Property g) offset =
     begins_bind offset (list_step g offset) (after sought.Property decides) (list_begins g offset) (λ size. tt) (λ size. tt)
 
 pub heif_follows : CanFollow heif_step
 heif_follows = states_follow heif_step heif_tells heif_begins
 
--- the result at the end of the input
-abbrev pub heif_ending : Sought → Result ImageSize Halt
-heif_ending (sought.Box c) = Err Ended
-heif_ending (sought.Property g) = gathered_answer g
-
 pub heif_ends : (s : Sought) → EndsBy heif_step s (heif_ending s)
-heif_ends (sought.Box c) d offset far =
-    ends_bind d (searched_box (container_name c) offset) (after (λ _. sought.Box c) (container_leads c offset)) (Err Ended)
-    (none_searched (container_name c) d offset far)
+heif_ends sought.Meta d offset far =
+    ends_bind d (searched_box (codes "meta") offset) (after (λ _. sought.Meta) (meta_leads offset)) (Err Ended)
+    (none_searched (codes "meta") d offset far)
+heif_ends sought.Iprp d offset far =
+    ends_bind d (searched_box (codes "iprp") offset) (after (λ _. sought.Iprp) (iprp_leads offset)) (Err Ended)
+    (none_searched (codes "iprp") d offset far)
+heif_ends sought.Ipco d offset far =
+    ends_bind d (searched_box (codes "ipco") offset) (after (λ _. sought.Ipco) (ipco_leads offset)) (Err Ended)
+    (none_searched (codes "ipco") d offset far)
 heif_ends (sought.Property g) d offset far =
     ends_after d (list_step g offset) sought.Property (gathered_answer g) (list_ends g d offset far)
-
--- what is read after the size of the first box
-abbrev behind_first : ℕ → List ℕ → Reads ImageSize
-behind_first first d = and_then (chain_at (search_for (codes "meta") first) d) (λ meta. heif_in_meta meta d)
 
 -- The walk over the whole way is the three searches, and the list.
 module _ (d : List ℕ) where
@@ -386,20 +384,21 @@ module _ (d : List ℕ) where
   onward = goes heif_step d (heif_follows d)
 
   -- a search, and what is read after its box
-  container_as : (c : Container) (first : ℕ) → run heif_step (sought.Box c) first d
-      ≡ and_then (chain_at (search_for (container_name c) first) d)
-      (λ found. and_then (layout_reads d (container_leads c found.offset found)) onward)
-  container_as c first =
-      run_as heif_step d (heif_follows d) (search_for (container_name c) first) (λ (_ : Unit {0}). sought.Box c) (λ _ _. tt)
-      (λ found. container_leads c found.offset found) (λ _ _. Unit {0}) (search_advances (container_name c) first d)
-      (λ held x offset known. ap (layout_reads d) (placed offset)) (λ held x offset v q known got. tt) tt tt
+  sought_as : (s : Sought) (tag : List ℕ) (leads : ℕ → FoundBox → Layout (Said Sought ImageSize))
+      → ((offset : ℕ) → heif_step s offset ≡ bind (searched_box tag offset) (after (λ _. s) (leads offset)))
+      → (first : ℕ)
+      → run heif_step s first d
+      ≡ and_then (chain_at (search_for tag first) d) (λ found. and_then (layout_reads d (leads found.offset found)) onward)
+  sought_as s tag leads is first =
+      run_as heif_step d (heif_follows d) (search_for tag first) (λ (_ : Unit {0}). s) (λ _ _. tt)
+      (λ found. leads found.offset found) (λ _ _. Unit {0}) (search_advances tag first d)
+      (λ held x offset known. ap (layout_reads d) (is offset ∙ placed offset)) (λ held x offset v q known got. tt) tt tt
     where
-      placed : (offset : ℕ) → heif_step (sought.Box c) offset
-          ≡ bind (searched_box (container_name c) offset) (after (λ _. sought.Box c) (λ found. container_leads c found.offset found))
+      placed : (offset : ℕ) → bind (searched_box tag offset) (after (λ _. s) (leads offset))
+          ≡ bind (searched_box tag offset) (after (λ _. s) (λ found. leads found.offset found))
       placed offset = λ i. begin_record (bytes offset 8 (λ head. by_searched
-          (λ t. bind t (after (λ _. sought.Box c) (container_leads c offset))
-          ≡ bind t (after (λ _. sought.Box c) (λ found. container_leads c found.offset found)))
-          (container_name c) offset head refl refl (λ _. refl) i))
+          (λ t. bind t (after (λ _. s) (leads offset)) ≡ bind t (after (λ _. s) (λ found. leads found.offset found)))
+          tag offset head refl refl (λ _. refl) i))
 
   properties_as : (all first : ℕ)
       → run heif_step (sought.Property (gathered_first all)) first d ≡ chain_at (properties all first) d
@@ -407,32 +406,34 @@ module _ (d : List ℕ) where
       run_within heif_step list_step sought.Property d (heif_follows d) (list_follows d) (λ g offset. refl) (gathered_first all) first
       ∙ list_is all first d
 
-  ipco_as : (first : ℕ) → run heif_step (sought.Box Ipco) first d ≡ and_then (chain_at (search_for (codes "ipco") first) d)
+  ipco_as : (first : ℕ) → run heif_step sought.Ipco first d ≡ and_then (chain_at (search_for (codes "ipco") first) d)
       (λ ipco. chain_at (properties ipco.size (ipco.offset + 8)) d)
   ipco_as first =
-      container_as Ipco first
+      sought_as sought.Ipco (codes "ipco") ipco_leads (λ offset. refl) first
       ∙ (λ i. and_then (chain_at (search_for (codes "ipco") first) d) (λ ipco. properties_as ipco.size (ipco.offset + 8) i))
 
-  iprp_as : (first : ℕ) → run heif_step (sought.Box Iprp) first d
+  iprp_as : (first : ℕ) → run heif_step sought.Iprp first d
       ≡ and_then (chain_at (search_for (codes "iprp") first) d) (λ iprp. heif_in_iprp iprp d)
   iprp_as first =
-      container_as Iprp first
+      sought_as sought.Iprp (codes "iprp") iprp_leads (λ offset. refl) first
       ∙ (λ i. and_then (chain_at (search_for (codes "iprp") first) d) (λ iprp. ipco_as (iprp.offset + 8) i))
 
-  meta_as : (first : ℕ) → run heif_step (sought.Box Meta) first d ≡ behind_first first d
+  meta_as : (first : ℕ) → run heif_step sought.Meta first d
+      ≡ and_then (chain_at (search_for (codes "meta") first) d) (λ meta. heif_in_meta meta d)
   meta_as first =
-      container_as Meta first
+      sought_as sought.Meta (codes "meta") meta_leads (λ offset. refl) first
       ∙ (λ i. and_then (chain_at (search_for (codes "meta") first) d) (λ meta. in_meta_as meta i))
     where
       in_meta_as : (meta : FoundBox)
-          → and_then (layout_reads d (container_leads Meta meta.offset meta)) onward ≡ heif_in_meta meta d
-      in_meta_as meta = sym (then_then (bytes_read d (meta.offset + 8) 4) (λ _. gives (Next (sought.Box Iprp) (meta.offset + 12)))
+          → and_then (layout_reads d (meta_leads meta.offset meta)) onward ≡ heif_in_meta meta d
+      in_meta_as meta = sym (then_then (bytes_read d (meta.offset + 8) 4) (λ _. gives (Next sought.Iprp (meta.offset + 12)))
           onward _ (λ version. sym (iprp_as (meta.offset + 12))))
 
 pub heif_is : (d : List ℕ) → heif d ≡ and_then (layout_reads d heif_open) (λ s. run heif_step s.records s.offset d)
 heif_is d =
-    then_then (number_read d Big 0 4) (λ first. gives (record { records = sought.Box Meta; offset = first }))
-    (λ s. run heif_step s.records s.offset d) (λ first. behind_first first d) (λ first. sym (meta_as d first))
+    then_then (number_read d Big 0 4) (λ first. gives (record { records = sought.Meta; offset = first }))
+    (λ s. run heif_step s.records s.offset d)
+    (λ first. and_then (chain_at (search_for (codes "meta") first) d) (λ meta. heif_in_meta meta d)) (λ first. sym (meta_as d first))
 
 -- the compression is read from at most 12 bytes, and is always told
 pub heif_compression_laws : (offset : ℕ) (head : List ℕ) → CompressionLaws 12 (heif_compression offset head)
@@ -441,6 +442,18 @@ heif_compression_laws offset head =
     on_test (CompressionLaws 12) (is_general (four_at 8 head)) _ _
     (λ _. record { few = (omega arith, λ _. tt); answers = λ _. tt })
     (λ _. record { few = tt; answers = tt })
+
+-- a box that is passed, or a property, is read from at most 20 bytes
+search_at_most : (tag : List ℕ) (offset : ℕ) (passed : List (Unit {0})) (q : ℕ)
+    → AtMost 20 ((search_for tag offset).said passed q)
+search_at_most tag offset passed q = (omega arith, λ head. by_searched (AtMost 12) tag q head tt tt (λ big. tt))
+
+property_at_most : (all offset : ℕ) (held : List Property) (q : ℕ) → AtMost 20 ((properties all offset).said held q)
+property_at_most all offset held q = (
+  omega arith,
+  λ bs. by_listed (AtMost 12) held (all - sum_by skipped_bytes held) q (whole 8 bs) (λ e. tt) (λ size. tt)
+      (omega arith, λ content. tt) (omega arith, λ content. tt) (λ size big. tt),
+)
 
 -- what follows is read behind the head of a box that was found
 abbrev behind_head : FoundBox → Option ℕ
@@ -465,37 +478,29 @@ forward_then from j k next to r f first rest = record {
   spends = λ d. spends_then (length d) from next to (r d) (λ x. f x d) (first.spends d) (λ x _. (rest x).spends d);
 }
 
--- a chain whose records are each read from at most 20 bytes
-along : {C X : Type 0} (c : Chain C X) (to : X → Option ℕ) → ((d : List ℕ) → Advances c d)
-    → ((held : List C) (q : ℕ) → Each 20 (c.said held q)) → ((held : List C) (q : ℕ) → Onto (said_to to) q (c.said held q))
-    → Forward c.first to 0 (λ d. chain_at c d)
-along c to adv few onto = record {
-  local = local_chain c adv (λ held q. each_texts false 20 (c.said held q) (few held q));
-  cost = λ d. chain_cost c d (adv d) 20 few;
-  spends = λ d. chain_onto c d to (adv d) onto;
+searched : (tag : List ℕ) (first : ℕ) → Forward first behind_head 0 (λ d. chain_at (search_for tag first) d)
+searched tag first = record {
+  local = local_chain (search_for tag first) (search_advances tag first)
+      (λ passed q. without_texts false 20 ((search_for tag first).said passed q) (search_at_most tag first passed q));
+  cost = λ d. chain_cost (search_for tag first) d (search_advances tag first d) 20 (search_at_most tag first);
+  spends = λ d. chain_onto (search_for tag first) d behind_head (search_advances tag first d) (λ held q. (
+    omega arith,
+    λ head. by_searched (Onto (said_to behind_head) (q + 8)) tag q head (omega arith) tt (λ big. omega arith),
+  ));
 }
 
-searched : (tag : List ℕ) (first : ℕ) → Forward first behind_head 0 (λ d. chain_at (search_for tag first) d)
-searched tag first = along (search_for tag first) behind_head (search_advances tag first)
-    (λ passed q. (omega arith, λ head. by_searched (AtMost 12) tag q head tt tt (λ big. tt)))
-    (λ passed q. (
-      omega arith,
-      λ head. by_searched (Onto (said_to behind_head) (q + 8)) tag q head (omega arith) tt (λ big. omega arith),
-    ))
-
 listed : (all first : ℕ) → Forward first ends 0 (λ d. chain_at (properties all first) d)
-listed all first = along (properties all first) ends (properties_advance all first)
-    (λ held q. (
-      omega arith,
-      λ bs. by_listed (AtMost 12) held (all - sum_by skipped_bytes held) q (whole 8 bs) (λ e. tt) (λ size. tt)
-          (omega arith, λ content. tt) (omega arith, λ content. tt) (λ size big. tt),
-    ))
-    (λ held q. (
-      omega arith,
-      λ bs. by_listed (Onto (said_to ends) (q + 8)) held (all - sum_by skipped_bytes held) q (whole 8 bs)
-          (λ e. tt) (λ size. tt) (omega arith, λ content. omega arith) (omega arith, λ content. omega arith)
-          (λ size big. omega arith),
-    ))
+listed all first = record {
+  local = local_chain (properties all first) (properties_advance all first)
+      (λ held q. without_texts false 20 ((properties all first).said held q) (property_at_most all first held q));
+  cost = λ d. chain_cost (properties all first) d (properties_advance all first d) 20 (property_at_most all first);
+  spends = λ d. chain_onto (properties all first) d ends (properties_advance all first d) (λ held q. (
+    omega arith,
+    λ bs. by_listed (Onto (said_to ends) (q + 8)) held (all - sum_by skipped_bytes held) q (whole 8 bs)
+        (λ e. tt) (λ size. tt) (omega arith, λ content. omega arith) (omega arith, λ content. omega arith)
+        (λ size big. omega arith),
+  ));
+}
 
 -- four bytes of version and flags
 version : (from next : ℕ) → next ≡ from + 4 → Forward from (λ _. Some next) 4 (λ d. bytes_read d from 4)
@@ -524,24 +529,29 @@ in_meta meta =
     (λ _. forward_then from 0 0 (λ iprp. iprp.offset + 8) ends (λ d. chain_at (search_for (codes "iprp") from) d)
     heif_in_iprp (searched (codes "iprp") from) in_iprp)
 
-in_first : (first : ℕ) → Forward first ends 4 (behind_first first)
-in_first first = forward_then first 0 4 (λ meta. meta.offset + 8) ends
+behind_first : (first : ℕ)
+    → Forward first ends 4 (λ d. and_then (chain_at (search_for (codes "meta") first) d) (λ meta. heif_in_meta meta d))
+behind_first first = forward_then first 0 4 (λ meta. meta.offset + 8) ends
     (λ d. chain_at (search_for (codes "meta") first) d) heif_in_meta (searched (codes "meta") first) in_meta
 
 -- With its type it is read from at most 28 bytes more than the input has: its first four may be read twice again. A box is
 -- read from at most 20 bytes. The properties may go on in bytes that follow.
 pub heif_laws : RecordedLaws 24 32 20 false false heif
 heif_laws = record {
-  local = local_then (λ d. number_read d Big 0 4) behind_first (local_number Big 0 4) (λ first. (in_first first).local);
+  local = local_then (λ d. number_read d Big 0 4)
+      (λ first d. and_then (chain_at (search_for (codes "meta") first) d) (λ meta. heif_in_meta meta d))
+      (local_number Big 0 4) (λ first. (behind_first first).local);
   cost = λ d. omega (
     arith,
-    bounded_then 20 4 4 (number_read d Big 0 4) (λ first. behind_first first d) (omega (arith, total-span_of d 0 4))
-        (λ first _. (in_first first).cost d),
+    bounded_then 20 4 4 (number_read d Big 0 4)
+        (λ first. and_then (chain_at (search_for (codes "meta") first) d) (λ meta. heif_in_meta meta d))
+        (omega (arith, total-span_of d 0 4)) (λ first _. (behind_first first).cost d),
   );
   within = λ d. omega (
     arith,
-    then_within (number_read d Big 0 4) (λ first. behind_first first d) 4 (length d) (total-span_of d 0 4)
-        (λ first _. omega (arith, (in_first first).spends d)),
+    then_within (number_read d Big 0 4)
+        (λ first. and_then (chain_at (search_for (codes "meta") first) d) (λ meta. heif_in_meta meta d)) 4 (length d)
+        (total-span_of d 0 4) (λ first _. omega (arith, (behind_first first).spends d)),
   );
   lasts = λ keeps. absurd cc;
 }

@@ -108,15 +108,18 @@ property_bytes (Skipped size) = size
 -- the properties in a list: the image sizes, the rotations, and the bytes of the other boxes
 abbrev pub extents_of : Property → List ImageSize
 extents_of (Extents size) = size ∷ []
-extents_of _ = []
+extents_of (Rotation turn) = []
+extents_of (Skipped size) = []
 
 abbrev pub rotations_of : Property → List ℕ
+rotations_of (Extents size) = []
 rotations_of (Rotation turn) = turn ∷ []
-rotations_of _ = []
+rotations_of (Skipped size) = []
 
 abbrev pub skipped_bytes : Property → ℕ
+skipped_bytes (Extents size) = 0
+skipped_bytes (Rotation turn) = 0
 skipped_bytes (Skipped size) = size
-skipped_bytes _ = 0
 
 abbrev pub no_pixels : ImageSize
 no_pixels = record { width = 0; height = 0 }

@@ -4,8 +4,6 @@ use Rattle.std.specs.Prelude.{◌++◌, codes, take, drop, replicate, ℕ, ◌+�
 use Rattle.imagesize_boxes.specs.Fields.{Fields, found_by}
 use Rattle.imagesize_boxes.specs.Heif.{no_pixels, property_at, property_bytes, searched_box, skipped_bytes, turn_by}
 use Rattle.imagesize_boxes.specs.declared.formats.heif.Boxes as heif
-use Rattle.imagesize_boxes.specs.declared.formats.heif.Container.{Container}
-use Rattle.imagesize_boxes.specs.declared.formats.heif.Container.TheVariants.{Ipco, Iprp, Meta}
 use Rattle.imagesize_boxes.specs.declared.formats.heif.FoundBox.{FoundBox}
 use Rattle.imagesize_boxes.specs.declared.formats.heif.Gathered.{Gathered}
 use Rattle.imagesize_boxes.specs.declared.formats.heif.Property.{Property}
@@ -18,13 +16,14 @@ use Rattle.imagesize_boxes.specs.declared.formats.jxl.boxes.Content.{Content}
 use Rattle.imagesize_boxes.specs.declared.formats.jxl.boxes.Content.TheVariants.{Codestream, Piece}
 use Rattle.imagesize_boxes.specs.declared.formats.jxl.boxes.BoxHead.{BoxHead}
 use Rattle.imagesize_source.specs.declared.halt.Halt.{Halt}
-use Rattle.imagesize_source.specs.declared.halt.Halt.TheVariants.{Corrupted, NotEnoughData}
+use Rattle.imagesize_source.specs.declared.halt.Halt.TheVariants.{Corrupted, Ended, NotEnoughData}
 use Rattle.imagesize_source.specs.declared.endian.Endian.TheVariants.{Big}
+use Rattle.imagesize_source.specs.declared.walk.Found.{Found}
 use Rattle.imagesize_source.specs.declared.walk.Start.{Start}
 use Rattle.imagesize_source.specs.Chain.{Said, Decided, Next}
 use Rattle.imagesize_source.specs.Layout.{Layout, accept, bind, bytes}
 use Rattle.imagesize_source.specs.Layout.Layout.{field, done}
-use Rattle.imagesize_source.specs.Walk.{Step, after, decides}
+use Rattle.imagesize_source.specs.Walk.{Step, after, decides, said_at}
 use Rattle.imagesize_types.specs.Largest.{area_if_some}
 use Rattle.imagesize_types.specs.Order.{area_of}
 use Rattle.imagesize_types.specs.declared.size.ImageSize.{ImageSize}
@@ -33,6 +32,10 @@ use Rattle.imagesize_types.specs.declared.size.ImageSize.{ImageSize}
 abbrev pub property_said : ℕ → Option Property → Said Property (Unit {0})
 property_said offset None = Decided tt
 property_said offset (Some property) = Next property (offset + property_bytes property)
+
+-- what a box says that was found at this offset
+abbrev pub box_said : ℕ → Found FoundBox → Said (Unit {0}) FoundBox
+box_said offset found = said_at tt offset found
 
 -- the next box of a search
 abbrev pub search_step : Step heif.Boxes FoundBox
@@ -70,32 +73,33 @@ property_or_result g offset (Some property) = done (Next (gathered_with g proper
 abbrev pub list_step : Step Gathered ImageSize
 list_step g offset = bind (property_at g.left offset) (property_or_result g offset)
 
--- the name of a container
-abbrev pub container_name : Container → List ℕ
-container_name Meta = codes "meta"
-container_name Iprp = codes "iprp"
-container_name Ipco = codes "ipco"
+-- what follows the boxes of a HEIF that were found at an offset
+abbrev pub meta_leads : ℕ → FoundBox → Layout (Said Sought ImageSize)
+meta_leads offset meta = bytes (offset + 8) 4 (λ version. done (Next sought.Iprp (offset + 12)))
 
--- what is sought in a container of this many bytes
-abbrev pub sought_in : Container → ℕ → Sought
-sought_in Meta size = sought.Box Iprp
-sought_in Iprp size = sought.Box Ipco
-sought_in Ipco size = sought.Property (gathered_first size)
+abbrev pub iprp_leads : ℕ → FoundBox → Layout (Said Sought ImageSize)
+iprp_leads offset iprp = done (Next sought.Ipco (offset + 8))
 
--- what follows a container that was found at an offset; in `meta`, a version and flags come before the other boxes
-abbrev pub container_leads : Container → ℕ → FoundBox → Layout (Said Sought ImageSize)
-container_leads Meta offset found = bytes (offset + 8) 4 (λ version. done (Next (sought_in Meta found.size) (offset + 12)))
-container_leads container offset found = done (Next (sought_in container found.size) (offset + 8))
+abbrev pub ipco_leads : ℕ → FoundBox → Layout (Said Sought ImageSize)
+ipco_leads offset ipco = done (Next (sought.Property (gathered_first ipco.size)) (offset + 8))
 
 -- the next box of a HEIF on the way to its properties, or the next of these
 abbrev pub heif_step : Step Sought ImageSize
-heif_step (sought.Box container) offset =
-    bind (searched_box (container_name container) offset) (after (λ _. sought.Box container) (container_leads container offset))
+heif_step sought.Meta offset = bind (searched_box (codes "meta") offset) (after (λ _. sought.Meta) (meta_leads offset))
+heif_step sought.Iprp offset = bind (searched_box (codes "iprp") offset) (after (λ _. sought.Iprp) (iprp_leads offset))
+heif_step sought.Ipco offset = bind (searched_box (codes "ipco") offset) (after (λ _. sought.Ipco) (ipco_leads offset))
 heif_step (sought.Property g) offset = bind (list_step g offset) (after sought.Property decides)
+
+-- the result at the end of the input
+abbrev pub heif_ending : Sought → Result ImageSize Halt
+heif_ending sought.Meta = Err Ended
+heif_ending sought.Iprp = Err Ended
+heif_ending sought.Ipco = Err Ended
+heif_ending (sought.Property g) = gathered_answer g
 
 -- where the search for `meta` begins: after the first box, by its size
 abbrev pub heif_open : Layout (Start Sought)
-heif_open = field Big 0 4 (λ first. done (record { records = sought.Box Meta; offset = first }))
+heif_open = field Big 0 4 (λ first. done (record { records = sought.Meta; offset = first }))
 
 -- what was found in the box at an offset
 abbrev pub content_said : ℕ → Content → Said (List ℕ) (List ℕ)

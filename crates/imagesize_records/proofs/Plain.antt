@@ -10,9 +10,8 @@ use Rattle.imagesize_boxes.specs.Heif.{property_found}
 use Rattle.imagesize_boxes.specs.Jxl.{box_head, piece_at}
 use Rattle.imagesize_boxes.specs.Walks.{heif_step, property_or_result}
 use Rattle.imagesize_boxes.specs.declared.formats.heif.Gathered.{Gathered}
-use Rattle.imagesize_boxes.specs.declared.formats.heif.Container.TheVariants.{Ipco, Iprp, Meta}
 use Rattle.imagesize_boxes.specs.declared.formats.heif.Sought.{Sought}
-use Rattle.imagesize_boxes.specs.declared.formats.heif.Sought.TheVariants.{Box, Property}
+use Rattle.imagesize_boxes.specs.declared.formats.heif.Sought.TheVariants.{Ipco, Iprp, Meta, Property}
 use Rattle.imagesize_boxes.specs.declared.formats.heif.Property as heif
 use Rattle.imagesize_source.proofs.Agreement.{costed_texts, with_texts}
 use Rattle.imagesize_source.specs.Agreement.{AllRead}
@@ -86,9 +85,9 @@ directory_plain (Count header) offset = search records
 directory_plain (Entry l) offset = search records depth 12 fits 3000
 
 sought_plain : (s : Sought) (offset : ℕ) → AllRead false (heif_step s offset)
-sought_plain (Box Meta) offset = search records
-sought_plain (Box Iprp) offset = search records
-sought_plain (Box Ipco) offset = search records
+sought_plain Meta offset = search records
+sought_plain Iprp offset = search records
+sought_plain Ipco offset = search records
 sought_plain (Property g) offset = search records depth 12 fits 3000
 
 -- a record that is no text

@@ -8,9 +8,8 @@ use Rattle.imagesize_source.specs.declared.text.Text.TheVariants as text
 use Rattle.imagesize_records.specs.declared.awaited.Awaited.{Awaited}
 use Rattle.imagesize_records.specs.declared.awaited.Awaited.TheVariants.{Exr, Hdr, Heif, Ico, Ilbm, Jpeg, Jxl, Pnm, Tiff}
 use Rattle.imagesize_boxes.specs.Walks.{heif_step, jxl_holds, jxl_step}
-use Rattle.imagesize_boxes.specs.declared.formats.heif.Container.TheVariants.{Meta}
 use Rattle.imagesize_boxes.specs.declared.formats.heif.Sought.{Sought}
-use Rattle.imagesize_boxes.specs.declared.formats.heif.Sought.TheVariants.{Box, Property}
+use Rattle.imagesize_boxes.specs.declared.formats.heif.Sought.TheVariants.{Ipco, Iprp, Meta, Property}
 use Rattle.imagesize_texts.specs.Exr.{exr_step, names_of}
 use Rattle.imagesize_texts.specs.Hdr.{hdr_step}
 use Rattle.imagesize_texts.specs.Walks.{pnm_step}
@@ -62,8 +61,9 @@ directory_reach (Count header) = count_bytes header.version
 directory_reach (Entry l) = entry_bytes l.version
 
 abbrev pub box_reach : Sought → ℕ
-box_reach (Box Meta) = 12
-box_reach (Box container) = 8
+box_reach Meta = 12
+box_reach Iprp = 8
+box_reach Ipco = 8
 box_reach (Property g) = 20
 
 -- How many bytes from its offset on a record is read at most. Of a JPEG, these are the marker and a frame's first fields. Of an EXR,

@@ -3,7 +3,7 @@ ghost use Rattle.std.specs.Prelude.{◌≡◌, ℕ, ◌<◌, ◌≤◌, true, If
 ghost use Rattle.imagesize_records.specs.FirstReads.{ReadsFirst, ReadsText};
 ghost use Rattle.imagesize_records.specs.Steps.{first_text, is_text, reach_at, step};
 
-use imagesize_boxes::formats::heif::{Container, Sought};
+use imagesize_boxes::formats::heif::Sought;
 use imagesize_boxes::formats::jxl::boxes::Boxes;
 use imagesize_source::Text;
 use imagesize_texts::formats::exr::names_of;
@@ -75,8 +75,8 @@ impl Awaited {
             Awaited::Ico(_) => 2,
             Awaited::Tiff(Directory::Count { header }) => count_bytes(header.version),
             Awaited::Tiff(Directory::Entry(listed)) => entry_bytes(listed.version),
-            Awaited::Heif(Sought::Box(Container::Meta)) => 12,
-            Awaited::Heif(Sought::Box(_)) => 8,
+            Awaited::Heif(Sought::Meta) => 12,
+            Awaited::Heif(Sought::Iprp | Sought::Ipco) => 8,
             Awaited::Heif(Sought::Property(_)) => 20,
             Awaited::Jxl(_) => 36,
             Awaited::Exr { long } => 2 * names_of(*long) as u64 + 20,

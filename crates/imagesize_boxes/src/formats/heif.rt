@@ -2,7 +2,7 @@
 //! properties and their list). The brands of AVIF are those of the AV1 Image File Format.
 ghost use Rattle.std.specs.Prelude.{◌≡◌, ◌+◌, ◌<◌, ◌≤◌, Some, IfErr, IfOk};
 ghost use Rattle.imagesize_boxes.specs.Heif.{box_size, brand_compression, compatible_compression, extents_size, heif, heif_compression, heif_in_iprp, heif_in_meta, is_general, is_heif, is_named, properties, property_at, property_bytes, search_for, searched_box, skipped_bytes, turn_by};
-ghost use Rattle.imagesize_boxes.specs.Walks.{container_name, property_said, earlier_largest, gathered_with, gathered_first, gathered_answer, heif_open, heif_step, list_step, search_step, sought_in, IsLeftFor};
+ghost use Rattle.imagesize_boxes.specs.Walks.{box_said, property_said, earlier_largest, gathered_with, gathered_first, gathered_answer, heif_open, heif_step, list_step, search_step, IsLeftFor};
 ghost use Rattle.imagesize_source.specs.Chain.{chain_at};
 ghost use Rattle.imagesize_source.specs.Paying.{Nears, Paid};
 ghost use Rattle.imagesize_source.specs.Walk.{said_at};
@@ -127,6 +127,7 @@ pub struct FoundBox {
 
 // Finds the first box with a name, from `offset + distance` on. An offset above 2^64 - 1 is past the end of every input.
 #[inline(always)]
+#[tactic(auto, using(crate::proofs::Heif::search_saturated))]
 fn search<S: Source>(
     source: &mut S,
     offset: u64,
@@ -187,9 +188,8 @@ impl Records for Boxes {
 #[tactic(auto, using(imagesize_source::proofs::Runs::steps))]
 fn read_box<S: Source>(source: &mut S, offset: u64, name: &[u8; 4]) -> Result<Found<FoundBox>, Halt>
     ensures pays { IfOk result (λ _. Paid (S.state source.old) (S.state source.new) offset) }
-    ensures nears { IfOk result (λ found. Nears (S.state source.old) (S.state source.new) offset
-        (said_at {S = Unit {0}} tt offset found)) }
-    ensures runs { Follows (S.state source.old) (S.state source.new) (map_answer (said_at {S = Unit {0}} tt offset) result)
+    ensures nears { IfOk result (λ found. Nears (S.state source.old) (S.state source.new) offset (box_said offset found)) }
+    ensures runs { Follows (S.state source.old) (S.state source.new) (map_answer (box_said offset) result)
         (searched_box name.now offset) }
 {
     // Read into a buffer: bytes returned in a result are copied in parts, and a load of the whole waits for all of them.
@@ -262,6 +262,7 @@ pub struct Gathered {
 
 // The size from the properties in this box.
 #[inline(always)]
+#[tactic(auto, using(crate::proofs::Heif::list_saturated))]
 fn largest<S: Source>(source: &mut S, ipco: FoundBox) -> Result<ImageSize, Halt>
     ensures { Runs (S.state source.old) (S.state source.new) result
         (chain_at (properties ipco.size (ipco.offset + 8)) (S.state source.old).held.input) }
@@ -443,22 +444,15 @@ fn turn_by(size: ImageSize, turn: Option<u8>) -> ImageSize
     }
 }
 
-/// A box of a HEIF that contains the properties, directly or in another box.
+/// What a stream looks for in a HEIF. Each record is a box or a property. In a slice, `size` searches for each box separately.
 #[derive(Clone, Copy)]
-pub enum Container {
+pub enum Sought {
     /// The box `meta`, after the first box.
     Meta,
     /// The box `iprp`, in `meta`.
     Iprp,
     /// The box `ipco`, in `iprp`.
     Ipco,
-}
-
-/// What a stream looks for in a HEIF. Each record is a box or a property. In a slice, `size` searches for each box separately.
-#[derive(Clone, Copy)]
-pub enum Sought {
-    /// A box that contains the properties.
-    Box(Container),
     /// The next property in `ipco`, with what the properties before it add up to.
     Property(Gathered),
 }
@@ -470,7 +464,7 @@ pub fn open<S: Source>(source: &mut S) -> Result<Start<Sought>, Halt>
 {
     let first = read_u32(source, 0, Endian::Big)?;
     Ok(Start {
-        records: Sought::Box(Container::Meta),
+        records: Sought::Meta,
         offset: first as u64,
     })
 }
@@ -494,7 +488,9 @@ impl Records for Sought {
         offset: u64,
     ) -> Result<Found<ImageSize>, Halt> {
         match self {
-            Sought::Box(container) => read_container(*container, self, source, offset),
+            Sought::Meta => read_meta(self, source, offset),
+            Sought::Iprp => read_iprp(self, source, offset),
+            Sought::Ipco => read_ipco(self, source, offset),
             Sought::Property(gathered) => read_listed(gathered, source, offset),
         }
     }
@@ -504,15 +500,13 @@ impl Records for Sought {
     fn at_end(&self) -> Result<ImageSize, Halt> {
         match *self {
             Sought::Property(gathered) => answer(gathered),
-            Sought::Box(_) => Err(Halt::Ended),
+            _ => Err(Halt::Ended),
         }
     }
 }
 
-// Reads the box at an offset. If it is this container, the search goes on in its content.
 #[tactic(auto, using(imagesize_source::proofs::Runs::steps, imagesize_source::proofs::Runs::missed_before, imagesize_source::proofs::Layouts::binding))]
-fn read_container<S: Source>(
-    container: Container,
+fn read_meta<S: Source>(
     next: &mut Sought,
     source: &mut S,
     offset: u64,
@@ -520,49 +514,64 @@ fn read_container<S: Source>(
     ensures nears { IfOk result (λ found. Nears (S.state source.old) (S.state source.new) offset (said_at next.new offset found)) }
     ensures stays { IfErr result (λ _. next.new ≡ next.old) }
     ensures runs { Follows (S.state source.old) (S.state source.new) (map_answer (said_at next.new offset) result)
-        (heif_step (sought.Box container) offset) }
+        (heif_step sought.Meta offset) }
 {
-    match read_box(source, offset, container_name(container))? {
-        Found::Answer(found) => {
-            // In `meta`, a version and flags come before the other boxes.
-            let length = match container {
-                Container::Meta => {
-                    read_content::<S, 4>(source, offset)?;
-                    12
-                }
-                _ => 8,
-            };
-            *next = sought_in(container, found.size);
-            Ok(Found::Other { length })
+    match read_box(source, offset, b"meta")? {
+        Found::Answer(_) => {
+            read_content::<S, 4>(source, offset)?;
+            *next = Sought::Iprp;
+            Ok(Found::Other { length: 12 })
         }
         Found::Other { length } => {
-            *next = Sought::Box(container);
+            *next = Sought::Meta;
             Ok(Found::Other { length })
         }
     }
 }
 
-// The name of a container.
-#[inline(always)]
-fn container_name(container: Container) -> &'static [u8; 4]
-    ensures { result.now ≡ container_name container }
+#[tactic(auto, using(imagesize_source::proofs::Runs::steps, imagesize_source::proofs::Runs::missed_before, imagesize_source::proofs::Layouts::binding))]
+fn read_iprp<S: Source>(
+    next: &mut Sought,
+    source: &mut S,
+    offset: u64,
+) -> Result<Found<ImageSize>, Halt>
+    ensures nears { IfOk result (λ found. Nears (S.state source.old) (S.state source.new) offset (said_at next.new offset found)) }
+    ensures stays { IfErr result (λ _. next.new ≡ next.old) }
+    ensures runs { Follows (S.state source.old) (S.state source.new) (map_answer (said_at next.new offset) result)
+        (heif_step sought.Iprp offset) }
 {
-    match container {
-        Container::Meta => b"meta",
-        Container::Iprp => b"iprp",
-        Container::Ipco => b"ipco",
+    match read_box(source, offset, b"iprp")? {
+        Found::Answer(_) => {
+            *next = Sought::Ipco;
+            Ok(Found::Other { length: 8 })
+        }
+        Found::Other { length } => {
+            *next = Sought::Iprp;
+            Ok(Found::Other { length })
+        }
     }
 }
 
-// What a stream looks for in this container of `size` bytes.
-#[inline(always)]
-fn sought_in(container: Container, size: u32) -> Sought
-    ensures { result ≡ sought_in container size }
+#[tactic(auto, using(imagesize_source::proofs::Runs::steps, imagesize_source::proofs::Runs::missed_before, imagesize_source::proofs::Layouts::binding))]
+fn read_ipco<S: Source>(
+    next: &mut Sought,
+    source: &mut S,
+    offset: u64,
+) -> Result<Found<ImageSize>, Halt>
+    ensures nears { IfOk result (λ found. Nears (S.state source.old) (S.state source.new) offset (said_at next.new offset found)) }
+    ensures stays { IfErr result (λ _. next.new ≡ next.old) }
+    ensures runs { Follows (S.state source.old) (S.state source.new) (map_answer (said_at next.new offset) result)
+        (heif_step sought.Ipco offset) }
 {
-    match container {
-        Container::Meta => Sought::Box(Container::Iprp),
-        Container::Iprp => Sought::Box(Container::Ipco),
-        Container::Ipco => Sought::Property(gathered_first(size)),
+    match read_box(source, offset, b"ipco")? {
+        Found::Answer(ipco) => {
+            *next = Sought::Property(gathered_first(ipco.size));
+            Ok(Found::Other { length: 8 })
+        }
+        Found::Other { length } => {
+            *next = Sought::Ipco;
+            Ok(Found::Other { length })
+        }
     }
 }
 
