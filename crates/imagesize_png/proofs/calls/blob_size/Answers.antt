@@ -1,7 +1,7 @@
-use Rattle.std.proofs.Common.{Result, refl, ap, ◌∙◌}
+use Rattle.std.proofs.Common.{◌≡◌, Result, refl, ap, subst, ◌∙◌}
 use Rattle.imagesize.proofs.Endings.{never_stopped, slice_answer, slice_unstopped}
 use Rattle.imagesize_png.proofs.Laws.{png_final, png_lasts, png_local, png_within}
-use Rattle.imagesize_png.specs.Png.{png_reads}
+use Rattle.imagesize_png.specs.Png.{png_of, png_reads}
 use Rattle.imagesize_source.proofs.Agreement.{same_by_local}
 use Rattle.imagesize_source.specs.Errors.{is_stopped}
 use Rattle.imagesize_source.specs.Outcome.{outcome_of}
@@ -10,8 +10,8 @@ use Rattle.imagesize_types.specs.declared.size.ImageSize.{ImageSize}
 use Rattle.imagesize_png.proofs.calls.blob_size.Goals as goal
 
 pub returns-clause-value : goal.returns-clause-value
-returns-clause-value c = c.with_error.ensures
-    ∙ slice_answer _ _ _ _ refl (never_stopped _ _ refl refl refl c.size-found.ensures) c.size-found.ensures
+returns-clause-value c = subst (λ d. c.with_error.result ≡ (png_of d 0).answer) c.new-source.ensures (c.with_error.ensures
+    ∙ slice_answer _ _ _ _ refl (never_stopped _ _ refl refl refl c.size-found.ensures) c.size-found.ensures)
 
 pub returns-clause-local : goal.returns-clause-local
 returns-clause-local c = λ offset e agrees.
