@@ -1,5 +1,5 @@
 -- TIFF: how a walk along the entries goes, how many bytes they are read from, and what it sees of an input.
-use Rattle.std.proofs.Common.{◌≡◌, ◌≢◌, ℕ, ◌+◌, ◌-◌, ◌<◌, ◌≤◌, Bool, true, false, cond, eqb, leb, List, [], ◌∷◌, ◌++◌, length, take, Option, Some, None, Result, Ok, Err, refl, sym, ap, ◌∙◌, subst, arith}
+use Rattle.std.proofs.Common.{◌≡◌, ◌≢◌, ℕ, ◌+◌, ◌-◌, ◌^◌, ◌<◌, ◌≤◌, min, Bool, true, false, cond, eqb, leb, List, [], ◌∷◌, ◌++◌, length, take, Option, Some, None, Result, Ok, Err, refl, sym, ap, ◌∙◌, subst, arith}
 use Rattle.std.proofs.lemmas.Bool.Decides.{nat_tests}
 use Rattle.std.proofs.lemmas.List.{append-nil, length_push}
 use Rattle.std.proofs.lemmas.List.Elements.{filter-append}
@@ -20,21 +20,21 @@ use Rattle.imagesize_types.specs.declared.size.ImageSize.{ImageSize}
 use Rattle.imagesize_source.specs.declared.halt.Halt.{Halt}
 use Rattle.imagesize_source.specs.declared.halt.Halt.TheVariants.{Ended, InvalidIfdValueLength, NoDimensionsInIfd}
 use Rattle.imagesize_source.specs.declared.endian.Endian.{Endian}
-use Rattle.imagesize_source.specs.Chain.{Said, Decided, Next, Advances, chain_at}
+use Rattle.imagesize_source.specs.Chain.{Said, Decided, Next, Advances, verdict, chain_at}
 use Rattle.imagesize_source.specs.Counts.{AtMost, Each}
 use Rattle.imagesize_source.specs.Extension.{Lasts, Never, Plain}
 use Rattle.imagesize_source.specs.Input.{span_of}
 use Rattle.imagesize_source.specs.declared.span.Span.{Span}
 use Rattle.imagesize_source.specs.Layout.{Layout, layout_reads, bind, whole, accept}
 use Rattle.imagesize_source.specs.Layout.Layout.{field, refuse, «done»}
-use Rattle.imagesize_source.specs.Reading.{Reads, and_then, bytes_at, gives, just, map_answer, number_at, number_read, refuses, uncounted}
+use Rattle.imagesize_source.specs.Reading.{Reads, and_then, bytes_at, gives, just, map_answer, number_at, number_read, refuses, uncounted, with_answer}
 use Rattle.imagesize_source.specs.Walk.{CanFollow, EndsBy, after, decides, run}
 use Rattle.imagesize_source.specs.declared.walk.Start.{Start}
 use Rattle.imagesize_source.proofs.Layouts.{no_span, over-bind, then_gives, then_then}
 use Rattle.imagesize_source.specs.State.{State, Runs, IsSound, total}
 use Rattle.imagesize_source.proofs.Advances.{Tells, Begins, advances, begins_bind, states_follow, tells_bind}
 use Rattle.imagesize_source.proofs.Ahead.{Ahead, chain_ahead}
-use Rattle.imagesize_source.proofs.PastTheEnd.{bytes_beyond}
+use Rattle.imagesize_source.proofs.PastTheEnd.{bytes_beyond, saturated_by}
 use Rattle.imagesize_source.proofs.ChainLaws.{chain_cost, local_chain, lasts_chain}
 use Rattle.imagesize_source.proofs.Counts.{Bounded, at_most, at_most_bind, bounded_layout, bounded_then, then_within, total-span_of, total_behind}
 use Rattle.imagesize_source.proofs.Answered.{on_answer}
@@ -42,7 +42,7 @@ use Rattle.imagesize_source.proofs.Agreement.{each_texts, local_layout, local_nu
 use Rattle.imagesize_source.proofs.Extension.{more, number_ok, onward_more}
 use Rattle.imagesize_source.proofs.Reached.{reads_nothing, runs_bind, refused_bind}
 use Rattle.imagesize_source.proofs.Runs.{total-append}
-use Rattle.imagesize_source.proofs.States.{ends_after, goes, run_is, run_unfolds, run_within}
+use Rattle.imagesize_source.proofs.States.{ends_after, goes, run_is, run_stop, run_unfolds, run_within}
 use Rattle.imagesize_source.proofs.Tests.{on_test}
 use Rattle.imagesize_source.proofs.Way.{RecordedLaws, answers_last}
 use Rattle.imagesize_source.proofs.Lists.{last_push}
@@ -377,6 +377,27 @@ tiff_is d =
 
     goes_on : Start Directory → Reads ImageSize
     goes_on s = run tiff_step s.records s.offset d
+
+-- so a directory beyond 64 bits serves as well at the greatest offset
+pub entries_saturated : {a b : State} {r : Result ImageSize Halt} (header : Header) (count at : ℕ)
+    → Runs a b r (run listed_step (listed_first header count) at a.held.input)
+    → at ≡ min (header.directory + count_bytes header.version) (2 ^ 64 - 1)
+    → Runs a b r (chain_at (tiff_entries header count) a.held.input)
+entries_saturated {a} header count at runs is = rw (← entries_are header count a.held.input)
+    (saturated_by (λ p d. run listed_step (listed_first header count) p d) (just (listed_end (listed_first header count)) [])
+    (header.directory + count_bytes header.version) at none_there runs is)
+  where
+    decided : (r : Result ImageSize Halt) → verdict (map_answer {Y = Said Listed ImageSize} Decided r) ≡ Some r
+    decided (Ok x) = refl
+    decided (Err e) = refl
+
+    none_there : (d : List ℕ) (p : ℕ) → length d ≤ p
+        → uncounted (run listed_step (listed_first header count) p d) ≡ just (listed_end (listed_first header count)) []
+    none_there d p far =
+        let none = listed_ends (listed_first header count) d p far in
+        let why : Result ImageSize Halt = listed_end (listed_first header count) in
+        ap uncounted (run_stop listed_step d (listed_follows d) (listed_first header count) p why
+        (ap (λ r. verdict r.answer) none ∙ decided why)) ∙ ap (with_answer why) none
 
 entry_each : (header : Header) (count : ℕ) (entries : List Entry) (offset : ℕ)
     → Each 20 ((tiff_entries header count).said entries offset)

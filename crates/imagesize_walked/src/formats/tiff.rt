@@ -1,13 +1,14 @@
 //! TIFF, by "TIFF Revision 6.0" (section 2), and BigTIFF, by "The BigTIFF File Format".
 ghost use Rattle.std.specs.Prelude.{◌≡◌, ◌+◌, ◌<◌, ◌≤◌, IfErr, IfOk, false, take, length};
-ghost use Rattle.imagesize_walked.specs.Tiff.{byte_order, count_bytes, directory_at, entry_bytes, head_bytes, is_tiff, field_type_in, field_type_of, side_with, stated_offset, tag_in, tiff, tiff_entry, tiff_head, tiff_header, tiff_value, value_bytes, value_of, version_of};
+ghost use Rattle.imagesize_walked.specs.Tiff.{byte_order, count_bytes, directory_at, entry_bytes, head_bytes, is_tiff, field_type_in, field_type_of, side_with, stated_offset, tag_in, tiff, tiff_entries, tiff_entry, tiff_head, tiff_header, tiff_value, value_bytes, value_of, version_of};
 ghost use Rattle.imagesize_walked.specs.Walks.{listed_end, listed_first, listed_step, tiff_open, tiff_step};
 ghost use Rattle.imagesize_walked.specs.declared.formats.tiff.Directory.TheVariants as directory;
 ghost use Rattle.imagesize_types.specs.Sides.{size_if_known};
+ghost use Rattle.imagesize_source.specs.Chain.{chain_at};
 ghost use Rattle.imagesize_source.specs.Paying.{Nears, Paid, ahead_of};
 ghost use Rattle.imagesize_source.specs.Walk.{said_at};
 ghost use Rattle.imagesize_source.specs.Reading.{is_stopped, map_answer, number_read};
-ghost use Rattle.imagesize_source.specs.State.{Runs, Follows};
+ghost use Rattle.imagesize_source.specs.State.{Runs, Follows, IsSound};
 
 use imagesize_source::readings::{
     read_bytes, read_exact_at, read_u16, read_u32, read_u64, read_whole_behind,
@@ -30,11 +31,13 @@ pub fn matches(head: &[u8; 12]) -> bool
 }
 
 /// The width and the height in pixels. They are known after the first entry of the first directory that completes them.
+#[tactic(auto, using(imagesize_source::proofs::Runs::steps))]
 pub fn size<S: Source>(source: &mut S) -> Result<ImageSize, Halt>
     ensures { Runs (S.state source.old) (S.state source.new) result (tiff (S.state source.old).held.input) }
 {
-    let start = open(source)?;
-    walk(start.records, source, start.offset)
+    let header = read_header(source)?;
+    let count = read_count(source, &header, header.directory)?;
+    find_size(source, &header, count)
 }
 
 /// Reads the header. Returns the state before the first directory, and the offset of that directory.
@@ -185,6 +188,37 @@ fn read_long<S: Source>(source: &mut S, offset: u64, order: Endian) -> Result<u6
     Ok(order.u64(bytes))
 }
 
+// The size from the first `count` entries of the directory.
+fn find_size<S: Source>(source: &mut S, header: &Header, count: u64) -> Result<ImageSize, Halt>
+    requires { IsSound (S.state source.old) }
+    ensures { Runs (S.state source.old) (S.state source.new) result
+        (chain_at (tiff_entries header.now count) (S.state source.old).held.input) }
+{
+    match header.version {
+        Version::Tiff => find_size_of::<S, 8, 4>(source, header, count),
+        Version::BigTiff => find_size_of::<S, 12, 8>(source, header, count),
+    }
+}
+
+// The size from the first `count` entries. An entry has a head of `HEAD` bytes and a value of `VALUE` bytes. An offset above 2^64
+// - 1 is past the end of every input.
+#[inline(always)]
+fn find_size_of<S: Source, const HEAD: usize, const VALUE: usize>(
+    source: &mut S,
+    header: &Header,
+    count: u64,
+) -> Result<ImageSize, Halt>
+    requires sound { IsSound (S.state source.old) }
+    requires head { HEAD ≡ head_bytes header.now.version }
+    requires value { VALUE ≡ value_bytes header.now.version }
+    ensures { Runs (S.state source.old) (S.state source.new) result
+        (chain_at (tiff_entries header.now count) (S.state source.old).held.input) }
+{
+    let listed = listed_first(header, count);
+    let first = header.directory.saturating_add(count_bytes(header.version));
+    walk(Entries::<HEAD, VALUE> { listed }, source, first)
+}
+
 /// How the directory's entries are read, how many are left, and the width and the height from those that were read.
 #[derive(Clone, Copy)]
 pub struct Listed {
@@ -211,6 +245,44 @@ fn listed_first(header: &Header, count: u64) -> Listed
         left: count,
         width: None,
         height: None,
+    }
+}
+
+/// The entries of the directory, each with a head of `HEAD` bytes and a value of `VALUE` bytes.
+#[derive(Drop)]
+pub struct Entries<const HEAD: usize, const VALUE: usize> {
+    /// The state before the next entry.
+    pub listed: Listed,
+    ghost head: { HEAD ≡ head_bytes listed.version },
+    ghost value: { VALUE ≡ value_bytes listed.version },
+}
+
+impl<const HEAD: usize, const VALUE: usize> Records for Entries<HEAD, VALUE> {
+    type State = Listed;
+
+    type Answer = ImageSize;
+
+    ghost step = { listed_step };
+
+    ghost state = { λ entries. entries.listed };
+
+    ghost holds = { λ entries offset. Unit {0} };
+
+    // Reads the entry at an offset.
+    #[inline(always)]
+    fn read_record<S: Source>(
+        &mut self,
+        source: &mut S,
+        offset: u64,
+    ) -> Result<Found<ImageSize>, Halt> {
+        read_next::<S, HEAD, VALUE>(&mut self.listed, source, offset)
+    }
+
+    // No entry is left, or the input ends before the next one.
+    #[inline(always)]
+    #[tactic(auto, using(crate::proofs::Tiff::listed_ends))]
+    fn at_end(&self) -> Result<ImageSize, Halt> {
+        none_left(&self.listed)
     }
 }
 
@@ -323,6 +395,7 @@ fn read_next<S: Source, const HEAD: usize, const VALUE: usize>(
 ) -> Result<Found<ImageSize>, Halt>
     requires head { HEAD ≡ head_bytes listed.old.version }
     requires value { VALUE ≡ value_bytes listed.old.version }
+    ensures version { listed.new.version ≡ listed.old.version }
     ensures nears { IfOk result (λ found. Nears (S.state source.old) (S.state source.new) offset (said_at listed.new offset found)) }
     ensures stays { IfErr result (λ _. listed.new ≡ listed.old) }
     ensures runs { Follows (S.state source.old) (S.state source.new) (map_answer (said_at listed.new offset) result)
