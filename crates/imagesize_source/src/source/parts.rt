@@ -2,6 +2,7 @@
 //! misses.
 ghost use Rattle.std.specs.Prelude.{◌≡◌, ℕ, List, ◌+◌, ◌-◌, ◌<◌, ◌≤◌, ◌++◌, ◌&&◌, [], ◌∷◌, if◌then◌else◌, min, take, drop, length, slice_index, not, nat_le, nat_lt, is_some, true, false, None, Some, IfErr, IfOk, IfSome, IsSomeAnd};
 ghost use Rattle.std.specs.Option.{ForSome};
+ghost use Rattle.imagesize_source.specs.Agreement.{has_offset};
 ghost use Rattle.imagesize_source.specs.Input.{part, span_at};
 ghost use Rattle.imagesize_source.specs.Known.{AllKnown, Lacks, LeavesOut, filled_input, byte_in_parts, byte_of, parts_state, length_within};
 ghost use Rattle.imagesize_source.specs.Reading.{part_read, text_read, map_answer};
@@ -95,8 +96,39 @@ impl<'a> PartsSource<'a> {
         self.missed = None;
     }
 
+    // Records `count` bytes from an offset on. Without bytes it records no span.
+    #[inline(always)]
+    #[tactic(auto, unfolding(crate::specs::Input::span_at))]
+    fn see(&mut self, start: u64, count: usize)
+        requires { (i : ℕ) → i < count → is_some (byte_in_parts self.old.told self.old.spans.now self.old.bytes.now (start + i)) ≡ true }
+        ensures spans { self.new.spans.now ≡ self.old.spans.now }
+        ensures bytes { self.new.bytes.now ≡ self.old.bytes.now }
+        ensures told { self.new.told ≡ self.old.told }
+        ensures seen { self.new.log.spans ≡ self.old.log.spans ++ span_at start count }
+        ensures missed { self.new.missed ≡ self.old.missed }
+    {
+        if count > 0 {
+            let len = count as u64;
+            self.push(Span { start, len });
+        }
+    }
+
+    // Records a span.
+    #[inline(always)]
+    #[tactic(auto, using(crate::proofs::Known::pushed_known))]
+    fn push(&mut self, span: Span)
+        requires { (offset : ℕ) → has_offset span offset ≡ true
+            → is_some (byte_in_parts self.old.told self.old.spans.now self.old.bytes.now offset) ≡ true }
+        ensures spans { self.new.spans.now ≡ self.old.spans.now }
+        ensures bytes { self.new.bytes.now ≡ self.old.bytes.now }
+        ensures told { self.new.told ≡ self.old.told }
+        ensures pushed { self.new.log.spans ≡ self.old.log.spans ++ span ∷ [] }
+        ensures missed { self.new.missed ≡ self.old.missed }
+    {
+        self.log = SpanLog::with(&self.log, &span);
+    }
+
     // Records a read whose first `count` bytes are known and whose next byte is missing.
-    #[tactic(auto, using(crate::proofs::Known::seen_known))]
     fn miss(&mut self, start: u64, count: usize, sure: usize, most: usize) -> Halt
         requires known { (i : ℕ) → i < count
             → is_some (byte_in_parts self.old.told self.old.spans.now self.old.bytes.now (start + i)) ≡ true }
@@ -111,7 +143,7 @@ impl<'a> PartsSource<'a> {
         ensures missed { self.new.missed ≡ Some (record { start = start + count; sure = sure; most = most }) }
         ensures halts { result ≡ Halt.Failed }
     {
-        self.log.see(start, count);
+        self.see(start, count);
         self.missed = Some(Missing {
             start: start + count as u64,
             sure: sure as u64,
@@ -266,7 +298,6 @@ impl<'a> PartsSource<'a> {
     // A read that `front` does not contain as a whole.
     #[cold]
     #[inline(never)]
-    #[tactic(auto, using(crate::proofs::Known::seen_known))]
     fn gather_at(&mut self, offset: u64, buffer: &mut [u8]) -> Result<usize, Halt>
         ensures bound { IfOk result (λ n. n ≤ length buffer.new) }
         ensures there { IfOk result (λ n. n ≤ self.old.told - offset) }
@@ -284,7 +315,7 @@ impl<'a> PartsSource<'a> {
             let missing = wanted - found;
             return Err(self.miss(offset, found, missing, missing));
         }
-        self.log.see(offset, found);
+        self.see(offset, found);
         Ok(found)
     }
 
@@ -306,7 +337,7 @@ impl<'a> PartsSource<'a> {
         let Some(count) = uncut_length(text, &buffer[..found], searched, wanted) else {
             return Err(self.miss(offset, found, 1, wanted - found));
         };
-        self.log.see(offset, count);
+        self.see(offset, count);
         Ok(count)
     }
 }
@@ -333,13 +364,12 @@ impl Source for PartsSource<'_> {
     fn pass(&mut self, _counts: Counts) {}
 
     #[inline(always)]
-    #[tactic(auto, using(crate::proofs::Known::seen_known))]
     fn read_at(&mut self, offset: u64, buffer: &mut [u8]) -> Result<usize, Halt> {
         let Some(found) = whole_part(self.front, offset, buffer.len()) else {
             return self.gather_at(offset, buffer);
         };
         buffer.copy_from_slice(found);
-        self.log.see(offset, found.len());
+        self.see(offset, found.len());
         Ok(found.len())
     }
 
@@ -348,7 +378,7 @@ impl Source for PartsSource<'_> {
         let Some(count) = copy_ended(bytes_behind(self.front, offset), text, buffer) else {
             return self.gather_text(offset, text, buffer);
         };
-        self.log.see(offset, count);
+        self.see(offset, count);
         Ok(count)
     }
 }

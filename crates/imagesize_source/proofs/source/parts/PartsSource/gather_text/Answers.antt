@@ -2,7 +2,6 @@ use Rattle.std.proofs.Common.{◌-◌, ◌+◌, arith, refl}
 use Rattle.std.proofs.lemmas.List.{length-drop, length-take}
 use Rattle.imagesize_source.specs.Input.{part}
 use Rattle.imagesize_source.proofs.Gathering.{front_there}
-use Rattle.imagesize_source.proofs.Known.{seen_known}
 use Rattle.imagesize_source.proofs.KnownReadings.{parts_text, parts_text_missing}
 use Rattle.imagesize_source.proofs.Unended.{open_first, open_part}
 use Rattle.imagesize_source.proofs.source.parts.PartsSource.gather_text.Goals as goal
@@ -30,12 +29,3 @@ returns-clause-runs c =
     f.result.1 f.result.0 c.in-Some.count f.ensures.wanted f.ensures.within f.ensures.copied
     (grind (arith, length-take, c.in-Some.ensures.uncut)) c.in-Some.ensures.length
     (cc)
-
-pub invariant_of-self-clause-seen : goal.invariant_of-self-clause-seen
-invariant_of-self-clause-seen c =
-    let f = c.fill_known-found in
-    let s = f.new.self in
-    seen_known s.told s.spans.now s.bytes.now s.log.spans _ c.args.offset c.in-Some.count s.seen
-    (λ i below. rw (f.ensures.told, f.ensures.spans, f.ensures.bytes)
-    (f.ensures.known i (grind (arith, length-take, c.in-Some.ensures.within, below))))
-    c.see.ensures

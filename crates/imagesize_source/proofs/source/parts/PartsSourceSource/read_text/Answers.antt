@@ -1,9 +1,8 @@
-use Rattle.std.proofs.Common.{ℕ, ◌+◌, is_some, length, arith, ap, sym, ◌∙◌, take}
+use Rattle.std.proofs.Common.{ℕ, length, arith, ap, sym, ◌∙◌, take}
 use Rattle.std.proofs.lemmas.List.{length-drop}
 use Rattle.imagesize_source.specs.Input.{part}
 use Rattle.imagesize_source.specs.Text.{is_ended, text_front}
 use Rattle.imagesize_source.proofs.Gathering.{front_there}
-use Rattle.imagesize_source.proofs.Known.{seen_known}
 use Rattle.imagesize_source.proofs.KnownReadings.{parts_ended}
 use Rattle.imagesize_source.proofs.source.parts.PartsSourceSource.read_text.Goals as goal
 
@@ -27,11 +26,3 @@ returns-clause-runs c =
     (ap (is_ended c.args.text) has.copied ∙ has.ended)
     (ap (text_front c.args.text) has.copied ∙ has.whole ∙ sym has.copied)
     (cc)
-
-pub invariant_of-self-clause-seen : goal.invariant_of-self-clause-seen
-invariant_of-self-clause-seen c =
-    let s = c.args.self.now in
-    let n : ℕ = c.in-Some.count in
-    let long = ap length c.bytes_behind.ensures ∙ length-drop c.args.offset s.front.now in
-    seen_known s.told s.spans.now s.bytes.now s.log.spans _ c.args.offset n s.seen
-    (λ i below. ap is_some (s.front_known (c.args.offset + i) (omega (arith, long, below, c.in-Some.ensures.there)))) c.see.ensures
