@@ -1,5 +1,5 @@
 //! Texts within an input: bytes up to one that ends them.
-ghost use Rattle.std.specs.Prelude.{◌≡◌, ◌+◌, ◌++◌, ◌≤◌, [], ◌∷◌, not, true, false, None, length, take, drop, IfSome, IsTrue};
+ghost use Rattle.std.specs.Prelude.{◌≡◌, ◌+◌, ◌++◌, ◌≤◌, not, true, false, None, length, take, drop, IfSome, IsTrue};
 ghost use Rattle.std.specs.List.{list_any, position, position_or_len};
 ghost use Rattle.std.specs.Char.{is_ascii_whitespace};
 ghost use Rattle.imagesize_source.specs.Text.{front_through, has_begun, is_ended, text_front};
@@ -62,19 +62,6 @@ pub fn ended_behind(text: Text, first: &[u8], rest: &[u8]) -> Option<usize>
         Text::Line { delimiter } => line_length(delimiter, rest),
         Text::Word if has_begun(first) => through_white(rest),
         Text::Word => word_length(rest),
-    }
-}
-
-/// Whether a byte ends a text that begins with `first`. The bytes of `first` do not end it. This needs no search.
-#[inline(always)]
-#[tactic(auto, using(crate::proofs::Unended::line_on, crate::proofs::Unended::word_on), unfolding(crate::specs::Text::is_ended))]
-pub fn ends_at(text: Text, first: &[u8], byte: u8) -> bool
-    requires { is_ended text first.now ≡ false }
-    ensures { result ≡ is_ended text (first.now ++ byte ∷ []) }
-{
-    match text {
-        Text::Line { delimiter } => byte == delimiter,
-        Text::Word => byte.is_ascii_whitespace() && has_begun(first),
     }
 }
 
