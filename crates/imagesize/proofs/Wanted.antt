@@ -14,7 +14,7 @@ use Rattle.imagesize.proofs.Endings.{slice_unstopped, only_fault}
 use Rattle.imagesize_types.specs.declared.size.ImageSize.{ImageSize}
 use Rattle.imagesize_source.specs.declared.error.ImageError.{ImageError}
 use Rattle.imagesize_source.specs.declared.halt.Halt.{Halt}
-use Rattle.imagesize_source.specs.declared.source.parts.Missing.{Missing}
+use Rattle.imagesize_source.specs.declared.source.known.Missing.{Missing}
 use Rattle.imagesize_source.specs.declared.span.Span.{Span}
 use Rattle.imagesize_source.specs.Agreement.{Agrees, EndsBetween, IsLocal, Parting, is_covered, has_offset, has_whole}
 use Rattle.imagesize_source.specs.Input.{span_at}
@@ -41,7 +41,7 @@ pub record Called {X : Type 0} (f : List ℕ → Reads X) (n : ℕ) (spans : Lis
   pub runs : Runs (parts_state n spans bytes [] None) (parts_state n spans bytes log missed) r
       (f (filled_input n spans bytes))
   pub seen : AllKnown n spans bytes log
-  pub lacks : ForSome missed (Lacks n spans bytes)
+  pub lacks : ForSome missed (Lacks (record { told = n; spans = spans; bytes = bytes }))
 
 logged : (a b : State) (s t : List Span) → a ≡ b → a.recorded ≡ Some s → b.recorded ≡ Some t → s ≡ t
 logged a b s t e here there = grind arith
@@ -104,7 +104,7 @@ agrees_known d n spans bytes marks has all = grind (arith, length-filled_input, 
 by_fault : {X T : Type 0} {f : List ℕ → Reads X} {n : ℕ} {spans : List Span} {bytes : List ℕ} {log : List Span}
     {missed : Option Missing} {r : Result X Halt} (P : PartsAnswer T → Type 0) (found : T) (texts : Bool) → n < 2 ^ 63
     → Called f n spans bytes log missed r → (is_faulted r ≡ false → P (Found found))
-    → ((m : Missing) → Lacks n spans bytes m → Misses (parts_state n spans bytes [] None)
+    → ((m : Missing) → Lacks (record { told = n; spans = spans; bytes = bytes }) m → Misses (parts_state n spans bytes [] None)
     (parts_state n spans bytes log (Some m)) (f (filled_input n spans bytes)).marks m → P (Wanted (wanted_of texts m)))
     → P (found_or_wanted found (option_map (wanted_of texts) (cond (is_faulted r) missed None)))
 by_fault {f = f} {n = n} {spans = spans} {bytes = bytes} {log = log} {missed = missed} {r = r} P found texts short call answered missing =
@@ -307,7 +307,7 @@ unstopped_type type answer is = grind arith
 
 pub fits : {T : Type 0} (texts : Bool) (n : ℕ) (spans : List Span) (bytes : List ℕ) (missed : Option Missing)
     (found : T) (test : Bool)
-    → ForSome missed (Lacks n spans bytes)
+    → ForSome missed (Lacks (record { told = n; spans = spans; bytes = bytes }))
     → Fits n (found_or_wanted found (option_map (wanted_of texts) (cond test missed None)))
 fits texts n spans bytes None found true lacks = tt
 fits true n spans bytes (Some m) found true lacks =
@@ -352,7 +352,7 @@ pub called : {X : Type 0} (f : List ℕ → Reads X) (n m k : ℕ) (spans others
     → first ≡ []
     → before ≡ None → Runs (parts_state k given their first before) (parts_state m others content log missed) r
     (f (filled_input k given their))
-    → AllKnown m others content log → ForSome missed (Lacks m others content) → Called f n spans bytes log missed r
+    → AllKnown m others content log → ForSome missed (Lacks (record { told = m; spans = others; bytes = content })) → Called f n spans bytes log missed r
 called f n m k spans others given bytes content their first log before missed r told is_spans is_bytes none unmissed runs seen lacks =
     let parts = both_are others given content their (ap (λ a. parts_of a.backing) runs.frame) in
     let same : m ≡ k = ap (λ a. a.told) runs.frame in

@@ -11,7 +11,7 @@ use Rattle.imagesize_source.specs.Known.{byte_in_parts, filled_input}
 use Rattle.imagesize_source.specs.Errors.{is_stopped}
 use Rattle.imagesize_source.specs.Outcome.{Outcome}
 use Rattle.imagesize_source.specs.declared.error.ImageError.{ImageError}
-use Rattle.imagesize_source.specs.declared.source.parts.Missing.{Missing}
+use Rattle.imagesize_source.specs.declared.source.known.Missing.{Missing}
 use Rattle.imagesize_source.specs.declared.span.Span.{Span}
 use Rattle.imagesize_types.specs.declared.size.ImageSize.{ImageSize}
 

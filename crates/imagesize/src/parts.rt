@@ -13,7 +13,8 @@ use crate::types::ImageType;
 use crate::{ImageResult, Span};
 use imagesize_source::Halt;
 use imagesize_source::halt::with_error;
-use imagesize_source::source::parts::{Missing, PartsSource};
+use imagesize_source::source::known::{KnownSource, Missing};
+use imagesize_source::source::parts::Parts;
 use imagesize_types::size::ImageSize;
 
 /// What the known parts of an input give.
@@ -72,7 +73,7 @@ pub fn parts_probe(
     // No result is a fault, a spent budget or a lack of memory.
     ensures unstopped { total < 2 ^ 63 → IfFound result (λ found. is_stopped found.1 ≡ false) }
 {
-    let mut source = PartsSource::new(spans, bytes, total);
+    let mut source = Parts::source(spans, bytes, total);
     match type_of(&mut source) {
         PartsAnswer::Found(Ok(image)) => with_type(image, size_as(&mut source, image)),
         PartsAnswer::Found(Err(error)) => PartsAnswer::Found((None, Err(error))),
@@ -107,7 +108,7 @@ pub fn parts_type(bytes: &[u8], spans: &[Span], total: u64) -> PartsAnswer<Image
     // No result is a fault, a spent budget or a lack of memory.
     ensures unstopped { total < 2 ^ 63 → IfFound result (λ answer. is_stopped answer ≡ false) }
 {
-    let mut source = PartsSource::new(spans, bytes, total);
+    let mut source = Parts::source(spans, bytes, total);
     type_of(&mut source)
 }
 
@@ -152,20 +153,20 @@ impl ImageType {
         // No result is a fault, a spent budget or a lack of memory.
         ensures unstopped { total < 2 ^ 63 → IfFound result (λ answer. is_stopped answer ≡ false) }
     {
-        let mut source = PartsSource::new(spans, bytes, total);
+        let mut source = Parts::source(spans, bytes, total);
         size_as(&mut source, *self)
     }
 }
 
 // The type, by reads that start anew.
 #[inline(always)]
-fn type_of(source: &mut PartsSource<'_>) -> PartsAnswer<ImageResult<ImageType>>
-    ensures tells { TellsOf false (λ d. kind_of d 0) source.old.told source.old.spans.now source.old.bytes.now result }
+fn type_of(source: &mut KnownSource<Parts<'_>>) -> PartsAnswer<ImageResult<ImageType>>
+    ensures tells { TellsOf false (λ d. kind_of d 0) source.old.known.told source.old.known.spans.now source.old.known.bytes.now result }
 
     // The parts do not change.
-    ensures spans { source.new.spans.now ≡ source.old.spans.now }
-    ensures bytes { source.new.bytes.now ≡ source.old.bytes.now }
-    ensures told { source.new.told ≡ source.old.told }
+    ensures spans { source.new.known.spans.now ≡ source.old.known.spans.now }
+    ensures bytes { source.new.known.bytes.now ≡ source.old.known.bytes.now }
+    ensures told { source.new.known.told ≡ source.old.known.told }
 {
     source.forget();
     let found = detect(source, 0);
@@ -174,8 +175,8 @@ fn type_of(source: &mut PartsSource<'_>) -> PartsAnswer<ImageResult<ImageType>>
 
 // The size, read as this type, by reads that start anew.
 #[inline(always)]
-fn size_as(source: &mut PartsSource<'_>, image: ImageType) -> PartsAnswer<ImageResult<ImageSize>>
-    ensures { TellsOf (has_texts image) (size_of image) source.old.told source.old.spans.now source.old.bytes.now result }
+fn size_as(source: &mut KnownSource<Parts<'_>>, image: ImageType) -> PartsAnswer<ImageResult<ImageSize>>
+    ensures { TellsOf (has_texts image) (size_of image) source.old.known.told source.old.known.spans.now source.old.known.bytes.now result }
 {
     source.forget();
     let found = size(source, image);
@@ -187,7 +188,7 @@ fn size_as(source: &mut PartsSource<'_>, image: ImageType) -> PartsAnswer<ImageR
 #[inline(always)]
 fn found_or_wanted<T: Drop>(
     found: Result<T, Halt>,
-    source: &PartsSource<'_>,
+    source: &KnownSource<Parts<'_>>,
     texts: bool,
 ) -> PartsAnswer<ImageResult<T>>
     ensures { result ≡ found_or_wanted (with_error end_of_input 0 found)

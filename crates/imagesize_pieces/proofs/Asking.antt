@@ -3,11 +3,12 @@ use Rattle.std.proofs.Common.{◌≡◌, ℕ, suc, leb, ◌&&◌, max, min, ◌+
 use Rattle.std.specs.Prelude.{unwrap_or, option_map}
 use Rattle.std.proofs.lemmas.Bool.{cases_lt}
 use Rattle.std.proofs.lemmas.Bool.Decides.{nat_tests}
-use Rattle.imagesize_source.specs.declared.source.parts.Missing.{Missing}
+use Rattle.imagesize_source.specs.declared.source.known.Missing.{Missing}
 use Rattle.imagesize_source.specs.declared.span.Span.{Span}
 use Rattle.imagesize_source.specs.Agreement.{AllRead, Alike, Parting, is_covered, has_offset}
 use Rattle.imagesize_source.specs.Input.{span_at}
 use Rattle.imagesize_source.specs.Layout.{Layout, layout_reads}
+use Rattle.imagesize_source.specs.Known.{end_of}
 use Rattle.imagesize_source.specs.Reading.{Reads}
 use Rattle.imagesize_source.specs.State.{Misses, Missed, state_after}
 use Rattle.imagesize_source.proofs.Agreement.{alike_layout, covered-left, covered-one, covered-right, covered_one_of}
@@ -16,9 +17,8 @@ use Rattle.imagesize_source.proofs.Known.{length-filled_input}
 use Rattle.imagesize_source.proofs.Runs.{past-recorded}
 use Rattle.imagesize_source.proofs.Sharing.{shares-right}
 use Rattle.imagesize_source.specs.Sharing.{Shares}
-use Rattle.imagesize_pieces.specs.Stream.{Begins, Needs, Reach, came, end_of}
-use Rattle.imagesize_pieces.specs.declared.source.StreamSource.{StreamSource}
-use Rattle.imagesize_pieces.proofs.Beginning.{Holds, begins_shares, input_of}
+use Rattle.imagesize_pieces.specs.Stream.{Begins, Needs, Reach, came}
+use Rattle.imagesize_pieces.proofs.Beginning.{Heard, Holds, begins_shares, input_of}
 use Rattle.imagesize_pieces.proofs.Called.{fresh, state_of}
 use Rattle.imagesize_pieces.proofs.Reaching.{reach_covered}
 use Rattle.imagesize_pieces.proofs.Streaming.{unknown_behind}
@@ -71,13 +71,13 @@ alike_missed {X} {texts} d e f g made rest mark m alike all here shares = elim a
 
 -- A layout that reads nothing before the offset `low` missed a byte, after the reads of some spans. All bytes that came from
 -- there on are in the source.
-pub record Left {X : Type 0} (l : Layout X) (low : ℕ) (b : StreamSource) : Type 0 where
+pub record Left {X : Type 0} (l : Layout X) (low : ℕ) (b : Heard) : Type 0 where
   pub from : b.start ≤ low
   pub above : (d : List ℕ) (offset : ℕ) → is_covered (layout_reads d l).marks offset ≡ true → low ≤ offset
   pub before : List Span
   pub lacks : Missed (state_after (fresh b) before) (state_of b) (layout_reads (input_of b) l).marks
 
-module _ {X : Type 0} {l : Layout X} {low : ℕ} {b : StreamSource} (left : Left l low b) where
+module _ {X : Type 0} {l : Layout X} {low : ℕ} {b : Heard} (left : Left l low b) where
   pub what : (m : Missing) × (b.missed ≡ Some m)
       × Misses (state_after (fresh b) left.before) (state_of b) (layout_reads (input_of b) l).marks m
   what = missed_is b.missed _ left.lacks.told
@@ -98,14 +98,14 @@ module _ {X : Type 0} {l : Layout X} {low : ℕ} {b : StreamSource} (left : Left
       (covered_one_of what.2.made mark what.2.rest offset in_it)
 
   -- what is missed is after the bytes so far
-  behind : b.start + (length b.kept.now + length b.chunk.now) ≤ m.start
+  behind : b.start + (length b.kept + length b.chunk) ≤ m.start
   behind =
       let above = left.above (input_of b) m.start (marked m.start in_mark) in
-      unknown_behind b.told b.start b.kept.now b.chunk.now m.start (omega (arith, b.within)) (b.lacks m what.1).3
+      unknown_behind b.told b.start b.kept b.chunk m.start (omega (arith, b.within)) (b.lacks m what.1).3
       (omega (arith, left.from, above))
 
   -- the failed read requests bytes after those so far, and none from the end on
-  pub ends_left : (b.start + (length b.kept.now + length b.chunk.now) < end_of b.missed) × (low < end_of b.missed)
+  pub ends_left : (b.start + (length b.kept + length b.chunk) < end_of b.missed) × (low < end_of b.missed)
       × (end_of b.missed ≤ b.told)
   ends_left =
       let lacks = b.lacks m what.1 in let some = lacks.0 in let few = lacks.1 in let within = lacks.2 in
@@ -114,7 +114,7 @@ module _ {X : Type 0} {l : Layout X} {low : ℕ} {b : StreamSource} (left : Left
       (omega (arith, behind, ends, some, few), omega (arith, above, ends, some, few), omega (arith, ends, within))
 
   -- so fewer bytes came than the layout reads at most
-  pub few_left : (high : ℕ) → Reach low high l → b.start + (length b.kept.now + length b.chunk.now) < high
+  pub few_left : (high : ℕ) → Reach low high l → b.start + (length b.kept + length b.chunk) < high
   few_left high reach = omega (arith, behind, (reach_covered (input_of b) low high l reach m.start (marked m.start in_mark)).1)
 
   abbrev pub seen_there : List Span
@@ -124,7 +124,7 @@ module _ {X : Type 0} {l : Layout X} {low : ℕ} {b : StreamSource} (left : Left
   pub shares_left : {front : List ℕ} → Holds front b → (d : List ℕ) → Begins front b.told d
       → Shares d (input_of b) (left.before ++ seen_there)
   shares_left run d begins =
-      let all : b.log.spans ≡ left.before ++ seen_there = ap (λ o. unwrap_or o []) (what.2.recorded
+      let all : b.spans ≡ left.before ++ seen_there = ap (λ o. unwrap_or o []) (what.2.recorded
       ∙ ap (option_map (λ spans. spans ++ seen_there)) (past-recorded (fresh b) left.before)) in
       subst (Shares d (input_of b)) all (begins_shares b run d begins)
 
@@ -136,7 +136,7 @@ module _ {X : Type 0} {l : Layout X} {low : ℕ} {b : StreamSource} (left : Left
     in_each =
         alike_missed (input_of b) d (layout_reads (input_of b) l) (layout_reads d l) what.2.made what.2.rest mark m.start
         (alike_layout (input_of b) d l read
-        (as_long ∙ sym (length-filled_input b.told (came b.start b.kept.now b.chunk.now) (b.kept.now ++ b.chunk.now))))
+        (as_long ∙ sym (length-filled_input b.told (came b.start b.kept b.chunk) (b.kept ++ b.chunk))))
         what.2.all in_mark (shares-right left.before _ (shares_left run d begins))
 
     there : is_covered (layout_reads d l).marks m.start ≡ true
@@ -153,7 +153,8 @@ module _ {X : Type 0} {l : Layout X} {low : ℕ} {b : StreamSource} (left : Left
         let begins = what.2.behind in let within = what.2.within in let reaches = what.2.reaches in
         let ends : end_of b.missed ≡ m.start + m.most = ap end_of what.1 in
         let between = reach_covered d low high l reach m.start there in
-        let sure = b.ends m what.1 (omega (arith, left.from, between.0)) in
+        let early : b.start ≤ m.start = omega (arith, left.from, between.0) in
+        let sure = b.certain m what.1 (grind (arith, nat_tests)) in
         let last_in : has_offset mark (mark.start + mark.len - 1) ≡ true = grind (arith, nat_tests) in
         let last = (reach_covered (input_of b) low high l reach _ (marked (mark.start + mark.len - 1) last_in)).1 in
         let to : min (end_of b.missed) high ≡ mark.start + mark.len = omega (arith, ends, sure, within, reaches, last, some) in (

@@ -1,11 +1,14 @@
 -- What the bytes so far tell of every input that begins with them.
 use Rattle.std.proofs.Common.{◌≡◌, ℕ, ◌+◌, ◌-◌, ◌<◌, ◌≤◌, min, List, ◌++◌, length, take, drop, get_or, refl, sym, ap, ◌∙◌, arith}
-use Rattle.std.specs.Prelude.{unwrap_or}
+use Rattle.std.specs.Option.{ForSome}
+use Rattle.std.specs.Prelude.{Option, nat_le, true, unwrap_or}
 use Rattle.std.proofs.lemmas.List.{drop_min, length-append, length-drop, length-take, get_or-drop, get_or-take, take_all, take_at, take-take}
 use Rattle.imagesize_source.proofs.Known.{filled_at, length-filled_input}
+use Rattle.imagesize_source.specs.Known.{AllKnown, Lacks}
 use Rattle.imagesize_source.specs.Sharing.{Shares}
-use Rattle.imagesize_pieces.specs.Stream.{Begins, came, stream_input}
-use Rattle.imagesize_pieces.specs.declared.source.StreamSource.{StreamSource}
+use Rattle.imagesize_source.specs.declared.source.known.Missing.{Missing}
+use Rattle.imagesize_source.specs.declared.span.Span.{Span}
+use Rattle.imagesize_pieces.specs.Stream.{Begins, came, known_of, stream_input}
 use Rattle.imagesize_pieces.proofs.Keeping.{drop_split}
 use Rattle.imagesize_pieces.proofs.Streaming.{came_at, known_within}
 
@@ -49,32 +52,45 @@ run_held front chunk kept from passed as_many is_kept = record {
   );
 }
 
+-- a source of the bytes that arrived, with what it saw and missed
+pub record Heard : Type 0 where
+  pub told : ℕ
+  pub start : ℕ
+  pub kept : List ℕ
+  pub chunk : List ℕ
+  pub spans : List Span
+  pub missed : Option Missing
+  pub within : start + length kept + length chunk ≤ told
+  pub seen : AllKnown told (came start kept chunk) (kept ++ chunk) spans
+  pub lacks : ForSome missed (Lacks (known_of told start kept chunk))
+  pub certain : ForSome missed (λ m. nat_le start m.start ≡ true → m.sure ≡ m.most)
+
 -- what a source holds are these bytes, from its first offset on
-abbrev pub Holds : List ℕ → StreamSource → Type 0
-Holds front s = Run front s.kept.now s.chunk.now s.start
+abbrev pub Holds : List ℕ → Heard → Type 0
+Holds front s = Run front s.kept s.chunk s.start
 
 -- the input as it reads it
-abbrev pub input_of : StreamSource → List ℕ
-input_of s = stream_input s.told s.start s.kept.now s.chunk.now
+abbrev pub input_of : Heard → List ℕ
+input_of s = stream_input s.told s.start s.kept s.chunk
 
-module _ (s : StreamSource) {front : List ℕ} (run : Holds front s) where
+module _ (s : Heard) {front : List ℕ} (run : Holds front s) where
   -- the byte that the source reads, where it came
   byte_here : (offset : ℕ) → s.start ≤ offset → offset < length front → get_or (input_of s) offset 0 ≡ get_or front offset 0
   byte_here offset above below =
-      let fits : s.start + (length s.kept.now + length s.chunk.now) ≤ s.told = omega (arith, s.within) in
+      let fits : s.start + (length s.kept + length s.chunk) ≤ s.told = omega (arith, s.within) in
       let ends = run.ends in
       let back : s.start + (offset - s.start) ≡ offset = omega (arith, above) in
-      filled_at s.told (came s.start s.kept.now s.chunk.now) (s.kept.now ++ s.chunk.now) offset (omega (arith, below, ends, fits))
-      ∙ ap (λ o. unwrap_or o 1) (came_at s.told s.start s.kept.now s.chunk.now offset fits above (omega (arith, below, ends)))
+      filled_at s.told (came s.start s.kept s.chunk) (s.kept ++ s.chunk) offset (omega (arith, below, ends, fits))
+      ∙ ap (λ o. unwrap_or o 1) (came_at s.told s.start s.kept s.chunk offset fits above (omega (arith, below, ends)))
       ∙ rw (run.is, get_or-drop s.start front (offset - s.start) 0, back) refl
 
   -- an input that begins with the bytes so far shares what is known
-  pub begins_shares : (d : List ℕ) → Begins front s.told d → Shares d (input_of s) s.log.spans
+  pub begins_shares : (d : List ℕ) → Begins front s.told d → Shares d (input_of s) s.spans
   begins_shares d begins = record {
     no_longer = let few = begins.fits in
-        omega (arith, few, length-filled_input s.told (came s.start s.kept.now s.chunk.now) (s.kept.now ++ s.chunk.now));
+        omega (arith, few, length-filled_input s.told (came s.start s.kept s.chunk) (s.kept ++ s.chunk));
     there = λ offset here.
-        let within = known_within s.told s.start s.kept.now s.chunk.now offset (s.seen offset here) in
+        let within = known_within s.told s.start s.kept s.chunk offset (s.seen offset here) in
         let early : offset < length front = omega (arith, within.1, run.ends) in
         let there = begins_at front d s.told offset begins early in
         (there.0, there.1 ∙ sym (byte_here offset within.0 early));

@@ -10,20 +10,19 @@ use Rattle.imagesize_source.specs.Sharing.{Shares}
 use Rattle.imagesize_source.specs.State.{State, Frame, Runs, EndedBy, parts_of}
 use Rattle.imagesize_source.proofs.KnownReadings.{past-parts}
 use Rattle.imagesize_pieces.specs.Stream.{Says, came, start_of, stream_state}
-use Rattle.imagesize_pieces.specs.declared.source.StreamSource.{StreamSource}
-use Rattle.imagesize_pieces.proofs.Beginning.{Holds, Run, begins_shares, input_of}
+use Rattle.imagesize_pieces.proofs.Beginning.{Heard, Holds, Run, begins_shares, input_of}
 
 -- readings that see an input by their marks alone, however long it is
 abbrev pub IsShared : {X : Type 0} → (List ℕ → Reads X) → Type 0
 IsShared f = (d e : List ℕ) → Shares d e (f e).marks → f d ≡ f e
 
 -- a source as its state
-abbrev pub state_of : StreamSource → State
-state_of s = stream_state s.told s.start s.kept.now s.chunk.now s.log.spans s.missed
+abbrev pub state_of : Heard → State
+state_of s = stream_state s.told s.start s.kept s.chunk s.spans s.missed
 
 -- the source before its first read
-abbrev pub fresh : StreamSource → State
-fresh s = stream_state s.told s.start s.kept.now s.chunk.now [] None
+abbrev pub fresh : Heard → State
+fresh s = stream_state s.told s.start s.kept s.chunk [] None
 
 -- what is known of an input, with its length
 abbrev parts : Frame → ℕ × (List Span × List ℕ)
@@ -34,16 +33,16 @@ abbrev first_end : List Span → ℕ
 first_end [] = 0
 first_end (s ∷ spans) = s.start + s.len
 
--- The source a was made of these bytes. The source b is a after a call, and reads the same bytes.
-pub record Called (a b : StreamSource) (n low : ℕ) (kept unread : List ℕ) : Type 0 where
-  pub new : state_of a ≡ fresh b
+-- A source in the state a was made of these bytes. The source b is that one after a call, and reads the same bytes.
+pub record Called (a : State) (b : Heard) (n low : ℕ) (kept unread : List ℕ) : Type 0 where
+  pub new : a ≡ fresh b
   pub told : n ≡ b.told
   pub start : low ≡ b.start
-  pub ends : low + (length kept + length unread) ≡ b.start + (length b.kept.now + length b.chunk.now)
-  pub bytes : kept ++ unread ≡ b.kept.now ++ b.chunk.now
+  pub ends : low + (length kept + length unread) ≡ b.start + (length b.kept + length b.chunk)
+  pub bytes : kept ++ unread ≡ b.kept ++ b.chunk
 
-pub called : (a b : StreamSource) (told start : ℕ) (kept unread : List ℕ)
-    → state_of a ≡ stream_state told start kept unread [] None → (state_of b).frame ≡ (state_of a).frame
+pub called : (a : State) (b : Heard) (told start : ℕ) (kept unread : List ℕ)
+    → a ≡ stream_state told start kept unread [] None → (state_of b).frame ≡ a.frame
     → Called a b told start kept unread
 called a b told start kept unread new frame = record {
   new = new ∙ ap (λ (p : ℕ × (List Span × List ℕ)). parts_state p.0 p.1.0 p.1.1 [] None) same;
@@ -55,7 +54,7 @@ called a b told start kept unread new frame = record {
   same : (told, (came start kept unread, kept ++ unread)) ≡ parts (state_of b).frame
   same = sym (ap parts (frame ∙ ap (λ (s : State). s.frame) new))
 
-pub holds_after : {a b : StreamSource} {told start : ℕ} (front kept unread : List ℕ) → Called a b told start kept unread
+pub holds_after : {a : State} {b : Heard} {told start : ℕ} (front kept unread : List ℕ) → Called a b told start kept unread
     → Run front kept unread start → Holds front b
 holds_after front kept unread call run = record {
   is = sym call.bytes ∙ run.is ∙ ap (λ k. drop k front) call.start;
@@ -70,7 +69,7 @@ goes_on {X} {a} {b} {r} uncounted runs faultless = by_answer r runs.ended faultl
   by_answer (Ok x) ended none = refl
   by_answer (Err halt) ended none = let budget = ended.budget in grind arith
 
-module _ (b : StreamSource) (short : b.told < 2 ^ 63) where
+module _ (b : Heard) (short : b.told < 2 ^ 63) where
   pub is_honest : (fresh b).held.honest ≡ true
   is_honest = grind (arith, nat_tests)
 
@@ -78,12 +77,12 @@ module _ (b : StreamSource) (short : b.told < 2 ^ 63) where
   pub says_begun : {X : Type 0} (f : List ℕ → Reads X) {r : Result X Halt} → Runs (fresh b) (state_of b) r (f (input_of b))
       → is_faulted r ≡ false → (front : List ℕ) → IsShared f → Holds front b → Says front b.told f r
   says_begun f {r} runs faultless front same run = record {
-    marks = b.log.spans;
+    marks = b.spans;
     is = λ d begins.
         let going = goes_on refl runs faultless in
-        let marked : b.log.spans ≡ (f (input_of b)).marks = ap (λ (s : State). unwrap_or s.recorded [])
+        let marked : b.spans ≡ (f (input_of b)).marks = ap (λ (s : State). unwrap_or s.recorded [])
         (runs.state is_honest going
-        ∙ past-parts b.told (came b.start b.kept.now b.chunk.now) (b.kept.now ++ b.chunk.now) [] None (f (input_of b)).marks) in
+        ∙ past-parts b.told (came b.start b.kept b.chunk) (b.kept ++ b.chunk) [] None (f (input_of b)).marks) in
         let shares = subst (Shares d (input_of b)) marked (begins_shares b run d begins) in
         ap uncounted (same d (input_of b) shares) ∙ rw (runs.answer is_honest going, ← marked) refl;
   }

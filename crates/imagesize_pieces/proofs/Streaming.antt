@@ -69,20 +69,3 @@ module _ (n start : ℕ) (kept chunk : List ℕ) where
   run_ends run offset is some =
       let long = ap length is in
       (grind (arith, nat_tests, length-drop {A = ℕ}), grind (arith, nat_tests, length-drop {A = ℕ}))
-
--- the first of some known bytes
-pub first_known : (n start : ℕ) (kept chunk run found : List ℕ) (offset count i : ℕ)
-    → ((j : ℕ) → j < length run → byte_at n start kept chunk (offset + j) ≡ Some (get_or run j 0)) → count ≤ length run
-    → found ≡ take count run → i < count → byte_at n start kept chunk (offset + i) ≡ Some (get_or found i 0)
-first_known n start kept chunk run found offset count i known few is below =
-    known i (omega (arith, few, below)) ∙ ap Some (rw (is, get_or-take count run i 0 below) refl)
-
--- and so many of them are a part of the input
-pub front_part : (n start : ℕ) (kept chunk run : List ℕ) (offset count : ℕ)
-    → ((i : ℕ) → i < length run → byte_at n start kept chunk (offset + i) ≡ Some (get_or run i 0)) → count ≤ length run
-    → (count ≡ min count (n - offset)) × (take count run ≡ part (stream_input n start kept chunk) offset count)
-front_part n start kept chunk run offset zero known few =
-    (omega arith, sym (part_none (stream_input n start kept chunk) offset))
-front_part n start kept chunk run offset (suc k) known few =
-    let last = known_below n (came start kept chunk) (kept ++ chunk) (offset + k) (ap is_some (known k (omega (arith, few)))) in
-    (omega (arith, last), run_part n (came start kept chunk) (kept ++ chunk) run offset (suc k) few (omega (arith, last)) known)

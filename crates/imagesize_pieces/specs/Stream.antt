@@ -1,13 +1,13 @@
 -- An input that arrives in chunks: what the bytes so far say about every input that begins with them.
 use Rattle.std.specs.Prelude.{◌≡◌, ℕ, ◌+◌, ◌-◌, ◌≤◌, ◌<◌, nat_lt, if◌then◌else◌, Bool, true, false, List, [], ◌∷◌, ◌++◌, length, take, drop, Option, None, Some, Result}
 use Rattle.imagesize_source.specs.Agreement.{EndsBetween, is_covered}
-use Rattle.imagesize_source.specs.Known.{byte_in_parts, filled_input, parts_state}
+use Rattle.imagesize_source.specs.Known.{KnownBytes, byte_in_parts, input_of, known_state}
 use Rattle.imagesize_source.specs.Layout.{Layout, done, refuse, field, reading, begin_record}
 use Rattle.imagesize_source.specs.Reading.{Reads, just, most, put_behind, uncounted}
 use Rattle.imagesize_source.specs.State.{State}
 use Rattle.imagesize_source.specs.Walk.{Step, run}
 use Rattle.imagesize_source.specs.declared.halt.Halt.{Halt}
-use Rattle.imagesize_source.specs.declared.source.parts.Missing.{Missing}
+use Rattle.imagesize_source.specs.declared.source.known.Missing.{Missing}
 use Rattle.imagesize_source.specs.declared.span.Span.{Span}
 
 -- an input of at most `told` bytes begins with these
@@ -67,27 +67,22 @@ run_at start kept chunk offset =
     if nat_lt offset start then [] else
     if nat_lt (offset - start) (length kept) then drop (offset - start) kept else drop (offset - start - length kept) chunk
 
+-- what is known of the input by them
+abbrev pub known_of : ℕ → ℕ → List ℕ → List ℕ → KnownBytes
+known_of told start kept chunk = record { told = told; spans = came start kept chunk; bytes = kept ++ chunk }
+
 -- an input that has them, and 1 at every other offset
 abbrev pub stream_input : ℕ → ℕ → List ℕ → List ℕ → List ℕ
-stream_input told start kept chunk = filled_input told (came start kept chunk) (kept ++ chunk)
+stream_input told start kept chunk = input_of (known_of told start kept chunk)
 
 -- these bytes as a source
 abbrev pub stream_state : ℕ → ℕ → List ℕ → List ℕ → List Span → Option Missing → State
-stream_state told start kept chunk seen missed = parts_state told (came start kept chunk) (kept ++ chunk) seen missed
-
--- A read that missed a byte from `start` on reads all that it requests, if no missing byte ends its text.
-abbrev pub EndsSure : ℕ → Missing → Type 0
-EndsSure start m = start ≤ m.start → m.sure ≡ m.most
+stream_state told start kept chunk seen missed = known_state (known_of told start kept chunk) seen missed
 
 -- where the first span starts
 abbrev pub start_of : List Span → ℕ
 start_of [] = 0
 start_of (s ∷ spans) = s.start
-
--- the offset after the last byte that a read requests that missed bytes
-abbrev pub end_of : Option Missing → ℕ
-end_of None = 0
-end_of (Some m) = m.start + m.most
 
 -- The first `passed` bytes of an input of at most `told` bytes arrived. Those from `start` on are kept. The next record
 -- of the walk, after the state s, is at `offset`. For every input that begins so, the reads are some spans, then those from that

@@ -6,9 +6,10 @@ ghost use Rattle.imagesize_source.specs.Reading.{is_faulted, is_stopped};
 ghost use Rattle.imagesize_source.specs.State.{Follows};
 ghost use Rattle.imagesize_pieces.specs.Stream.{AllBelow, Begins, Needs, Reach, Says};
 
-use crate::source::StreamSource;
+use crate::arrived::Arrived;
 use imagesize_source::Halt;
 use imagesize_source::source::Source;
+use imagesize_source::source::known::KnownSource;
 
 /// A value at fixed offsets.
 pub trait Fixed {
@@ -45,7 +46,12 @@ pub fn read_front<F: Fixed>(fixed: &F, bytes: &[u8], told: u64) -> (Result<F::An
     // A failed read requests more than these bytes.
     ensures ends { is_faulted result.0 ≡ true → (length bytes.now < result.1) × (result.1 ≤ told) }
 {
-    let mut source = StreamSource::new(0, bytes, &[], told);
+    let mut source = KnownSource::new(Arrived {
+        start: 0,
+        kept: bytes,
+        chunk: &[],
+        told,
+    });
     let found = fixed.read(&mut source);
     (found, source.end())
 }

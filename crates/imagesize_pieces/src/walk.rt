@@ -6,10 +6,11 @@ ghost use Rattle.imagesize_source.specs.Walk.{CanFollow};
 ghost use Rattle.imagesize_pieces.specs.Standing.{Stands};
 ghost use Rattle.imagesize_pieces.specs.Stream.{AllBelow, Begins, Needs, Reach, Says};
 
+use crate::arrived::Arrived;
 use crate::buffer::{bytes_behind, keep_behind};
-use crate::source::StreamSource;
 use crate::stand::Stand;
 use imagesize_source::Halt;
+use imagesize_source::source::known::KnownSource;
 use imagesize_source::walk::{Records, walk_on};
 
 /// Continues the walk with the next chunk, and returns the result as soon as the bytes decide it. The buffer holds the bytes
@@ -71,7 +72,12 @@ pub fn read_on<R: Records>(
     let start = stand.start.min(passed);
     let count = stand.passed.saturating_sub(stand.start) as usize;
     let unread = bytes_behind(chunk, stand.start.saturating_sub(stand.passed));
-    let mut source = StreamSource::new(start, &buffer[..count], unread, stand.told);
+    let mut source = KnownSource::new(Arrived {
+        start,
+        kept: &buffer[..count],
+        chunk: unread,
+        told: stand.told,
+    });
     let mut offset = stand.offset;
     let found = walk_on(records, &mut offset, &mut source);
     if is_faulted(&found) {

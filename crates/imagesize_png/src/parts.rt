@@ -12,7 +12,8 @@ use crate::{ImageResult, Span};
 use imagesize::PartsAnswer;
 use imagesize_source::Halt;
 use imagesize_source::halt::with_error;
-use imagesize_source::source::parts::PartsSource;
+use imagesize_source::source::known::KnownSource;
+use imagesize_source::source::parts::Parts;
 use imagesize_types::size::ImageSize;
 
 /// Reads the size in pixels of the PNG in an input of `total` bytes from the parts that are known, or requests another part.
@@ -41,17 +42,17 @@ pub fn parts_size(bytes: &[u8], spans: &[Span], total: u64) -> PartsAnswer<Image
     // No result is a fault, a spent budget or a lack of memory.
     ensures unstopped { total < 2 ^ 63 → IfFound result (λ answer. is_stopped answer ≡ false) }
 {
-    let mut source = PartsSource::new(spans, bytes, total);
+    let mut source = Parts::source(spans, bytes, total);
     size_of_parts(&mut source)
 }
 
 // The size, by reads that start anew.
 #[inline(always)]
-fn size_of_parts(source: &mut PartsSource<'_>) -> PartsAnswer<ImageResult<ImageSize>>
-    ensures says { (d : List ℕ) → HasKnown d source.old.told source.old.spans.now source.old.bytes.now → source.old.told < 2 ^ 63
-        → SaysOf false (png_of d 0) source.old.told source.old.spans.now source.old.bytes.now result }
-    ensures fits { Fits source.old.told result }
-    ensures unstopped { source.old.told < 2 ^ 63 → IfFound result (λ answer. is_stopped answer ≡ false) }
+fn size_of_parts(source: &mut KnownSource<Parts<'_>>) -> PartsAnswer<ImageResult<ImageSize>>
+    ensures says { (d : List ℕ) → HasKnown d source.old.known.told source.old.known.spans.now source.old.known.bytes.now → source.old.known.told < 2 ^ 63
+        → SaysOf false (png_of d 0) source.old.known.told source.old.known.spans.now source.old.known.bytes.now result }
+    ensures fits { Fits source.old.known.told result }
+    ensures unstopped { source.old.known.told < 2 ^ 63 → IfFound result (λ answer. is_stopped answer ≡ false) }
 {
     source.forget();
     let found = size(source, 0);
@@ -62,7 +63,7 @@ fn size_of_parts(source: &mut PartsSource<'_>) -> PartsAnswer<ImageResult<ImageS
 #[inline(always)]
 fn found_or_wanted(
     found: Result<ImageSize, Halt>,
-    source: &PartsSource<'_>,
+    source: &KnownSource<Parts<'_>>,
 ) -> PartsAnswer<ImageResult<ImageSize>>
     ensures { result ≡ found_or_wanted (with_error end_of_input 0 found)
         (option_map (wanted_of false) (if is_faulted found then source.now.missed else None)) }

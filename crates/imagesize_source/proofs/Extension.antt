@@ -9,9 +9,11 @@ use Rattle.imagesize_source.proofs.Texts.{front_all, front_any, front_more}
 use Rattle.imagesize_source.specs.declared.endian.Endian.{Endian}
 use Rattle.imagesize_source.specs.Input.{part, span_at, span_of}
 use Rattle.imagesize_source.specs.Layout.{Layout, field, reading, begin_record, layout_reads}
+use Rattle.imagesize_source.specs.Layout.Layout.{«done»}
 use Rattle.imagesize_source.specs.Numbers.{number}
-use Rattle.imagesize_source.specs.Extension.{Plain, Never, WhereCut}
+use Rattle.imagesize_source.specs.Extension.{Lasts, Plain, Never, WhereCut}
 use Rattle.imagesize_source.specs.Reading.{Reads, after_records, and_then, number_read, Reading, go_on, bytes_at, number_at, text_part, read_of, map_answer}
+use Rattle.imagesize_source.proofs.Layouts.{then_gives}
 use Rattle.imagesize_source.proofs.Parts.{part_front, part_length, part_whole}
 
 -- bytes behind the input are not among those that are all there
@@ -104,3 +106,16 @@ more d x _ v p is = refl
 pub more_answer : {X : Type 0} (d x : List ℕ) (t : Layout X) (v : X) → Plain t → (layout_reads d t).answer ≡ Ok v
     → (layout_reads (d ++ x) t).answer ≡ Ok v
 more_answer d x t v p is = ap (λ r. r.answer) (more d x t v p is) ∙ is
+
+-- readings behind readings last where both do
+pub lasts_then : {X Y : Type 0} (r : List ℕ → Reads X) (f : X → List ℕ → Reads Y) → Lasts r → ((y : X) → Lasts (f y))
+    → Lasts (λ d. and_then (r d) (λ y. f y d))
+lasts_then r f first rest d x v is = onward_more (r d) (r (d ++ x)) (λ y. f y d) (λ y. f y (d ++ x)) v is
+    (λ y got _. first d x y got) (λ y ok. rest y d x v ok)
+
+-- one number lasts
+pub number_lasts : (order : Endian) (offset k : ℕ) → Lasts (λ d. number_read d order offset k)
+number_lasts order offset k d x v is =
+    let one = then_gives (number_read d order offset k) in
+    sym (then_gives (number_read (d ++ x) order offset k))
+    ∙ more d x (field order offset k «done») v (λ _. tt) (ap (λ r. r.answer) one ∙ is) ∙ one

@@ -1,15 +1,15 @@
 -- How known bytes are gathered, from one part after another.
-use Rattle.std.proofs.Common.{◌≡◌, ℕ, suc, ◌+◌, ◌-◌, ◌<◌, ◌≤◌, min, true, false, ◌&&◌, leb, List, ◌++◌, length, take, drop, get_or, slice_index, Some, is_some, inl, inr, sym, ap, ◌∙◌, subst, arith, add-one}
+use Rattle.std.proofs.Common.{◌≡◌, ℕ, zero, suc, ◌+◌, ◌-◌, ◌<◌, ◌≤◌, min, true, false, ◌&&◌, leb, List, ◌++◌, length, take, drop, get_or, slice_index, Some, is_some, inl, inr, refl, sym, ap, ◌∙◌, subst, arith, add-one}
 use Rattle.std.specs.Prelude.{unwrap_or}
 use Rattle.std.proofs.lemmas.Bool.{cases_lt, cond-true}
 use Rattle.std.proofs.lemmas.Bool.Decides.{nat_tests}
-use Rattle.std.proofs.lemmas.List.{length-take, get_or-take, drop-drop, ext_get_or}
+use Rattle.std.proofs.lemmas.List.{length-take, length-drop, get_or-drop, get_or-take, drop-drop, ext_get_or}
 use Rattle.std.proofs.Math.Seq.{drop-cons, take-add, take-append_seam}
 use Rattle.imagesize_source.specs.declared.span.Span.{Span}
 use Rattle.imagesize_source.specs.Input.{part}
 use Rattle.imagesize_source.specs.Known.{byte_of, filled_input, byte_in_parts, reaches, length_within}
 use Rattle.imagesize_source.proofs.Known.{filled_at, known_below, length-filled_input}
-use Rattle.imagesize_source.proofs.Parts.{part_length, part_at}
+use Rattle.imagesize_source.proofs.Parts.{part_length, part_at, part_none}
 
 -- a part goes on with the next one
 part_more : (d : List ℕ) (offset i n : ℕ) → part d offset (i + n) ≡ part d offset i ++ part d (offset + i) n
@@ -61,32 +61,30 @@ known_run n spans bytes run offset index count so_far few is i below = elim (cas
       (is (i - index) (omega (arith, below, more, few))))
 ]
 
--- ---- what stands in the front alone, whose bytes are those from offset 0 on
+-- known bytes are so many of the input, and a part of it
+pub run_there : (n : ℕ) (spans : List Span) (bytes run : List ℕ) (offset count : ℕ)
+    → ((i : ℕ) → i < length run → byte_in_parts n spans bytes (offset + i) ≡ Some (get_or run i 0)) → count ≤ length run
+    → (count ≤ n - offset) × (take count run ≡ part (filled_input n spans bytes) offset count)
+run_there n spans bytes run offset zero is few = (omega arith, sym (part_none (filled_input n spans bytes) offset))
+run_there n spans bytes run offset (suc k) is few =
+    let last = known_below n spans bytes (offset + k) (ap is_some (is k (omega (arith, few)))) in
+    (omega (arith, last), run_part n spans bytes run offset (suc k) few (omega (arith, last)) is)
 
-module _ (n : ℕ) (spans : List Span) (bytes front : List ℕ)
-    (is : (i : ℕ) → i < length front → byte_in_parts n spans bytes i ≡ Some (get_or front i 0)) where
-  front_long : length front ≤ n
-  front_long = elim (cases_lt 0 (length front)) [
-    | inl some ↦ (
-        let last = is (length front - 1) (omega (arith, some)) in
-        omega (arith, some, known_below n spans bytes (length front - 1) (ap is_some last))
-        )
-    | inr none ↦ omega (arith, none)
-  ]
+-- the first of some known bytes are known
+pub first_known : (n : ℕ) (spans : List Span) (bytes run found : List ℕ) (offset count i : ℕ)
+    → ((j : ℕ) → j < length run → byte_in_parts n spans bytes (offset + j) ≡ Some (get_or run j 0)) → count ≤ length run
+    → found ≡ take count run → i < length found → byte_in_parts n spans bytes (offset + i) ≡ Some (get_or found i 0)
+first_known n spans bytes run found offset count i known few is below =
+    let small : i < count = omega (arith, below, ap length is, length-take count run) in
+    known i (omega (arith, few, small)) ∙ ap Some (rw (is, get_or-take count run i 0 small) refl)
 
-  -- A part that the front has whole lies within the input, and is the same part of the filled input.
-  pub front_there : (offset k : ℕ) → k ≤ length front - offset
-      → (k ≤ n - offset) × (part front offset k ≡ part (filled_input n spans bytes) offset k)
-  front_there offset k fits =
-      let d : List ℕ = filled_input n spans bytes in (
-        omega (arith, fits, front_long),
-        ext_get_or 0 (part front offset k) (part d offset k)
-            (omega (arith, fits, front_long, part_length front offset k, part_length d offset k, length-filled_input n spans bytes))
-            (λ i below.
-            let small : i < k = omega (arith, below, part_length front offset k) in
-            part_at front offset k i small ∙ sym (part_at d offset k i small
-            ∙ known_byte n spans bytes (offset + i) (slice_index front (offset + i)) (is (offset + i) (omega (arith, small, fits))))),
-      )
+-- and so are those behind an offset of the bytes from offset 0 on
+pub behind_known : (n : ℕ) (spans : List Span) (bytes front run : List ℕ) (offset i : ℕ)
+    → ((j : ℕ) → j < length front → byte_in_parts n spans bytes j ≡ Some (get_or front j 0)) → run ≡ drop offset front
+    → i < length run → byte_in_parts n spans bytes (offset + i) ≡ Some (get_or run i 0)
+behind_known n spans bytes front run offset i known is below =
+    known (offset + i) (omega (arith, below, ap length is, length-drop offset front))
+    ∙ ap Some (rw (is, get_or-drop offset front i 0) refl)
 
 -- ---- one part after another
 

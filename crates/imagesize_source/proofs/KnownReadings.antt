@@ -5,7 +5,7 @@ use Rattle.std.proofs.lemmas.Bool.Decides.{nat_tests}
 use Rattle.std.proofs.lemmas.List.{length-append, length-take, length-drop, take-append-drop, take-take, take-append-le, append-nil}
 use Rattle.std.proofs.Math.Bool.{and-false}
 use Rattle.imagesize_source.specs.declared.halt.Halt.TheVariants.{Failed}
-use Rattle.imagesize_source.specs.declared.source.parts.Missing.{Missing}
+use Rattle.imagesize_source.specs.declared.source.known.Missing.{Missing}
 use Rattle.imagesize_source.specs.declared.span.Span.{Span}
 use Rattle.imagesize_source.specs.declared.text.Text.{Text}
 use Rattle.imagesize_source.specs.Input.{part, span_at, span_of}
@@ -49,10 +49,6 @@ goes_behind t xs ys still some =
         | inr open_end ↦ omega (arith, ap length (front_all t (xs ++ ys) open_end), length-append xs ys, few, some)
       ])
     ]
-
--- what a text that is cut says
-cut_parts : (found wanted : ℕ) (is : Bool) → leb (suc found) wanted && not is ≡ true → (found < wanted) × (is ≡ false)
-cut_parts found wanted is cut = (grind (arith, nat_tests), grind (arith, nat_tests))
 
 -- a part goes on behind its first bytes
 pub part_split : (d : List ℕ) (offset k found : ℕ) → found ≤ k
@@ -173,25 +169,24 @@ module _ (n : ℕ) (spans : List Span) (bytes : List ℕ) (log : List Span) (mis
       (rw ended (and-false (leb (suc m) (min (length buffer) (n - offset)))))
       (omega (arith, ap length whole, length-take m buffer, fits)) after
 
-  pub parts_text_missing : (b : State) (t : Text) (buffer : List ℕ) (offset k wanted found : ℕ) (w : Missing)
-      → wanted ≡ min k (n - offset) → found ≤ wanted → take found buffer ≡ part filled offset found
-      → leb (suc found) wanted && not (is_ended t (take found buffer)) ≡ true → w.start ≡ offset + found
+  -- a text whose first bytes do not end it, and of which more are wanted
+  pub parts_text_missing : (b : State) (t : Text) (offset k wanted found : ℕ) (w : Missing)
+      → wanted ≡ min k (n - offset) → found < wanted → is_ended t (part filled offset found) ≡ false → w.start ≡ offset + found
       → w.sure ≡ 1 → w.most ≡ wanted - found → b ≡ parts_state n spans bytes (log ++ span_at offset found) (Some w)
       → Runs {X = List ℕ} before b (Err Failed) (text_read filled t offset k)
   unfolding text_part
-  parts_text_missing b t buffer offset k wanted found w long fits copied cut at sure most after =
-      let parts = cut_parts found wanted (is_ended t (take found buffer)) cut in
+  parts_text_missing b t offset k wanted found w long short still at sure most after =
       let bs : List ℕ = part filled offset found in
       let rest : List ℕ = drop found (part filled offset k) in
       let full = length-filled_input n spans bytes in
       let long_k = part_length filled offset k in
-      let long_bs : length bs ≡ found = omega (arith, part_length filled offset found, long, parts.0, full) in
-      let more : 0 < length rest = omega (arith, length-drop found (part filled offset k), long_k, long, parts.0, full) in
-      let behind = goes_behind t bs rest (ap (is_ended t) (sym copied) ∙ parts.1) more in
-      let same = ap (λ xs. length (text_front t xs)) (part_split filled offset k found (omega (arith, long, fits))) in
+      let long_bs : length bs ≡ found = omega (arith, part_length filled offset found, long, short, full) in
+      let more : 0 < length rest = omega (arith, length-drop found (part filled offset k), long_k, long, short, full) in
+      let behind = goes_behind t bs rest still more in
+      let same = ap (λ xs. length (text_front t xs)) (part_split filled offset k found (omega (arith, long, short))) in
       let few = front_length t (part filled offset k) in
       fails (text_read filled t offset k) b w offset (length (text_front t (part filled offset k))) found after refl
-      (omega (arith, behind, same)) at (omega (arith, sure, behind, same, long_bs)) (omega (arith, most, few, long_k, long, full, fits))
+      (omega (arith, behind, same)) at (omega (arith, sure, behind, same, long_bs)) (omega (arith, most, few, long_k, long, full, short))
 
 -- whether the bytes that were found are cut, by how many they are
 pub cut_is : (buffer : List ℕ) (found wanted offset told : ℕ) (cut ended : Bool)

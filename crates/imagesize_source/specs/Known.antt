@@ -1,12 +1,15 @@
 -- The known parts of an input.
-use Rattle.std.specs.Prelude.{◌≡◌, ℕ, ◌+◌, ◌-◌, ◌^◌, ◌<◌, ◌≤◌, min, Bool, true, false, ◌&&◌, List, [], ◌∷◌, length, drop, map, slice_index, nat_le, nat_lt, if◌then◌else◌, Option, None, Some, is_some, unwrap_or, flat_map}
+use Rattle.std.specs.Prelude.{◌≡◌, ℕ, ◌+◌, ◌-◌, ◌^◌, ◌<◌, ◌≤◌, min, Bool, true, false, ◌&&◌, List, [], ◌∷◌, ◌++◌, length, drop, map, slice_index, nat_le, nat_lt, if◌then◌else◌, Option, None, Some, is_some, unwrap_or, flat_map, Err}
 use Rattle.std.specs.List.{range_with_len}
-use Rattle.imagesize_source.specs.declared.source.parts.Missing.{Missing}
+use Rattle.imagesize_source.specs.declared.halt.Halt.{Halt}
+use Rattle.imagesize_source.specs.declared.source.known.Missing.{Missing}
 use Rattle.imagesize_source.specs.declared.span.Span.{Span}
+use Rattle.imagesize_source.specs.declared.text.Text.{Text}
 use Rattle.imagesize_source.specs.Agreement.{is_covered}
 use Rattle.imagesize_source.specs.Errors.{end_of_input}
-use Rattle.imagesize_source.specs.Input.{part}
-use Rattle.imagesize_source.specs.State.{State, Parts}
+use Rattle.imagesize_source.specs.Input.{part, span_at}
+use Rattle.imagesize_source.specs.Reading.{text_read}
+use Rattle.imagesize_source.specs.State.{State, Parts, Runs}
 
 -- how many bytes of a span lie within an input of n bytes
 abbrev pub length_within : ℕ → Span → ℕ
@@ -50,10 +53,6 @@ abbrev pub LeavesOut : ℕ → List Span → List ℕ → ℕ → List Span → 
 LeavesOut n spans bytes floor rest content =
     (offset : ℕ) → floor ≤ offset → byte_in_parts n spans bytes offset ≡ byte_in_parts n rest content offset
 
--- the missing bytes lie within the input, and the first of them is not known
-abbrev pub Lacks : ℕ → List Span → List ℕ → Missing → Type 0
-Lacks n spans bytes m = (0 < m.sure) × (m.sure ≤ m.most) × (m.start + m.most ≤ n) × (is_some (byte_in_parts n spans bytes m.start) ≡ false)
-
 -- The known parts as a source. It counts no bytes, and a read of a missing byte fails.
 abbrev pub parts_state : ℕ → List Span → List ℕ → List Span → Option Missing → State
 parts_state n spans bytes seen missed = record {
@@ -67,3 +66,40 @@ parts_state n spans bytes seen missed = record {
   failure = end_of_input;
   failed = None;
 }
+
+-- What is known of an input: its length, and the bytes of some spans, one span after another.
+pub record KnownBytes : Type 0 where
+  pub told : ℕ
+  pub spans : List Span
+  pub bytes : List ℕ
+
+-- whether the byte at an offset is known
+abbrev pub is_known : KnownBytes → ℕ → Bool
+is_known k offset = is_some (byte_in_parts k.told k.spans k.bytes offset)
+
+-- these bytes are known, from an offset on
+abbrev pub AreKnown : KnownBytes → ℕ → List ℕ → Type 0
+AreKnown k offset run = (i : ℕ) → i < length run → byte_in_parts k.told k.spans k.bytes (offset + i) ≡ Some (slice_index run i)
+
+-- the input in which each byte that is not known is 1
+abbrev pub input_of : KnownBytes → List ℕ
+input_of k = filled_input k.told k.spans k.bytes
+
+-- the known bytes as a source
+abbrev pub known_state : KnownBytes → List Span → Option Missing → State
+known_state k seen missed = parts_state k.told k.spans k.bytes seen missed
+
+-- the missing bytes lie within the input, and the first of them is not known
+abbrev pub Lacks : KnownBytes → Missing → Type 0
+Lacks k m = (0 < m.sure) × (m.sure ≤ m.most) × (m.start + m.most ≤ k.told) × (is_known k m.start ≡ false)
+
+-- the offset after the last byte that a failed read requests
+abbrev pub end_of : Option Missing → ℕ
+end_of None = 0
+end_of (Some m) = m.start + m.most
+
+-- A read of a text of at most `most` bytes that sees its first `found` bytes and misses these fails as the text says.
+abbrev pub MissesText : KnownBytes → Text → ℕ → ℕ → ℕ → Missing → Type 0
+MissesText k text offset found most m =
+    (seen : List Span) (missed : Option Missing) (b : State) → b ≡ known_state k (seen ++ span_at offset found) (Some m)
+    → Runs {X = List ℕ} (known_state k seen missed) b (Err Halt.Failed) (text_read (input_of k) text offset most)

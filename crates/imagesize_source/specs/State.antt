@@ -4,7 +4,7 @@ use Rattle.imagesize_source.specs.Input.{span_at}
 use Rattle.imagesize_source.specs.Limits.{most_held}
 use Rattle.imagesize_source.specs.declared.error.ImageError.{ImageError}
 use Rattle.imagesize_source.specs.declared.halt.Halt.{Halt}
-use Rattle.imagesize_source.specs.declared.source.parts.Missing.{Missing}
+use Rattle.imagesize_source.specs.declared.source.known.Missing.{Missing}
 use Rattle.imagesize_source.specs.declared.span.Span.{Span}
 use Rattle.imagesize_source.specs.Errors.{end_of_input, is_fault}
 use Rattle.imagesize_source.specs.Layout.{Layout, layout_reads}

@@ -1,5 +1,5 @@
 //! Reads at an offset: bytes, and numbers in both byte orders. Offsets count bytes from 0.
-ghost use Rattle.std.specs.Prelude.{◌≡◌, ◌+◌, ◌^◌, ◌<◌, ◌≤◌, true, length, IfOk, IfErr, IfSome};
+ghost use Rattle.std.specs.Prelude.{◌≡◌, ◌+◌, ◌<◌, true, length, IfOk, IfSome};
 ghost use Rattle.imagesize_source.specs.Layout.{layout_reads, if_there, some_where};
 ghost use Rattle.imagesize_source.specs.Layout.Layout.{«done»};
 ghost use Rattle.imagesize_source.specs.Paying.{Paid};

@@ -10,6 +10,7 @@ use crate::{Halt, ImageError, Text};
 use held::{Claims, Counts, HeldSource};
 
 pub mod held;
+pub mod known;
 pub mod log;
 pub mod parts;
 pub mod recording;

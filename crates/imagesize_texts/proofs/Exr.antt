@@ -31,7 +31,8 @@ use Rattle.imagesize_source.proofs.Tests.{on_test}
 use Rattle.imagesize_source.proofs.Way.{RecordedLaws, answers_last}
 use Rattle.imagesize_texts.specs.Exr.{exr, exr_attributes, exr_attribute, exr_named, names_of, exr_open, exr_step, exr_typed, exr_value, exr_window, name_room, window_size, is_data_window, is_box, signed_at}
 use Rattle.imagesize_texts.specs.Texts.{line_at}
-use Rattle.imagesize_texts.proofs.Texts.{lasts_then, line_made, number_lasts, text_begins, text_beyond, text_onto, text_plain, text_tells, text_total}
+use Rattle.imagesize_source.proofs.Extension.{lasts_then, number_lasts}
+use Rattle.imagesize_texts.proofs.Texts.{line_made, text_begins, text_beyond, text_onto, text_plain, text_tells, text_total}
 
 -- the four bytes of a number
 first_four : (bs : List ℕ) → 4 ≤ length bs

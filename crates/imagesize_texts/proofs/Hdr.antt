@@ -14,14 +14,14 @@ use Rattle.imagesize_source.proofs.Advances.{Begins, Tells, advances, states_fol
 use Rattle.imagesize_source.proofs.Ahead.{Ahead}
 use Rattle.imagesize_source.proofs.ChainLaws.{local_chain, lasts_chain}
 use Rattle.imagesize_source.proofs.Agreement.{local_then, local_layout, with_texts}
-use Rattle.imagesize_source.proofs.Extension.{more}
+use Rattle.imagesize_source.proofs.Extension.{lasts_then, more}
 use Rattle.imagesize_source.proofs.Layouts.{over-bind, then_then}
 use Rattle.imagesize_source.proofs.Spends.{Onto, said_to, spends, spends_then, chain_onto}
 use Rattle.imagesize_source.proofs.Tests.{on_test}
 use Rattle.imagesize_source.proofs.Way.{TextsLaws, answers_last}
 use Rattle.imagesize_texts.specs.Hdr.{hdr, hdr_identifier, check_identifier, hdr_lines, hdr_line, hdr_open, hdr_step, is_identifier, is_resolution, resolution, second_and_fourth}
 use Rattle.imagesize_texts.proofs.Alike.{alone}
-use Rattle.imagesize_texts.proofs.Texts.{found_by, lasts_then, line_made, text_begins, text_beyond, text_onto, text_plain, text_tells}
+use Rattle.imagesize_texts.proofs.Texts.{found_by, line_made, text_begins, text_beyond, text_onto, text_plain, text_tells}
 
 -- what holds of each line
 by_line : (P : Layout (Said (Unit {0}) ImageSize) → Type 0) (offset : ℕ) (text : List ℕ)

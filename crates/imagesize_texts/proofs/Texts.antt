@@ -24,7 +24,7 @@ use Rattle.imagesize_source.proofs.Advances.{Tells, Begins}
 use Rattle.imagesize_source.proofs.Counts.{text_length, total-span_at}
 use Rattle.imagesize_source.proofs.Layouts.{then_gives}
 use Rattle.imagesize_source.proofs.PastTheEnd.{saturated_by}
-use Rattle.imagesize_source.proofs.Extension.{more, onward_more}
+use Rattle.imagesize_source.proofs.Extension.{more}
 use Rattle.imagesize_source.proofs.Runs.{answered, part_is, plain_end, total-append, without_fault}
 use Rattle.imagesize_source.proofs.Spends.{Onto}
 use Rattle.imagesize_source.proofs.Tests.{on_test}
@@ -310,16 +310,3 @@ pub text_saturated : {X : Type 0} {a b : State} {r : Result X Halt} (t : Text) (
 unfolding span_at
 text_saturated t offset at k f = saturated_by (λ p d. text_as d t p k f) (just (f []) []) offset at
     (λ d p far. ap (λ bs. just (f bs) (span_at p (length bs))) (text_none d t p k far))
-
--- readings behind readings last where both do
-pub lasts_then : {X Y : Type 0} (r : List ℕ → Reads X) (f : X → List ℕ → Reads Y) → Lasts r → ((y : X) → Lasts (f y))
-    → Lasts (λ d. and_then (r d) (λ y. f y d))
-lasts_then r f first rest d x v is = onward_more (r d) (r (d ++ x)) (λ y. f y d) (λ y. f y (d ++ x)) v is
-    (λ y got _. first d x y got) (λ y ok. rest y d x v ok)
-
--- one number lasts
-pub number_lasts : (order : Endian) (offset k : ℕ) → Lasts (λ d. number_read d order offset k)
-number_lasts order offset k d x v is =
-    let one = then_gives (number_read d order offset k) in
-    sym (then_gives (number_read (d ++ x) order offset k))
-    ∙ more d x (field order offset k done) v (λ _. tt) (ap (λ r. r.answer) one ∙ is) ∙ one

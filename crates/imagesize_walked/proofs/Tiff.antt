@@ -39,7 +39,7 @@ use Rattle.imagesize_source.proofs.ChainLaws.{chain_cost, local_chain, lasts_cha
 use Rattle.imagesize_source.proofs.Counts.{Bounded, at_most, at_most_bind, bounded_layout, bounded_then, then_within, total-span_of, total_behind}
 use Rattle.imagesize_source.proofs.Answered.{on_answer}
 use Rattle.imagesize_source.proofs.Agreement.{each_texts, local_layout, local_number, local_then, without_texts}
-use Rattle.imagesize_source.proofs.Extension.{more, number_ok, onward_more}
+use Rattle.imagesize_source.proofs.Extension.{lasts_then, more, number_lasts, number_ok, onward_more}
 use Rattle.imagesize_source.proofs.Reached.{reads_nothing, runs_bind, refused_bind}
 use Rattle.imagesize_source.proofs.Runs.{total-append}
 use Rattle.imagesize_source.proofs.States.{ends_after, goes, run_is, run_stop, run_unfolds, run_within}
@@ -470,18 +470,6 @@ header_plain : Plain tiff_header
 unfolding tiff_header
 header_plain = λ mark. by_accepted Plain (byte_order mark) _ (λ e. tt)
     (λ order number. by_accepted Plain (version_of number) _ (λ e. tt) (λ version. stated_plain order version))
-
--- readings behind readings last where both do
-lasts_then : {X Y : Type 0} (r : List ℕ → Reads X) (f : X → List ℕ → Reads Y) → Lasts r → ((y : X) → Lasts (f y))
-    → Lasts (λ d. and_then (r d) (λ y. f y d))
-lasts_then r f first rest d x v is = onward_more (r d) (r (d ++ x)) (λ y. f y d) (λ y. f y (d ++ x)) v is
-    (λ y got _. first d x y got) (λ y ok. rest y d x v ok)
-
-number_lasts : (order : Endian) (offset k : ℕ) → Lasts (λ d. number_read d order offset k)
-number_lasts order offset k d x v is =
-    let one = then_gives (number_read d order offset k) in
-    sym (then_gives (number_read (d ++ x) order offset k))
-    ∙ more d x (field order offset k done) v (λ _. tt) (ap (λ r. r.answer) one ∙ is) ∙ one
 
 -- bytes that follow change no size
 tiff_keeps : Lasts tiff

@@ -1,36 +1,16 @@
-//! The known parts of an input as a source. A read of known bytes succeeds; any other read fails and records which byte it
-//! misses.
-ghost use Rattle.std.specs.Prelude.{◌≡◌, ℕ, List, ◌+◌, ◌-◌, ◌<◌, ◌≤◌, ◌++◌, ◌&&◌, [], ◌∷◌, if◌then◌else◌, min, take, drop, length, slice_index, not, nat_le, nat_lt, is_some, true, false, None, Some, IfErr, IfOk, IfSome, IsSomeAnd};
+//! The known parts of an input.
+ghost use Rattle.std.specs.Prelude.{◌≡◌, ℕ, List, ◌+◌, ◌-◌, ◌<◌, ◌≤◌, ◌++◌, ◌&&◌, [], if◌then◌else◌, min, take, drop, length, slice_index, nat_le, nat_lt, is_some, true, false, None, Some};
 ghost use Rattle.std.specs.Option.{ForSome};
-ghost use Rattle.imagesize_source.specs.Agreement.{has_offset};
-ghost use Rattle.imagesize_source.specs.Input.{part, span_at};
-ghost use Rattle.imagesize_source.specs.Known.{AllKnown, Lacks, LeavesOut, filled_input, byte_in_parts, byte_of, parts_state, length_within};
-ghost use Rattle.imagesize_source.specs.Reading.{part_read, text_read, map_answer};
-ghost use Rattle.imagesize_source.specs.State.{Runs};
-ghost use Rattle.imagesize_source.specs.Text.{is_ended, text_front};
+ghost use Rattle.imagesize_source.specs.Input.{part};
+ghost use Rattle.imagesize_source.specs.Known.{LeavesOut, byte_in_parts, byte_of, filled_input, length_within};
 
-use super::Source;
-use super::held::{Claims, Counts};
-use super::log::SpanLog;
-use crate::part::{copy_ended, part_of};
-use crate::text::ended_behind;
-use crate::{Halt, ImageError, Reason, Span, Text};
+use super::known::{Known, KnownSource, Missing};
+use crate::part::part_of;
+use crate::{Span, Text};
 
-/// What a read misses, from its first unknown byte on.
-#[derive(Clone, Copy)]
-pub struct Missing {
-    /// The offset of that byte.
-    pub start: u64,
-    /// How many bytes from there on are certain to be read: 1 for a text whose end may be among them, else all that the read
-    /// requests.
-    pub sure: u64,
-    /// How many bytes the read requests from there on.
-    pub most: u64,
-}
-
-/// The known parts of an input, as a source.
+/// The known parts of an input.
 #[derive(Drop)]
-pub struct PartsSource<'a> {
+pub struct Parts<'a> {
     /// The spans of the known parts.
     pub spans: &'a [Span],
     /// The bytes of the spans, one span after another.
@@ -40,15 +20,9 @@ pub struct PartsSource<'a> {
     /// The known bytes from offset 0 on: those of the first parts, as far as each begins where the one before ends. Where the first part
     /// begins later, those of the first part that contains the offset.
     pub front: &'a [u8],
-    /// What the last failed read misses.
-    pub missed: Option<Missing>,
-    /// The spans of the reads.
-    pub log: SpanLog,
     // The last parts, at which a search begins, once the parts before them were passed over.
     rest: Option<Rest<'a>>,
     ghost front_known: { (i : ℕ) → i < length front.now → byte_in_parts told spans.now bytes.now i ≡ Some (slice_index front.now i) },
-    ghost seen: { AllKnown told spans.now bytes.now log.spans },
-    ghost lacks: { ForSome missed (Lacks told spans.now bytes.now) },
     ghost later: { ForSome rest (λ r. LeavesOut told spans.now bytes.now r.floor r.spans.now r.bytes.now) },
 }
 
@@ -63,139 +37,22 @@ struct Rest<'a> {
     floor: u64,
 }
 
-impl<'a> PartsSource<'a> {
-    /// A source of these parts.
-    pub fn new(spans: &'a [Span], bytes: &'a [u8], told: u64) -> Self
-        ensures spans { result.spans.now ≡ spans.now }
-        ensures bytes { result.bytes.now ≡ bytes.now }
-        ensures told { result.told ≡ told }
+impl<'a> Parts<'a> {
+    /// A source of these parts of an input of `told` bytes.
+    pub fn source(spans: &'a [Span], bytes: &'a [u8], told: u64) -> KnownSource<Parts<'a>>
+        ensures spans { result.known.spans.now ≡ spans.now }
+        ensures bytes { result.known.bytes.now ≡ bytes.now }
+        ensures told { result.known.told ≡ told }
         ensures seen { result.log.spans ≡ [] }
         ensures missed { result.missed ≡ None }
     {
-        PartsSource {
+        KnownSource::new(Parts {
             spans,
             bytes,
             told,
             front: known_front(spans, bytes, told),
-            missed: None,
-            log: SpanLog::new(),
             rest: None,
-        }
-    }
-
-    /// Forgets what the reads so far saw and missed. The parts stay as they are.
-    #[inline(always)]
-    pub fn forget(&mut self)
-        ensures spans { self.new.spans.now ≡ self.old.spans.now }
-        ensures bytes { self.new.bytes.now ≡ self.old.bytes.now }
-        ensures told { self.new.told ≡ self.old.told }
-        ensures seen { self.new.log.spans ≡ [] }
-        ensures missed { self.new.missed ≡ None }
-    {
-        self.log = SpanLog::new();
-        self.missed = None;
-    }
-
-    // Records `count` bytes from an offset on. Without bytes it records no span.
-    #[inline(always)]
-    #[tactic(auto, unfolding(crate::specs::Input::span_at))]
-    fn see(&mut self, start: u64, count: usize)
-        requires { (i : ℕ) → i < count → is_some (byte_in_parts self.old.told self.old.spans.now self.old.bytes.now (start + i)) ≡ true }
-        ensures spans { self.new.spans.now ≡ self.old.spans.now }
-        ensures bytes { self.new.bytes.now ≡ self.old.bytes.now }
-        ensures told { self.new.told ≡ self.old.told }
-        ensures seen { self.new.log.spans ≡ self.old.log.spans ++ span_at start count }
-        ensures missed { self.new.missed ≡ self.old.missed }
-    {
-        if count > 0 {
-            let len = count as u64;
-            self.push(Span { start, len });
-        }
-    }
-
-    // Records a span.
-    #[inline(always)]
-    #[tactic(auto, using(crate::proofs::Known::pushed_known))]
-    fn push(&mut self, span: Span)
-        requires { (offset : ℕ) → has_offset span offset ≡ true
-            → is_some (byte_in_parts self.old.told self.old.spans.now self.old.bytes.now offset) ≡ true }
-        ensures spans { self.new.spans.now ≡ self.old.spans.now }
-        ensures bytes { self.new.bytes.now ≡ self.old.bytes.now }
-        ensures told { self.new.told ≡ self.old.told }
-        ensures pushed { self.new.log.spans ≡ self.old.log.spans ++ span ∷ [] }
-        ensures missed { self.new.missed ≡ self.old.missed }
-    {
-        self.log = SpanLog::with(&self.log, &span);
-    }
-
-    // Records a read whose first `count` bytes are known and whose next byte is missing.
-    fn miss(&mut self, start: u64, count: usize, sure: usize, most: usize) -> Halt
-        requires known { (i : ℕ) → i < count
-            → is_some (byte_in_parts self.old.told self.old.spans.now self.old.bytes.now (start + i)) ≡ true }
-        requires some { 0 < sure }
-        requires among { sure ≤ most }
-        requires fits { start + count + most ≤ self.old.told }
-        requires unknown { is_some (byte_in_parts self.old.told self.old.spans.now self.old.bytes.now (start + count)) ≡ false }
-        ensures spans { self.new.spans.now ≡ self.old.spans.now }
-        ensures bytes { self.new.bytes.now ≡ self.old.bytes.now }
-        ensures told { self.new.told ≡ self.old.told }
-        ensures seen { self.new.log.spans ≡ self.old.log.spans ++ span_at start count }
-        ensures missed { self.new.missed ≡ Some (record { start = start + count; sure = sure; most = most }) }
-        ensures halts { result ≡ Halt.Failed }
-    {
-        self.see(start, count);
-        self.missed = Some(Missing {
-            start: start + count as u64,
-            sure: sure as u64,
-            most: most as u64,
-        });
-        Halt::Failed
-    }
-
-    // Copies the known bytes of a read into the buffer, up to the first missing byte. Returns how many it copied, and how many
-    // bytes of the buffer lie within the input.
-    #[inline(always)]
-    fn fill_known(&mut self, offset: u64, buffer: &mut [u8]) -> (usize, usize)
-        ensures spans { self.new.spans.now ≡ self.old.spans.now }
-        ensures bytes { self.new.bytes.now ≡ self.old.bytes.now }
-        ensures told { self.new.told ≡ self.old.told }
-        ensures seen { self.new.log.spans ≡ self.old.log.spans }
-        ensures missed { self.new.missed ≡ self.old.missed }
-        ensures wanted { result.1 ≡ min (length buffer.new) (self.old.told - offset) }
-        ensures within { result.0 ≤ result.1 }
-        ensures copied { take result.0 buffer.new
-            ≡ part (filled_input self.old.told self.old.spans.now self.old.bytes.now) offset result.0 }
-        ensures known { (i : ℕ) → i < result.0
-            → is_some (byte_in_parts self.old.told self.old.spans.now self.old.bytes.now (offset + i)) ≡ true }
-        ensures missing { result.0 < result.1
-            → is_some (byte_in_parts self.old.told self.old.spans.now self.old.bytes.now (offset + result.0)) ≡ false }
-    {
-        let wanted = count_there(self.told, offset, buffer.len());
-        let found = self.gather(offset, &mut buffer[..wanted]);
-        (found, wanted)
-    }
-
-    // Copies the known bytes of a read into the buffer, up to the first missing byte, and returns how many it copied. An empty read,
-    // such as one past the end, needs no part.
-    #[inline(always)]
-    fn gather(&mut self, offset: u64, buffer: &mut [u8]) -> usize
-        requires { length buffer.old ≤ self.old.told - offset }
-        ensures spans { self.new.spans.now ≡ self.old.spans.now }
-        ensures bytes { self.new.bytes.now ≡ self.old.bytes.now }
-        ensures told { self.new.told ≡ self.old.told }
-        ensures seen { self.new.log.spans ≡ self.old.log.spans }
-        ensures missed { self.new.missed ≡ self.old.missed }
-        ensures within { result ≤ length buffer.old }
-        ensures copied { take result buffer.new ≡ part (filled_input self.old.told self.old.spans.now self.old.bytes.now) offset result }
-        ensures known { (i : ℕ) → i < result
-            → is_some (byte_in_parts self.old.told self.old.spans.now self.old.bytes.now (offset + i)) ≡ true }
-        ensures missing { result < length buffer.old
-            → is_some (byte_in_parts self.old.told self.old.spans.now self.old.bytes.now (offset + result)) ≡ false }
-    {
-        if buffer.is_empty() || self.spans.len() <= FEW {
-            return self.gather_among(&self.all(), offset, buffer);
-        }
-        self.gather_on(offset, buffer)
+        })
     }
 
     // Copies what `gather` copies. The search begins after the parts that were passed over.
@@ -205,8 +62,6 @@ impl<'a> PartsSource<'a> {
         ensures spans { self.new.spans.now ≡ self.old.spans.now }
         ensures bytes { self.new.bytes.now ≡ self.old.bytes.now }
         ensures told { self.new.told ≡ self.old.told }
-        ensures seen { self.new.log.spans ≡ self.old.log.spans }
-        ensures missed { self.new.missed ≡ self.old.missed }
         ensures within { result ≤ length buffer.old }
         ensures copied { take result buffer.new ≡ part (filled_input self.old.told self.old.spans.now self.old.bytes.now) offset result }
         ensures known { (i : ℕ) → i < result
@@ -289,149 +144,43 @@ impl<'a> PartsSource<'a> {
         ensures spans { self.new.spans.now ≡ self.old.spans.now }
         ensures bytes { self.new.bytes.now ≡ self.old.bytes.now }
         ensures told { self.new.told ≡ self.old.told }
-        ensures seen { self.new.log.spans ≡ self.old.log.spans }
-        ensures missed { self.new.missed ≡ self.old.missed }
     {
         self.rest = Some(passed_over(&self.rest_at(offset), self.told, offset));
     }
-
-    // A read that `front` does not contain as a whole.
-    #[cold]
-    #[inline(never)]
-    fn gather_at(&mut self, offset: u64, buffer: &mut [u8]) -> Result<usize, Halt>
-        ensures bound { IfOk result (λ n. n ≤ length buffer.new) }
-        ensures there { IfOk result (λ n. n ≤ self.old.told - offset) }
-
-        // A failed read misses all its bytes from the first missing one on, as far as the input goes.
-        ensures all { IfErr result (λ _. IsSomeAnd self.new.missed
-            (λ m. (m.start + m.sure ≡ min (offset + length buffer.old) self.old.told) × (m.most ≡ m.sure))) }
-        ensures runs { Runs (parts_state self.old.told self.old.spans.now self.old.bytes.now self.old.log.spans self.old.missed)
-            (parts_state self.new.told self.new.spans.now self.new.bytes.now self.new.log.spans self.new.missed)
-            (map_answer (λ n. take n buffer.new) result)
-            (part_read (filled_input self.old.told self.old.spans.now self.old.bytes.now) offset (length buffer.new)) }
-    {
-        let (found, wanted) = self.fill_known(offset, buffer);
-        if found < wanted {
-            let missing = wanted - found;
-            return Err(self.miss(offset, found, missing, missing));
-        }
-        self.see(offset, found);
-        Ok(found)
-    }
-
-    // A text that `front` does not contain as a whole. The bytes of `front` are not searched again.
-    #[cold]
-    #[inline(never)]
-    fn gather_text(&mut self, offset: u64, text: Text, buffer: &mut [u8]) -> Result<usize, Halt>
-        requires { is_ended text (take (length buffer.old) (drop offset self.old.front.now)) ≡ false }
-        ensures bound { IfOk result (λ n. n ≤ length buffer.new) }
-        ensures there { IfOk result (λ n. n ≤ self.old.told - offset) }
-        ensures runs { Runs (parts_state self.old.told self.old.spans.now self.old.bytes.now self.old.log.spans self.old.missed)
-            (parts_state self.new.told self.new.spans.now self.new.bytes.now self.new.log.spans self.new.missed)
-            (map_answer (λ n. take n buffer.new) result)
-            (text_read (filled_input self.old.told self.old.spans.now self.old.bytes.now) text offset (length buffer.new)) }
-    {
-        let run = bytes_behind(self.front, offset).len();
-        let (found, wanted) = self.fill_known(offset, buffer);
-        let searched = run.min(found);
-        let Some(count) = uncut_length(text, &buffer[..found], searched, wanted) else {
-            return Err(self.miss(offset, found, 1, wanted - found));
-        };
-        self.see(offset, count);
-        Ok(count)
-    }
 }
 
-impl Claims for PartsSource<'_> {}
+impl Known for Parts<'_> {
+    ghost known = { λ s. record { told = s.told; spans = s.spans.now; bytes = s.bytes.now } };
 
-impl Source for PartsSource<'_> {
-    ghost state = { λ s. parts_state s.told s.spans.now s.bytes.now s.log.spans s.missed };
+    ghost near = { λ s offset. drop offset s.front.now };
 
+    #[inline(always)]
     fn told(&self) -> u64 {
         self.told
     }
 
-    fn taken(&self) -> u64 {
-        0
-    }
-
-    fn refusal(&self, halt: Halt) -> ImageError {
-        halt.error(Reason::EndOfInput, 0)
-    }
-
-    // It shows no bytes.
     #[inline(always)]
-    fn pass(&mut self, _counts: Counts) {}
+    fn near(&self, offset: u64) -> &[u8] {
+        bytes_behind(self.front, offset)
+    }
 
+    // An empty read, such as one past the end, needs no part.
     #[inline(always)]
-    fn read_at(&mut self, offset: u64, buffer: &mut [u8]) -> Result<usize, Halt> {
-        let Some(found) = whole_part(self.front, offset, buffer.len()) else {
-            return self.gather_at(offset, buffer);
-        };
-        buffer.copy_from_slice(found);
-        self.see(offset, found.len());
-        Ok(found.len())
+    fn gather(&mut self, offset: u64, buffer: &mut [u8]) -> usize {
+        if buffer.is_empty() || self.spans.len() <= FEW {
+            return self.gather_among(&self.all(), offset, buffer);
+        }
+        self.gather_on(offset, buffer)
     }
 
+    // The byte that ends the text may be each of those that are missing.
     #[inline(always)]
-    fn read_text(&mut self, offset: u64, text: Text, buffer: &mut [u8]) -> Result<usize, Halt> {
-        let Some(count) = copy_ended(bytes_behind(self.front, offset), text, buffer) else {
-            return self.gather_text(offset, text, buffer);
-        };
-        self.see(offset, count);
-        Ok(count)
-    }
-}
-
-// The `count` bytes from an offset on, or `None` if the slice ends earlier.
-#[inline(always)]
-#[tactic(auto, unfolding(crate::specs::Input::part))]
-fn whole_part(bytes: &[u8], offset: u64, count: usize) -> Option<&[u8]>
-    ensures { IfSome result (λ found. (found.now ≡ part bytes.now offset count) × (length found.now ≡ count)
-        × (offset + count ≤ length bytes.now)) }
-{
-    let start = offset as usize;
-    if start > bytes.len() {
-        return None;
-    }
-    let rest = &bytes[start..];
-    if count > rest.len() {
-        return None;
-    }
-    Some(&rest[..count])
-}
-
-/// How many bytes from an offset on lie within an input of this length, up to the length of the buffer.
-pub fn count_there(told: u64, offset: u64, buffer: usize) -> usize
-    ensures { result ≡ min buffer (told - offset) }
-{
-    let left = told.saturating_sub(offset);
-    if left < buffer as u64 {
-        left as usize
-    } else {
-        buffer
-    }
-}
-
-/// How many bytes the text at the front of the bytes has. `None` if it may go on after them: none of them ends it, and the read
-/// requests more. The first `searched` bytes do not end it.
-#[tactic(auto, using(crate::proofs::Texts::fronts, crate::proofs::Texts::whole_fronts))]
-pub fn uncut_length(text: Text, bytes: &[u8], searched: usize, wanted: usize) -> Option<usize>
-    requires searched { searched ≤ length bytes.now }
-    requires unended { is_ended text (take searched bytes.now) ≡ false }
-    ensures within { IfSome result (λ n. n ≤ length bytes.now) }
-    ensures length { IfSome result (λ n. n ≡ length (text_front text bytes.now)) }
-    ensures uncut { IfSome result (λ _. (nat_lt (length bytes.now) wanted && not (is_ended text bytes.now)) ≡ false) }
-    ensures cut { result ≡ None → (nat_lt (length bytes.now) wanted && not (is_ended text bytes.now)) ≡ true }
-{
-    // If all bytes are searched and more are wanted, this saves the call.
-    if searched == bytes.len() && searched < wanted {
-        return None;
-    }
-    match ended_behind(text, &bytes[..searched], &bytes[searched..]) {
-        Some(more) => Some(searched + more),
-        None if bytes.len() < wanted => None,
-        None => Some(bytes.len()),
+    fn missed_text(&self, _text: Text, offset: u64, found: usize, left: usize) -> Missing {
+        Missing {
+            start: offset + found as u64,
+            sure: 1,
+            most: left as u64,
+        }
     }
 }
 

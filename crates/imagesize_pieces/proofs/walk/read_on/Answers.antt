@@ -1,23 +1,23 @@
-use Rattle.std.proofs.Common.{◌≡◌, ℕ, ◌+◌, ◌-◌, ◌<◌, ◌≤◌, ◌^◌, ◌++◌, Bool, List, length, max, min, take, drop, true, refl, sym, ◌∙◌, ap, subst, arith}
+use Rattle.std.proofs.Common.{◌≡◌, ℕ, [], None, ◌+◌, ◌-◌, ◌<◌, ◌≤◌, ◌^◌, ◌++◌, Bool, List, length, max, min, take, drop, true, refl, sym, ◌∙◌, ap, subst, arith}
 use Rattle.std.specs.List.{list_any}
 use Rattle.std.proofs.lemmas.List.{length-append, length-take, length-drop, drop-drop}
 use Rattle.imagesize_source.specs.Agreement.{AllRead}
 use Rattle.imagesize_source.specs.Layout.{Layout, layout_reads}
 use Rattle.imagesize_source.specs.Chain.{Said}
+use Rattle.imagesize_source.specs.Known.{end_of}
 use Rattle.imagesize_source.specs.Reading.{Reads, is_faulted, put_behind, uncounted}
 use Rattle.imagesize_source.specs.Sharing.{Stood}
-use Rattle.imagesize_source.specs.State.{Runs}
+use Rattle.imagesize_source.specs.State.{State, Runs}
 use Rattle.imagesize_source.specs.Walk.{run}
 use Rattle.imagesize_source.proofs.Agreement.{with_texts}
 use Rattle.imagesize_source.proofs.Marks.{behind-behind}
 use Rattle.imagesize_source.proofs.Sharing.{run_shared, shares-left}
 use Rattle.imagesize_source.proofs.States.{goes, run_unfolds}
 use Rattle.imagesize_pieces.specs.Standing.{Stands}
-use Rattle.imagesize_pieces.specs.Stream.{Begins, Needs, Reach, Says, end_of, stream_state}
-use Rattle.imagesize_pieces.specs.declared.source.StreamSource.{StreamSource}
+use Rattle.imagesize_pieces.specs.Stream.{Begins, Needs, Reach, Says, stream_state}
 use Rattle.imagesize_pieces.specs.declared.stand.Stand.{Stand}
 use Rattle.imagesize_pieces.proofs.Asking.{Left, ends_left, few_left, needs_left, seen_there, shares_left}
-use Rattle.imagesize_pieces.proofs.Beginning.{Holds, Run, begins_left, run_held}
+use Rattle.imagesize_pieces.proofs.Beginning.{Heard, Holds, Run, begins_left, run_held}
 use Rattle.imagesize_pieces.proofs.Called.{Called, called, fresh, goes_on, holds_after, is_honest, says_begun, state_of}
 use Rattle.imagesize_pieces.proofs.Needing.{needs_any, needs_behind, needs_wider, onward_any}
 use Rattle.imagesize_pieces.proofs.Reaching.{reach_covered}
@@ -43,8 +43,21 @@ module _ (g : Over) (c : After-walk_on-found g) where
   unread = drop (stand.start - stand.passed) chunk
 
   -- the source after the walk
-  abbrev source : StreamSource
-  source = c.walk_on-found.new.source
+  abbrev source : Heard
+  source =
+      let s = c.walk_on-found.new.source in
+      record {
+        told = s.known.told;
+        start = s.known.start;
+        kept = s.known.kept.now;
+        chunk = s.known.chunk.now;
+        spans = s.log.spans;
+        missed = s.missed;
+        within = s.known.within;
+        seen = s.seen;
+        lacks = s.lacks;
+        certain = s.certain;
+      }
 
   -- the offset of the record that the walk came to, and its layout
   abbrev at : ℕ
@@ -63,18 +76,26 @@ module _ (g : Over) (c : After-walk_on-found g) where
   unread_is : c.bytes_behind-unread.result.now ≡ unread
   unread_is = c.bytes_behind-unread.ensures ∙ ap (λ k. drop k chunk) c.saturating_sub.ensures
 
-  call : Called c.new-source.result source stand.told start kept unread
-  call = let new = c.new-source.ensures in
-      called _ source stand.told start kept unread (λ i. stream_state (new.told i) ((new.start ∙ c.min-start.ensures) i)
-      ((new.kept ∙ ap (λ k. take k c.args.buffer.now) c.saturating_sub-count.ensures) i) ((new.chunk ∙ unread_is) i) (new.seen i)
-      (new.missed i)) c.walk_on-found.ensures.runs.frame
+  -- the source before the walk
+  abbrev made : State
+  made =
+      let s = c.new-source.result in
+      stream_state s.known.told s.known.start s.known.kept.now s.known.chunk.now s.log.spans s.missed
+
+  call : Called made source stand.told start kept unread
+  call =
+      let new = c.new-source.ensures in
+      called made source stand.told start kept unread
+      ((λ i. stream_state (new.known i).told (new.known i).start (new.known i).kept.now (new.known i).chunk.now (new.seen i) (new.missed i))
+      ∙ (λ i. stream_state stand.told (c.min-start.ensures i) (take (c.saturating_sub-count.ensures i) c.args.buffer.now) (unread_is i) [] None))
+      c.walk_on-found.ensures.runs.frame
 
   short : source.told < 2 ^ 63
   short = omega (arith, call.told, stand.short)
 
   -- all bytes that arrived from the start on are there
   lengths : (start + (c.saturating_sub-count.result + length c.bytes_behind-unread.result.now) ≡ stand.passed + length chunk)
-      × (source.start + (length source.kept.now + length source.chunk.now) ≡ stand.passed + length chunk)
+      × (source.start + (length source.kept + length source.chunk) ≡ stand.passed + length chunk)
   lengths = omega (
     arith,
     length-take (stand.passed - stand.start) c.args.buffer.now,
