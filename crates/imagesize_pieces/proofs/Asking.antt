@@ -18,7 +18,7 @@ use Rattle.imagesize_source.proofs.Runs.{past-recorded}
 use Rattle.imagesize_source.proofs.Sharing.{shares-right}
 use Rattle.imagesize_source.specs.Sharing.{Shares}
 use Rattle.imagesize_pieces.specs.Stream.{Begins, Needs, Reach, came}
-use Rattle.imagesize_pieces.proofs.Beginning.{Heard, Holds, begins_shares, input_of}
+use Rattle.imagesize_pieces.proofs.Beginning.{ArrivedSource, Holds, begins_shares, input_of}
 use Rattle.imagesize_pieces.proofs.Called.{fresh, state_of}
 use Rattle.imagesize_pieces.proofs.Reaching.{reach_covered}
 use Rattle.imagesize_pieces.proofs.Streaming.{unknown_behind}
@@ -71,13 +71,13 @@ alike_missed {X} {texts} d e f g made rest mark m alike all here shares = elim a
 
 -- A layout that reads nothing before the offset `low` missed a byte, after the reads of some spans. All bytes that came from
 -- there on are in the source.
-pub record Left {X : Type 0} (l : Layout X) (low : ℕ) (b : Heard) : Type 0 where
+pub record Left {X : Type 0} (l : Layout X) (low : ℕ) (b : ArrivedSource) : Type 0 where
   pub from : b.start ≤ low
   pub above : (d : List ℕ) (offset : ℕ) → is_covered (layout_reads d l).marks offset ≡ true → low ≤ offset
   pub before : List Span
   pub lacks : Missed (state_after (fresh b) before) (state_of b) (layout_reads (input_of b) l).marks
 
-module _ {X : Type 0} {l : Layout X} {low : ℕ} {b : Heard} (left : Left l low b) where
+module _ {X : Type 0} {l : Layout X} {low : ℕ} {b : ArrivedSource} (left : Left l low b) where
   pub what : (m : Missing) × (b.missed ≡ Some m)
       × Misses (state_after (fresh b) left.before) (state_of b) (layout_reads (input_of b) l).marks m
   what = missed_is b.missed _ left.lacks.told

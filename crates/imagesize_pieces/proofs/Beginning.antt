@@ -53,7 +53,7 @@ run_held front chunk kept from passed as_many is_kept = record {
 }
 
 -- a source of the bytes that arrived, with what it saw and missed
-pub record Heard : Type 0 where
+pub record ArrivedSource : Type 0 where
   pub told : ℕ
   pub start : ℕ
   pub kept : List ℕ
@@ -66,14 +66,14 @@ pub record Heard : Type 0 where
   pub certain : ForSome missed (λ m. nat_le start m.start ≡ true → m.sure ≡ m.most)
 
 -- what a source holds are these bytes, from its first offset on
-abbrev pub Holds : List ℕ → Heard → Type 0
+abbrev pub Holds : List ℕ → ArrivedSource → Type 0
 Holds front s = Run front s.kept s.chunk s.start
 
 -- the input as it reads it
-abbrev pub input_of : Heard → List ℕ
+abbrev pub input_of : ArrivedSource → List ℕ
 input_of s = stream_input s.told s.start s.kept s.chunk
 
-module _ (s : Heard) {front : List ℕ} (run : Holds front s) where
+module _ (s : ArrivedSource) {front : List ℕ} (run : Holds front s) where
   -- the byte that the source reads, where it came
   byte_here : (offset : ℕ) → s.start ≤ offset → offset < length front → get_or (input_of s) offset 0 ≡ get_or front offset 0
   byte_here offset above below =

@@ -10,18 +10,40 @@ use Rattle.imagesize_source.specs.Sharing.{Shares}
 use Rattle.imagesize_source.specs.State.{State, Frame, Runs, EndedBy, parts_of}
 use Rattle.imagesize_source.proofs.KnownReadings.{past-parts}
 use Rattle.imagesize_pieces.specs.Stream.{Says, came, start_of, stream_state}
-use Rattle.imagesize_pieces.proofs.Beginning.{Heard, Holds, Run, begins_shares, input_of}
+use Rattle.imagesize_pieces.specs.contracts.arrived.ArrivedKnown.TheImpl.{ghosts}
+use Rattle.imagesize_pieces.specs.declared.arrived.Arrived.{Arrived}
+use Rattle.imagesize_source.specs.declared.source.known.KnownSource.{KnownSource}
+use Rattle.imagesize_pieces.proofs.Beginning.{ArrivedSource, Holds, Run, begins_shares, input_of}
 
 -- readings that see an input by their marks alone, however long it is
 abbrev pub IsShared : {X : Type 0} → (List ℕ → Reads X) → Type 0
 IsShared f = (d e : List ℕ) → Shares d e (f e).marks → f d ≡ f e
 
+-- a source of the bytes that arrived
+abbrev pub arrived_source : KnownSource Arrived ghosts → ArrivedSource
+arrived_source s = record {
+  told = s.known.told;
+  start = s.known.start;
+  kept = s.known.kept.now;
+  chunk = s.known.chunk.now;
+  spans = s.log.spans;
+  missed = s.missed;
+  within = s.known.within;
+  seen = s.seen;
+  lacks = s.lacks;
+  certain = s.certain;
+}
+
+-- and its state before the first read
+abbrev pub made_state : KnownSource Arrived ghosts → State
+made_state s = stream_state s.known.told s.known.start s.known.kept.now s.known.chunk.now s.log.spans s.missed
+
 -- a source as its state
-abbrev pub state_of : Heard → State
+abbrev pub state_of : ArrivedSource → State
 state_of s = stream_state s.told s.start s.kept s.chunk s.spans s.missed
 
 -- the source before its first read
-abbrev pub fresh : Heard → State
+abbrev pub fresh : ArrivedSource → State
 fresh s = stream_state s.told s.start s.kept s.chunk [] None
 
 -- what is known of an input, with its length
@@ -34,14 +56,14 @@ first_end [] = 0
 first_end (s ∷ spans) = s.start + s.len
 
 -- A source in the state a was made of these bytes. The source b is that one after a call, and reads the same bytes.
-pub record Called (a : State) (b : Heard) (n low : ℕ) (kept unread : List ℕ) : Type 0 where
+pub record Called (a : State) (b : ArrivedSource) (n low : ℕ) (kept unread : List ℕ) : Type 0 where
   pub new : a ≡ fresh b
   pub told : n ≡ b.told
   pub start : low ≡ b.start
   pub ends : low + (length kept + length unread) ≡ b.start + (length b.kept + length b.chunk)
   pub bytes : kept ++ unread ≡ b.kept ++ b.chunk
 
-pub called : (a : State) (b : Heard) (told start : ℕ) (kept unread : List ℕ)
+pub called : (a : State) (b : ArrivedSource) (told start : ℕ) (kept unread : List ℕ)
     → a ≡ stream_state told start kept unread [] None → (state_of b).frame ≡ a.frame
     → Called a b told start kept unread
 called a b told start kept unread new frame = record {
@@ -54,7 +76,7 @@ called a b told start kept unread new frame = record {
   same : (told, (came start kept unread, kept ++ unread)) ≡ parts (state_of b).frame
   same = sym (ap parts (frame ∙ ap (λ (s : State). s.frame) new))
 
-pub holds_after : {a : State} {b : Heard} {told start : ℕ} (front kept unread : List ℕ) → Called a b told start kept unread
+pub holds_after : {a : State} {b : ArrivedSource} {told start : ℕ} (front kept unread : List ℕ) → Called a b told start kept unread
     → Run front kept unread start → Holds front b
 holds_after front kept unread call run = record {
   is = sym call.bytes ∙ run.is ∙ ap (λ k. drop k front) call.start;
@@ -69,7 +91,7 @@ goes_on {X} {a} {b} {r} uncounted runs faultless = by_answer r runs.ended faultl
   by_answer (Ok x) ended none = refl
   by_answer (Err halt) ended none = let budget = ended.budget in grind arith
 
-module _ (b : Heard) (short : b.told < 2 ^ 63) where
+module _ (b : ArrivedSource) (short : b.told < 2 ^ 63) where
   pub is_honest : (fresh b).held.honest ≡ true
   is_honest = grind (arith, nat_tests)
 

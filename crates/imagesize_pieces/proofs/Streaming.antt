@@ -1,12 +1,8 @@
 -- What came of an input from an offset on, as one part.
-use Rattle.std.proofs.Common.{◌≡◌, ℕ, zero, suc, ◌+◌, ◌-◌, ◌<◌, ◌≤◌, min, true, false, List, ◌++◌, length, take, drop, get_or, Some, is_some, refl, sym, ap, ◌∙◌, arith}
+use Rattle.std.proofs.Common.{◌≡◌, ℕ, ◌+◌, ◌-◌, ◌<◌, ◌≤◌, true, false, List, ◌++◌, length, drop, get_or, Some, is_some, ap, arith}
 use Rattle.std.proofs.lemmas.Bool.Decides.{nat_tests}
-use Rattle.std.proofs.lemmas.List.{length-append, length-drop, get_or-append_right, get_or_append_left, get_or-drop, get_or-take}
-use Rattle.imagesize_source.specs.Input.{part}
-use Rattle.imagesize_pieces.specs.Stream.{byte_at, came, run_at, stream_input}
-use Rattle.imagesize_source.proofs.Known.{known_below}
-use Rattle.imagesize_source.proofs.Gathering.{run_part}
-use Rattle.imagesize_source.proofs.Parts.{part_none}
+use Rattle.std.proofs.lemmas.List.{length-append, length-drop, get_or-append_right, get_or_append_left, get_or-drop}
+use Rattle.imagesize_pieces.specs.Stream.{byte_at, run_at}
 
 module _ (n start : ℕ) (kept chunk : List ℕ) where
   -- an offset is known where its byte came

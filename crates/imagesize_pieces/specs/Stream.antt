@@ -1,5 +1,5 @@
 -- An input that arrives in chunks: what the bytes so far say about every input that begins with them.
-use Rattle.std.specs.Prelude.{◌≡◌, ℕ, ◌+◌, ◌-◌, ◌≤◌, ◌<◌, nat_lt, if◌then◌else◌, Bool, true, false, List, [], ◌∷◌, ◌++◌, length, take, drop, Option, None, Some, Result}
+use Rattle.std.specs.Prelude.{◌≡◌, ℕ, ◌+◌, ◌-◌, ◌≤◌, ◌<◌, nat_lt, if◌then◌else◌, Bool, true, false, List, [], ◌∷◌, ◌++◌, length, take, drop, Option, Result}
 use Rattle.imagesize_source.specs.Agreement.{EndsBetween, is_covered}
 use Rattle.imagesize_source.specs.Known.{KnownBytes, byte_in_parts, input_of, known_state}
 use Rattle.imagesize_source.specs.Layout.{Layout, done, refuse, field, reading, begin_record}

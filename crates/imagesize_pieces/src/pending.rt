@@ -2,13 +2,13 @@
 ghost use Rattle.std.specs.Prelude.{◌≡◌, ◌+◌, ◌-◌, ◌≤◌, ◌++◌, [], ◌∷◌, false, true, length, not, take};
 ghost use Rattle.std.specs.Char.{is_ascii_whitespace};
 ghost use Rattle.std.specs.List.{list_any};
-ghost use Rattle.imagesize_source.specs.Text.{has_begun, is_ended};
+ghost use Rattle.imagesize_source.specs.Text.{is_ended};
 ghost use Rattle.imagesize_pieces.specs.Pending.{KeepsPending};
 
 use crate::buffer::{append, bytes_behind};
 use crate::stand::Stand;
 use imagesize_source::Text;
-use imagesize_source::text::ended_length;
+use imagesize_source::text::{ended_length, has_begun};
 
 /// Keeps a chunk that comes before the text at the next record's offset, or belongs to it. Returns whether it was kept. It is kept
 /// only if no byte so far ends the text, these are fewer than `most`, and the input has more bytes. The first `searched` kept bytes
@@ -87,17 +87,6 @@ fn word_stays_pending(first: &[u8], rest: &[u8]) -> bool
         return !has_white(rest);
     }
     !is_closed(Text::Word, rest)
-}
-
-// Whether a word that these bytes do not end has begun. If it has, the last of them is a byte of the word.
-#[inline(always)]
-#[tactic(auto, using(imagesize_source::proofs::Unended::begun_at))]
-fn has_begun(bytes: &[u8]) -> bool
-    requires { is_ended Text.Word bytes.now ≡ false }
-    ensures { result ≡ has_begun bytes.now }
-{
-    let count = bytes.len();
-    count > 0 && !bytes[count - 1].is_ascii_whitespace()
 }
 
 // Whether one of the bytes is white space.

@@ -45,6 +45,7 @@ pub struct HeldSource<'a, S: Claims> {
     ghost shown: { AreShown (S.claim of.now) start bytes.now told },
     ghost within: { AreWithin (S.kept of.now) start (length bytes.now) told },
     ghost paid: { left ≤ budget },
+    ghost short: { told < 2 ^ 64 },
 }
 
 impl<'a, S: Claims> HeldSource<'a, S> {
@@ -102,8 +103,6 @@ impl<'a, S: Claims> HeldSource<'a, S> {
         ensures fits { IfSome result (λ bytes. offset + length bytes.now < 2 ^ 64) }
         ensures shown { IfSome result (λ bytes. AreShown (S.claim self.now.of.now) offset bytes.now self.now.told) }
     {
-        // The proof needs that the reported length is below 2^64.
-        let _told = self.told;
         if offset < self.start {
             return None;
         }
@@ -124,8 +123,6 @@ impl<'a, S: Claims> HeldSource<'a, S> {
         ensures whole { IfSome result (λ bytes. count ≤ length bytes.now) }
         ensures shown { IfSome result (λ bytes. AreShown (S.claim self.now.of.now) offset bytes.now self.now.told) }
     {
-        // The proof needs that the reported length is below 2^64.
-        let _told = self.told;
         if count > self.bytes.len() {
             return None;
         }

@@ -206,11 +206,15 @@ impl<K: Known> KnownSource<K> {
         let (found, wanted) = self.fill_known(offset, buffer);
         if found < wanted {
             let missing = (wanted - found) as u64;
-            self.miss(offset, found, Missing {
-                start: offset + found as u64,
-                sure: missing,
-                most: missing,
-            });
+            self.miss(
+                offset,
+                found,
+                Missing {
+                    start: offset + found as u64,
+                    sure: missing,
+                    most: missing,
+                },
+            );
             return None;
         }
         self.see(offset, found);

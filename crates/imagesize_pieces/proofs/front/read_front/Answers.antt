@@ -6,10 +6,10 @@ use Rattle.imagesize_source.specs.Reading.{is_faulted}
 use Rattle.imagesize_source.specs.State.{State, Runs, state_after}
 use Rattle.imagesize_source.proofs.Agreement.{with_texts}
 use Rattle.imagesize_source.proofs.Sharing.{shared}
-use Rattle.imagesize_pieces.specs.Stream.{Begins, Says, stream_state}
+use Rattle.imagesize_pieces.specs.Stream.{Begins, Says}
 use Rattle.imagesize_pieces.proofs.Asking.{Left, depends, ends_left, few_left, needs_left}
-use Rattle.imagesize_pieces.proofs.Beginning.{Heard, Holds, input_of}
-use Rattle.imagesize_pieces.proofs.Called.{Called, called, fresh, goes_on, holds_after, is_honest, says_begun, state_of}
+use Rattle.imagesize_pieces.proofs.Beginning.{ArrivedSource, Holds, input_of}
+use Rattle.imagesize_pieces.proofs.Called.{Called, called, fresh, goes_on, arrived_source, holds_after, is_honest, made_state, says_begun, state_of}
 use Rattle.imagesize_pieces.proofs.Needing.{needs_wider}
 use Rattle.imagesize_pieces.proofs.front.read_front.Given.{Over}
 use Rattle.imagesize_pieces.proofs.front.read_front.Goals.{After-read-found}
@@ -20,27 +20,12 @@ module _ (g : Over) (c : After-read-found g) where
   abbrev layout : Layout g.row.F-Answer.Denot
   layout = g.F.Fixed.layout c.args.fixed.now
 
-  abbrev source : Heard
-  source =
-      let s = c.read-found.new.source in
-      record {
-        told = s.known.told;
-        start = s.known.start;
-        kept = s.known.kept.now;
-        chunk = s.known.chunk.now;
-        spans = s.log.spans;
-        missed = s.missed;
-        within = s.known.within;
-        seen = s.seen;
-        lacks = s.lacks;
-        certain = s.certain;
-      }
+  abbrev source : ArrivedSource
+  source = arrived_source c.read-found.new.source
 
   -- the source before the read
   abbrev made : State
-  made =
-      let s = c.new-source.result in
-      stream_state s.known.told s.known.start s.known.kept.now s.known.chunk.now s.log.spans s.missed
+  made = made_state c.new-source.result
 
   call : Called made source c.args.told 0 c.args.bytes.now []
   call =

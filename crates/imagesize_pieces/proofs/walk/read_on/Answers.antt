@@ -17,8 +17,8 @@ use Rattle.imagesize_pieces.specs.Standing.{Stands}
 use Rattle.imagesize_pieces.specs.Stream.{Begins, Needs, Reach, Says, stream_state}
 use Rattle.imagesize_pieces.specs.declared.stand.Stand.{Stand}
 use Rattle.imagesize_pieces.proofs.Asking.{Left, ends_left, few_left, needs_left, seen_there, shares_left}
-use Rattle.imagesize_pieces.proofs.Beginning.{Heard, Holds, Run, begins_left, run_held}
-use Rattle.imagesize_pieces.proofs.Called.{Called, called, fresh, goes_on, holds_after, is_honest, says_begun, state_of}
+use Rattle.imagesize_pieces.proofs.Beginning.{ArrivedSource, Holds, Run, begins_left, run_held}
+use Rattle.imagesize_pieces.proofs.Called.{Called, called, fresh, goes_on, arrived_source, holds_after, is_honest, made_state, says_begun, state_of}
 use Rattle.imagesize_pieces.proofs.Needing.{needs_any, needs_behind, needs_wider, onward_any}
 use Rattle.imagesize_pieces.proofs.Reaching.{reach_covered}
 use Rattle.imagesize_pieces.proofs.walk.read_on.Given.{Over}
@@ -43,21 +43,8 @@ module _ (g : Over) (c : After-walk_on-found g) where
   unread = drop (stand.start - stand.passed) chunk
 
   -- the source after the walk
-  abbrev source : Heard
-  source =
-      let s = c.walk_on-found.new.source in
-      record {
-        told = s.known.told;
-        start = s.known.start;
-        kept = s.known.kept.now;
-        chunk = s.known.chunk.now;
-        spans = s.log.spans;
-        missed = s.missed;
-        within = s.known.within;
-        seen = s.seen;
-        lacks = s.lacks;
-        certain = s.certain;
-      }
+  abbrev source : ArrivedSource
+  source = arrived_source c.walk_on-found.new.source
 
   -- the offset of the record that the walk came to, and its layout
   abbrev at : ℕ
@@ -78,9 +65,7 @@ module _ (g : Over) (c : After-walk_on-found g) where
 
   -- the source before the walk
   abbrev made : State
-  made =
-      let s = c.new-source.result in
-      stream_state s.known.told s.known.start s.known.kept.now s.known.chunk.now s.log.spans s.missed
+  made = made_state c.new-source.result
 
   call : Called made source stand.told start kept unread
   call =

@@ -1,4 +1,4 @@
-use Rattle.std.proofs.Common.{◌≡◌, ℕ, ◌+◌, ◌<◌, ◌++◌, refl, sym, arith}
+use Rattle.std.proofs.Common.{ℕ, ◌+◌, ◌<◌, ◌++◌, refl, sym, arith}
 use Rattle.std.proofs.lemmas.Bool.Decides.{nat_tests}
 use Rattle.imagesize_pieces.specs.Stream.{came}
 use Rattle.imagesize_pieces.proofs.Endless.{goes_once, goes_whole, missing_by}
