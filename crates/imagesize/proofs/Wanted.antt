@@ -352,7 +352,8 @@ pub called : {X : Type 0} (f : List ℕ → Reads X) (n m k : ℕ) (spans others
     → first ≡ []
     → before ≡ None → Runs (parts_state k given their first before) (parts_state m others content log missed) r
     (f (filled_input k given their))
-    → AllKnown m others content log → ForSome missed (Lacks (record { told = m; spans = others; bytes = content })) → Called f n spans bytes log missed r
+    → AllKnown m others content log → ForSome missed (Lacks (record { told = m; spans = others; bytes = content }))
+    → Called f n spans bytes log missed r
 called f n m k spans others given bytes content their first log before missed r told is_spans is_bytes none unmissed runs seen lacks =
     let parts = both_are others given content their (ap (λ a. parts_of a.backing) runs.frame) in
     let same : m ≡ k = ap (λ a. a.told) runs.frame in

@@ -161,7 +161,8 @@ impl ImageType {
 // The type, by reads that start anew.
 #[inline(always)]
 fn type_of(source: &mut KnownSource<Parts<'_>>) -> PartsAnswer<ImageResult<ImageType>>
-    ensures tells { TellsOf false (λ d. kind_of d 0) source.old.known.told source.old.known.spans.now source.old.known.bytes.now result }
+    ensures tells { TellsOf false (λ d. kind_of d 0)
+        source.old.known.told source.old.known.spans.now source.old.known.bytes.now result }
 
     // The parts do not change.
     ensures spans { source.new.known.spans.now ≡ source.old.known.spans.now }
@@ -176,7 +177,8 @@ fn type_of(source: &mut KnownSource<Parts<'_>>) -> PartsAnswer<ImageResult<Image
 // The size, read as this type, by reads that start anew.
 #[inline(always)]
 fn size_as(source: &mut KnownSource<Parts<'_>>, image: ImageType) -> PartsAnswer<ImageResult<ImageSize>>
-    ensures { TellsOf (has_texts image) (size_of image) source.old.known.told source.old.known.spans.now source.old.known.bytes.now result }
+    ensures { TellsOf (has_texts image) (size_of image)
+        source.old.known.told source.old.known.spans.now source.old.known.bytes.now result }
 {
     source.forget();
     let found = size(source, image);

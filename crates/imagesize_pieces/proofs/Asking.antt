@@ -18,7 +18,7 @@ use Rattle.imagesize_source.proofs.Runs.{past-recorded}
 use Rattle.imagesize_source.proofs.Sharing.{shares-right}
 use Rattle.imagesize_source.specs.Sharing.{Shares}
 use Rattle.imagesize_pieces.specs.Stream.{Begins, Needs, Reach, came}
-use Rattle.imagesize_pieces.proofs.Beginning.{ArrivedSource, Holds, begins_shares, input_of}
+use Rattle.imagesize_pieces.proofs.Beginning.{ArrivedSource, Holds, begins_shares, arrived_input}
 use Rattle.imagesize_pieces.proofs.Called.{fresh, state_of}
 use Rattle.imagesize_pieces.proofs.Reaching.{reach_covered}
 use Rattle.imagesize_pieces.proofs.Streaming.{unknown_behind}
@@ -75,11 +75,11 @@ pub record Left {X : Type 0} (l : Layout X) (low : ℕ) (b : ArrivedSource) : Ty
   pub from : b.start ≤ low
   pub above : (d : List ℕ) (offset : ℕ) → is_covered (layout_reads d l).marks offset ≡ true → low ≤ offset
   pub before : List Span
-  pub lacks : Missed (state_after (fresh b) before) (state_of b) (layout_reads (input_of b) l).marks
+  pub lacks : Missed (state_after (fresh b) before) (state_of b) (layout_reads (arrived_input b) l).marks
 
 module _ {X : Type 0} {l : Layout X} {low : ℕ} {b : ArrivedSource} (left : Left l low b) where
   pub what : (m : Missing) × (b.missed ≡ Some m)
-      × Misses (state_after (fresh b) left.before) (state_of b) (layout_reads (input_of b) l).marks m
+      × Misses (state_after (fresh b) left.before) (state_of b) (layout_reads (arrived_input b) l).marks m
   what = missed_is b.missed _ left.lacks.told
 
   abbrev pub m : Missing
@@ -93,14 +93,14 @@ module _ {X : Type 0} {l : Layout X} {low : ℕ} {b : ArrivedSource} (left : Lef
       let begins = what.2.behind in let ends = what.2.within in let some = (b.lacks m what.1).0 in
       grind (arith, nat_tests)
 
-  marked : (offset : ℕ) → has_offset mark offset ≡ true → is_covered (layout_reads (input_of b) l).marks offset ≡ true
+  marked : (offset : ℕ) → has_offset mark offset ≡ true → is_covered (layout_reads (arrived_input b) l).marks offset ≡ true
   marked offset in_it = subst (λ s. is_covered s offset ≡ true) (sym what.2.all)
       (covered_one_of what.2.made mark what.2.rest offset in_it)
 
   -- what is missed is after the bytes so far
   behind : b.start + (length b.kept + length b.chunk) ≤ m.start
   behind =
-      let above = left.above (input_of b) m.start (marked m.start in_mark) in
+      let above = left.above (arrived_input b) m.start (marked m.start in_mark) in
       unknown_behind b.told b.start b.kept b.chunk m.start (omega (arith, b.within)) (b.lacks m what.1).3
       (omega (arith, left.from, above))
 
@@ -110,23 +110,23 @@ module _ {X : Type 0} {l : Layout X} {low : ℕ} {b : ArrivedSource} (left : Lef
   ends_left =
       let lacks = b.lacks m what.1 in let some = lacks.0 in let few = lacks.1 in let within = lacks.2 in
       let ends : end_of b.missed ≡ m.start + m.most = ap end_of what.1 in
-      let above = left.above (input_of b) m.start (marked m.start in_mark) in
+      let above = left.above (arrived_input b) m.start (marked m.start in_mark) in
       (omega (arith, behind, ends, some, few), omega (arith, above, ends, some, few), omega (arith, ends, within))
 
   -- so fewer bytes came than the layout reads at most
   pub few_left : (high : ℕ) → Reach low high l → b.start + (length b.kept + length b.chunk) < high
-  few_left high reach = omega (arith, behind, (reach_covered (input_of b) low high l reach m.start (marked m.start in_mark)).1)
+  few_left high reach = omega (arith, behind, (reach_covered (arrived_input b) low high l reach m.start (marked m.start in_mark)).1)
 
   abbrev pub seen_there : List Span
   seen_there = what.2.made ++ span_at mark.start (m.start - mark.start)
 
   -- an input that begins with the bytes so far shares all that was seen
   pub shares_left : {front : List ℕ} → Holds front b → (d : List ℕ) → Begins front b.told d
-      → Shares d (input_of b) (left.before ++ seen_there)
+      → Shares d (arrived_input b) (left.before ++ seen_there)
   shares_left run d begins =
       let all : b.spans ≡ left.before ++ seen_there = ap (λ o. unwrap_or o []) (what.2.recorded
       ∙ ap (option_map (λ spans. spans ++ seen_there)) (past-recorded (fresh b) left.before)) in
-      subst (Shares d (input_of b)) all (begins_shares b run d begins)
+      subst (Shares d (arrived_input b)) all (begins_shares b run d begins)
 
   module _ {front : List ℕ} (run : Holds front b) (d : List ℕ) (begins : Begins front b.told d)
       (as_long : length d ≡ b.told) (texts : Bool) (read : AllRead texts l) where
@@ -134,8 +134,8 @@ module _ {X : Type 0} {l : Layout X} {low : ℕ} {b : ArrivedSource} (left : Lef
     in_each : (other : Span) × (has_offset other m.start ≡ true) × Among other (layout_reads d l).marks
         × (texts ≡ false → other ≡ mark)
     in_each =
-        alike_missed (input_of b) d (layout_reads (input_of b) l) (layout_reads d l) what.2.made what.2.rest mark m.start
-        (alike_layout (input_of b) d l read
+        alike_missed (arrived_input b) d (layout_reads (arrived_input b) l) (layout_reads d l) what.2.made what.2.rest mark m.start
+        (alike_layout (arrived_input b) d l read
         (as_long ∙ sym (length-filled_input b.told (came b.start b.kept b.chunk) (b.kept ++ b.chunk))))
         what.2.all in_mark (shares-right left.before _ (shares_left run d begins))
 
@@ -154,9 +154,9 @@ module _ {X : Type 0} {l : Layout X} {low : ℕ} {b : ArrivedSource} (left : Lef
         let ends : end_of b.missed ≡ m.start + m.most = ap end_of what.1 in
         let between = reach_covered d low high l reach m.start there in
         let early : b.start ≤ m.start = omega (arith, left.from, between.0) in
-        let sure = b.certain m what.1 (grind (arith, nat_tests)) in
+        let sure = b.sure m what.1 (grind (arith, nat_tests)) in
         let last_in : has_offset mark (mark.start + mark.len - 1) ≡ true = grind (arith, nat_tests) in
-        let last = (reach_covered (input_of b) low high l reach _ (marked (mark.start + mark.len - 1) last_in)).1 in
+        let last = (reach_covered (arrived_input b) low high l reach _ (marked (mark.start + mark.len - 1) last_in)).1 in
         let to : min (end_of b.missed) high ≡ mark.start + mark.len = omega (arith, ends, sure, within, reaches, last, some) in (
           (m.start, omega (arith, behind, run.ends, between.0), omega (arith, between.1, ends, some, few), there),
           λ none. subst (λ s. Among s (layout_reads d l).marks) (in_each.3 none) in_each.2

@@ -63,19 +63,19 @@ pub record ArrivedSource : Type 0 where
   pub within : start + length kept + length chunk ≤ told
   pub seen : AllKnown told (came start kept chunk) (kept ++ chunk) spans
   pub lacks : ForSome missed (Lacks (known_of told start kept chunk))
-  pub certain : ForSome missed (λ m. nat_le start m.start ≡ true → m.sure ≡ m.most)
+  pub sure : ForSome missed (λ m. nat_le start m.start ≡ true → m.sure ≡ m.most)
 
 -- what a source holds are these bytes, from its first offset on
 abbrev pub Holds : List ℕ → ArrivedSource → Type 0
 Holds front s = Run front s.kept s.chunk s.start
 
 -- the input as it reads it
-abbrev pub input_of : ArrivedSource → List ℕ
-input_of s = stream_input s.told s.start s.kept s.chunk
+abbrev pub arrived_input : ArrivedSource → List ℕ
+arrived_input s = stream_input s.told s.start s.kept s.chunk
 
 module _ (s : ArrivedSource) {front : List ℕ} (run : Holds front s) where
   -- the byte that the source reads, where it came
-  byte_here : (offset : ℕ) → s.start ≤ offset → offset < length front → get_or (input_of s) offset 0 ≡ get_or front offset 0
+  byte_here : (offset : ℕ) → s.start ≤ offset → offset < length front → get_or (arrived_input s) offset 0 ≡ get_or front offset 0
   byte_here offset above below =
       let fits : s.start + (length s.kept + length s.chunk) ≤ s.told = omega (arith, s.within) in
       let ends = run.ends in
@@ -85,7 +85,7 @@ module _ (s : ArrivedSource) {front : List ℕ} (run : Holds front s) where
       ∙ rw (run.is, get_or-drop s.start front (offset - s.start) 0, back) refl
 
   -- an input that begins with the bytes so far shares what is known
-  pub begins_shares : (d : List ℕ) → Begins front s.told d → Shares d (input_of s) s.spans
+  pub begins_shares : (d : List ℕ) → Begins front s.told d → Shares d (arrived_input s) s.spans
   begins_shares d begins = record {
     no_longer = let few = begins.fits in
         omega (arith, few, length-filled_input s.told (came s.start s.kept s.chunk) (s.kept ++ s.chunk));

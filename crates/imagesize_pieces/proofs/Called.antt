@@ -13,7 +13,7 @@ use Rattle.imagesize_pieces.specs.Stream.{Says, came, start_of, stream_state}
 use Rattle.imagesize_pieces.specs.contracts.arrived.ArrivedKnown.TheImpl.{ghosts}
 use Rattle.imagesize_pieces.specs.declared.arrived.Arrived.{Arrived}
 use Rattle.imagesize_source.specs.declared.source.known.KnownSource.{KnownSource}
-use Rattle.imagesize_pieces.proofs.Beginning.{ArrivedSource, Holds, Run, begins_shares, input_of}
+use Rattle.imagesize_pieces.proofs.Beginning.{ArrivedSource, Holds, Run, begins_shares, arrived_input}
 
 -- readings that see an input by their marks alone, however long it is
 abbrev pub IsShared : {X : Type 0} → (List ℕ → Reads X) → Type 0
@@ -31,12 +31,8 @@ arrived_source s = record {
   within = s.known.within;
   seen = s.seen;
   lacks = s.lacks;
-  certain = s.certain;
+  sure = s.sure;
 }
-
--- and its state before the first read
-abbrev pub made_state : KnownSource Arrived ghosts → State
-made_state s = stream_state s.known.told s.known.start s.known.kept.now s.known.chunk.now s.log.spans s.missed
 
 -- a source as its state
 abbrev pub state_of : ArrivedSource → State
@@ -96,15 +92,15 @@ module _ (b : ArrivedSource) (short : b.told < 2 ^ 63) where
   is_honest = grind (arith, nat_tests)
 
   -- An answer that nothing failed is that of each input that begins with the bytes so far, and rests on the same marks.
-  pub says_begun : {X : Type 0} (f : List ℕ → Reads X) {r : Result X Halt} → Runs (fresh b) (state_of b) r (f (input_of b))
+  pub says_begun : {X : Type 0} (f : List ℕ → Reads X) {r : Result X Halt} → Runs (fresh b) (state_of b) r (f (arrived_input b))
       → is_faulted r ≡ false → (front : List ℕ) → IsShared f → Holds front b → Says front b.told f r
   says_begun f {r} runs faultless front same run = record {
     marks = b.spans;
     is = λ d begins.
         let going = goes_on refl runs faultless in
-        let marked : b.spans ≡ (f (input_of b)).marks = ap (λ (s : State). unwrap_or s.recorded [])
+        let marked : b.spans ≡ (f (arrived_input b)).marks = ap (λ (s : State). unwrap_or s.recorded [])
         (runs.state is_honest going
-        ∙ past-parts b.told (came b.start b.kept b.chunk) (b.kept ++ b.chunk) [] None (f (input_of b)).marks) in
-        let shares = subst (Shares d (input_of b)) marked (begins_shares b run d begins) in
-        ap uncounted (same d (input_of b) shares) ∙ rw (runs.answer is_honest going, ← marked) refl;
+        ∙ past-parts b.told (came b.start b.kept b.chunk) (b.kept ++ b.chunk) [] None (f (arrived_input b)).marks) in
+        let shares = subst (Shares d (arrived_input b)) marked (begins_shares b run d begins) in
+        ap uncounted (same d (arrived_input b) shares) ∙ rw (runs.answer is_honest going, ← marked) refl;
   }

@@ -12,9 +12,6 @@ module _ (n start : ℕ) (kept chunk : List ℕ) where
   came_at offset fits above below = grind (arith, nat_tests, length-append {A = ℕ})
 
   -- and nowhere else
-  pub before_none : (offset : ℕ) → offset < start → is_some (byte_at n start kept chunk offset) ≡ false
-  before_none offset below = grind (arith, nat_tests)
-
   pub not_behind : (offset : ℕ) → start + (length kept + length chunk) ≤ offset
       → is_some (byte_at n start kept chunk offset) ≡ false
   not_behind offset above = grind (arith, nat_tests)
@@ -45,12 +42,6 @@ module _ (n start : ℕ) (kept chunk : List ℕ) where
   chunk_known run offset i fits above behind is within =
       let long = ap length is in
       grind (arith, nat_tests, length-append {A = ℕ}, length-drop {A = ℕ}, get_or-append_right {X = ℕ}, get_or-drop {A = ℕ})
-
-  pub behind_none : (run : List ℕ) (offset : ℕ) → start ≤ offset → length kept ≤ offset - start
-      → run ≡ drop (offset - start - length kept) chunk
-      → length run ≡ 0 → is_some (byte_at n start kept chunk offset) ≡ false
-  behind_none run offset above behind is none =
-      not_behind offset (omega (arith, ap length is, length-drop (offset - start - length kept) chunk, none, above, behind))
 
   -- behind the last bytes of the chunk none is known
   pub last_none : (run : List ℕ) (offset : ℕ) → start ≤ offset → length kept ≤ offset - start → run ≡ run_at start kept chunk offset

@@ -3,12 +3,12 @@ ghost use Rattle.std.specs.Prelude.{◌≡◌, ◌+◌, ◌≤◌, length, nat_l
 ghost use Rattle.imagesize_source.specs.Text.{delimits};
 ghost use Rattle.imagesize_pieces.specs.Stream.{known_of, run_at};
 
-use crate::buffer::bytes_behind;
 use imagesize_source::Text;
 use imagesize_source::source::known::{Known, Missing};
+use imagesize_source::part::bytes_behind;
 use imagesize_source::source::parts::put;
 
-// The proofs take each missing byte as this one. A text that it does not end goes on as far as the read requests.
+// The proofs read each missing byte as this value. A text that it does not end goes on as far as the read requests.
 const FILLER: u8 = 1;
 
 /// The bytes from an offset on: the kept ones, and those of the next chunk after them. The input may have more.
@@ -26,11 +26,11 @@ pub struct Arrived<'a> {
 }
 
 impl Known for Arrived<'_> {
-    ghost known = { λ s. known_of s.told s.start s.kept.now s.chunk.now };
+    ghost content = { λ s. known_of s.told s.start s.kept.now s.chunk.now };
 
     ghost near = { λ s offset. run_at s.start s.kept.now s.chunk.now offset };
 
-    // A text that misses a byte before the start may end there.
+    // A text that misses a byte before `start` may end among the bytes after it.
     ghost certain = { λ s offset. nat_le s.start offset };
 
     #[inline(always)]
@@ -38,7 +38,7 @@ impl Known for Arrived<'_> {
         self.told
     }
 
-    // They end with the kept bytes or with the chunk.
+    // The slice ends with the kept bytes, or with the chunk.
     #[inline(always)]
     #[tactic(auto, using(crate::proofs::Streaming::kept_known, crate::proofs::Streaming::chunk_known))]
     fn near(&self, offset: u64) -> &[u8] {
@@ -73,7 +73,7 @@ impl Known for Arrived<'_> {
         if count == buffer.len() {
             return count;
         }
-        // Known bytes that end here are the kept ones, and go on in the chunk.
+        // The copied bytes are the last kept ones. The read goes on in the chunk.
         count + put(self.near(offset + count as u64), buffer, count)
     }
 
@@ -103,7 +103,7 @@ impl Known for Arrived<'_> {
     }
 }
 
-// Whether the byte that the proofs take each missing byte as ends the text. No format has such a text.
+// Whether `FILLER` ends the text. No format has such a text.
 #[inline(always)]
 fn ends_with_filler(text: Text) -> bool
     ensures { result ≡ delimits text 1 }

@@ -1,6 +1,7 @@
 //! The buffer of an input that arrives in chunks. It holds the bytes that arrived, from an offset on.
 ghost use Rattle.std.specs.Prelude.{◌≡◌, ◌+◌, ◌-◌, ◌≤◌, ◌++◌, take, drop, length};
 
+use imagesize_source::part::bytes_behind;
 use imagesize_source::source::parts::put;
 
 /// The first `count` bytes, or all of them if there are fewer.
@@ -13,15 +14,6 @@ pub fn front_of(bytes: &[u8], count: u64) -> &[u8]
     } else {
         bytes
     }
-}
-
-/// The bytes after the first `count`.
-#[inline(always)]
-#[tactic(auto, using(imagesize_source::proofs::Known::slice_behind))]
-pub fn bytes_behind(bytes: &[u8], count: u64) -> &[u8]
-    ensures { result.now ≡ drop count bytes.now }
-{
-    &bytes[(count as usize).min(bytes.len())..]
 }
 
 /// Stores the bytes in the buffer from an index on. A single byte is stored without a call.

@@ -5,9 +5,10 @@ ghost use Rattle.std.specs.List.{list_any};
 ghost use Rattle.imagesize_source.specs.Text.{is_ended};
 ghost use Rattle.imagesize_pieces.specs.Pending.{KeepsPending};
 
-use crate::buffer::{append, bytes_behind};
+use crate::buffer::append;
 use crate::stand::Stand;
 use imagesize_source::Text;
+use imagesize_source::part::bytes_behind;
 use imagesize_source::text::{ended_length, has_begun};
 
 /// Keeps a chunk that comes before the text at the next record's offset, or belongs to it. Returns whether it was kept. It is kept

@@ -7,9 +7,10 @@ ghost use Rattle.imagesize_pieces.specs.Standing.{Stands};
 ghost use Rattle.imagesize_pieces.specs.Stream.{AllBelow, Begins, Needs, Reach, Says};
 
 use crate::arrived::Arrived;
-use crate::buffer::{bytes_behind, keep_behind};
+use crate::buffer::keep_behind;
 use crate::stand::Stand;
 use imagesize_source::Halt;
+use imagesize_source::part::bytes_behind;
 use imagesize_source::source::known::KnownSource;
 use imagesize_source::walk::{Records, walk_on};
 

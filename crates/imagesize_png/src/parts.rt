@@ -49,7 +49,8 @@ pub fn parts_size(bytes: &[u8], spans: &[Span], total: u64) -> PartsAnswer<Image
 // The size, by reads that start anew.
 #[inline(always)]
 fn size_of_parts(source: &mut KnownSource<Parts<'_>>) -> PartsAnswer<ImageResult<ImageSize>>
-    ensures says { (d : List ℕ) → HasKnown d source.old.known.told source.old.known.spans.now source.old.known.bytes.now → source.old.known.told < 2 ^ 63
+    ensures says { (d : List ℕ) → HasKnown d source.old.known.told source.old.known.spans.now source.old.known.bytes.now
+        → source.old.known.told < 2 ^ 63
         → SaysOf false (png_of d 0) source.old.known.told source.old.known.spans.now source.old.known.bytes.now result }
     ensures fits { Fits source.old.known.told result }
     ensures unstopped { source.old.known.told < 2 ^ 63 → IfFound result (λ answer. is_stopped answer ≡ false) }

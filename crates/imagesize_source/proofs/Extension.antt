@@ -113,7 +113,7 @@ pub lasts_then : {X Y : Type 0} (r : List ℕ → Reads X) (f : X → List ℕ �
 lasts_then r f first rest d x v is = onward_more (r d) (r (d ++ x)) (λ y. f y d) (λ y. f y (d ++ x)) v is
     (λ y got _. first d x y got) (λ y ok. rest y d x v ok)
 
--- one number lasts
+-- the read of a number lasts
 pub number_lasts : (order : Endian) (offset k : ℕ) → Lasts (λ d. number_read d order offset k)
 number_lasts order offset k d x v is =
     let one = then_gives (number_read d order offset k) in

@@ -1,9 +1,9 @@
 -- How known bytes are gathered, from one part after another.
-use Rattle.std.proofs.Common.{◌≡◌, ℕ, zero, suc, ◌+◌, ◌-◌, ◌<◌, ◌≤◌, min, true, false, ◌&&◌, leb, List, ◌++◌, length, take, drop, get_or, slice_index, Some, is_some, inl, inr, refl, sym, ap, ◌∙◌, subst, arith, add-one}
+use Rattle.std.proofs.Common.{◌≡◌, ℕ, zero, suc, ◌+◌, ◌-◌, ◌<◌, ◌≤◌, min, true, false, ◌&&◌, leb, List, ◌++◌, length, take, drop, get_or, slice_index, Some, is_some, inl, inr, sym, ap, ◌∙◌, subst, arith, add-one}
 use Rattle.std.specs.Prelude.{unwrap_or}
 use Rattle.std.proofs.lemmas.Bool.{cases_lt, cond-true}
 use Rattle.std.proofs.lemmas.Bool.Decides.{nat_tests}
-use Rattle.std.proofs.lemmas.List.{length-take, length-drop, get_or-drop, get_or-take, drop-drop, ext_get_or}
+use Rattle.std.proofs.lemmas.List.{length-take, get_or-take, drop-drop, ext_get_or}
 use Rattle.std.proofs.Math.Seq.{drop-cons, take-add, take-append_seam}
 use Rattle.imagesize_source.specs.declared.span.Span.{Span}
 use Rattle.imagesize_source.specs.Input.{part}
@@ -61,7 +61,7 @@ known_run n spans bytes run offset index count so_far few is i below = elim (cas
       (is (i - index) (omega (arith, below, more, few))))
 ]
 
--- known bytes are so many of the input, and a part of it
+-- A run of known bytes lies within the input, and is a part of it.
 pub run_there : (n : ℕ) (spans : List Span) (bytes run : List ℕ) (offset count : ℕ)
     → ((i : ℕ) → i < length run → byte_in_parts n spans bytes (offset + i) ≡ Some (get_or run i 0)) → count ≤ length run
     → (count ≤ n - offset) × (take count run ≡ part (filled_input n spans bytes) offset count)
@@ -69,22 +69,6 @@ run_there n spans bytes run offset zero is few = (omega arith, sym (part_none (f
 run_there n spans bytes run offset (suc k) is few =
     let last = known_below n spans bytes (offset + k) (ap is_some (is k (omega (arith, few)))) in
     (omega (arith, last), run_part n spans bytes run offset (suc k) few (omega (arith, last)) is)
-
--- the first of some known bytes are known
-pub first_known : (n : ℕ) (spans : List Span) (bytes run found : List ℕ) (offset count i : ℕ)
-    → ((j : ℕ) → j < length run → byte_in_parts n spans bytes (offset + j) ≡ Some (get_or run j 0)) → count ≤ length run
-    → found ≡ take count run → i < length found → byte_in_parts n spans bytes (offset + i) ≡ Some (get_or found i 0)
-first_known n spans bytes run found offset count i known few is below =
-    let small : i < count = omega (arith, below, ap length is, length-take count run) in
-    known i (omega (arith, few, small)) ∙ ap Some (rw (is, get_or-take count run i 0 small) refl)
-
--- and so are those behind an offset of the bytes from offset 0 on
-pub behind_known : (n : ℕ) (spans : List Span) (bytes front run : List ℕ) (offset i : ℕ)
-    → ((j : ℕ) → j < length front → byte_in_parts n spans bytes j ≡ Some (get_or front j 0)) → run ≡ drop offset front
-    → i < length run → byte_in_parts n spans bytes (offset + i) ≡ Some (get_or run i 0)
-behind_known n spans bytes front run offset i known is below =
-    known (offset + i) (omega (arith, below, ap length is, length-drop offset front))
-    ∙ ap Some (rw (is, get_or-drop offset front i 0) refl)
 
 -- ---- one part after another
 

@@ -1,4 +1,4 @@
--- The known parts of an input.
+-- The known bytes of an input.
 use Rattle.std.specs.Prelude.{◌≡◌, ℕ, ◌+◌, ◌-◌, ◌^◌, ◌<◌, ◌≤◌, min, Bool, true, false, ◌&&◌, List, [], ◌∷◌, ◌++◌, length, drop, map, slice_index, nat_le, nat_lt, if◌then◌else◌, Option, None, Some, is_some, unwrap_or, flat_map, Err}
 use Rattle.std.specs.List.{range_with_len}
 use Rattle.imagesize_source.specs.declared.halt.Halt.{Halt}
@@ -98,7 +98,7 @@ abbrev pub end_of : Option Missing → ℕ
 end_of None = 0
 end_of (Some m) = m.start + m.most
 
--- A read of a text of at most `most` bytes that sees its first `found` bytes and misses these fails as the text says.
+-- A read of a text knows its first `found` bytes and misses `m`. It fails as `text_read` says.
 abbrev pub MissesText : KnownBytes → Text → ℕ → ℕ → ℕ → Missing → Type 0
 MissesText k text offset found most m =
     (seen : List Span) (missed : Option Missing) (b : State) → b ≡ known_state k (seen ++ span_at offset found) (Some m)

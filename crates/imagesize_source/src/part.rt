@@ -29,6 +29,15 @@ pub fn copy_part(bytes: &[u8], offset: u64, buffer: &mut [u8]) -> usize
     rest.len()
 }
 
+/// The bytes after the first `count`.
+#[inline(always)]
+#[tactic(auto, using(crate::proofs::Known::slice_behind))]
+pub fn bytes_behind(bytes: &[u8], count: u64) -> &[u8]
+    ensures { result.now ≡ drop count bytes.now }
+{
+    &bytes[(count as usize).min(bytes.len())..]
+}
+
 /// The bytes from an offset on, at most `most` of them; fewer if the slice ends earlier.
 #[inline]
 #[tactic(auto, using(crate::proofs::Slices::slice_part))]

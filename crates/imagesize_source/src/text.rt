@@ -65,7 +65,7 @@ pub fn ended_behind(text: Text, first: &[u8], rest: &[u8]) -> Option<usize>
     }
 }
 
-/// Whether a word that these bytes do not end has begun. If it has, the last of them is a byte of the word.
+/// Whether a word has begun in these bytes, which do not end it. If it has, the last of them is a byte of the word.
 #[inline(always)]
 #[tactic(auto, using(crate::proofs::Unended::begun_at))]
 pub fn has_begun(bytes: &[u8]) -> bool

@@ -3,7 +3,7 @@ ghost use Rattle.imagesize_stream.specs.Probe.{IsNext, next_prop};
 
 use crate::probe::StreamProbe;
 use imagesize::{ImageResult, ImageType, PartsAnswer, Span};
-use imagesize_pieces::buffer::bytes_behind;
+use imagesize_source::part::bytes_behind;
 use imagesize_types::size::ImageSize;
 
 /// The type of an image and its size in pixels, from spans of it that the caller fetches, in rounds.

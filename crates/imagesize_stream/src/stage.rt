@@ -12,12 +12,13 @@ ghost use Rattle.imagesize_stream.specs.declared.stage.Stage.TheVariants as stag
 use crate::hear::{Heard, hear};
 use imagesize::ImageType;
 use imagesize_fixed::formats::tga::is_footer;
-use imagesize_pieces::buffer::{append, bytes_behind, front_of, keep_behind};
+use imagesize_pieces::buffer::{append, front_of, keep_behind};
 use imagesize_pieces::stand::Stand;
 use imagesize_pieces::walk::read_on;
 use imagesize_records::awaited::Awaited;
 use imagesize_records::records::Texts;
 use imagesize_source::Halt;
+use imagesize_source::part::bytes_behind;
 use imagesize_texts::util::WORD_ROOM;
 use imagesize_types::size::ImageSize;
 

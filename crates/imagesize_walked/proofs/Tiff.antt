@@ -30,7 +30,7 @@ use Rattle.imagesize_source.specs.Layout.Layout.{field, refuse, «done»}
 use Rattle.imagesize_source.specs.Reading.{Reads, and_then, bytes_at, gives, just, map_answer, number_at, number_read, refuses, uncounted, with_answer}
 use Rattle.imagesize_source.specs.Walk.{CanFollow, EndsBy, after, decides, run}
 use Rattle.imagesize_source.specs.declared.walk.Start.{Start}
-use Rattle.imagesize_source.proofs.Layouts.{no_span, over-bind, then_gives, then_then}
+use Rattle.imagesize_source.proofs.Layouts.{no_span, over-bind, then_then}
 use Rattle.imagesize_source.specs.State.{State, Runs, IsSound, total}
 use Rattle.imagesize_source.proofs.Advances.{Tells, Begins, advances, begins_bind, states_follow, tells_bind}
 use Rattle.imagesize_source.proofs.Ahead.{Ahead, chain_ahead}
@@ -39,7 +39,7 @@ use Rattle.imagesize_source.proofs.ChainLaws.{chain_cost, local_chain, lasts_cha
 use Rattle.imagesize_source.proofs.Counts.{Bounded, at_most, at_most_bind, bounded_layout, bounded_then, then_within, total-span_of, total_behind}
 use Rattle.imagesize_source.proofs.Answered.{on_answer}
 use Rattle.imagesize_source.proofs.Agreement.{each_texts, local_layout, local_number, local_then, without_texts}
-use Rattle.imagesize_source.proofs.Extension.{lasts_then, more, number_lasts, number_ok, onward_more}
+use Rattle.imagesize_source.proofs.Extension.{lasts_then, more, number_lasts, number_ok}
 use Rattle.imagesize_source.proofs.Reached.{reads_nothing, runs_bind, refused_bind}
 use Rattle.imagesize_source.proofs.Runs.{total-append}
 use Rattle.imagesize_source.proofs.States.{ends_after, goes, run_is, run_stop, run_unfolds, run_within}

@@ -29,9 +29,9 @@ pub struct Missing {
 /// Bytes of an input that are known.
 pub trait Known: Drop {
     /// The length of the input, and the known bytes with their spans.
-    ghost known: { Self → KnownBytes };
+    ghost content: { Self → KnownBytes };
 
-    /// The known bytes from an offset on that lie in one slice.
+    /// Known bytes from an offset on, from one slice. More may be known, even if the slice is empty.
     ghost near: { Self → ℕ → List ℕ };
 
     /// Whether a read that misses the byte at an offset is certain to read all that it requests from there on.
@@ -39,43 +39,45 @@ pub trait Known: Drop {
 
     /// The length of the input in bytes.
     fn told(&self) -> u64
-        ensures { result ≡ (known self.now).told };
+        ensures { result ≡ (content self.now).told };
 
-    /// The known bytes from an offset on that lie in one slice. The bytes after them may be known too.
+    /// Known bytes from an offset on, from one slice. More may be known, even if the slice is empty.
     fn near(&self, offset: u64) -> &[u8]
         ensures near { result.now ≡ near self.now offset }
-        ensures known { AreKnown (known self.now) offset result.now };
+        ensures known { AreKnown (content self.now) offset result.now };
 
-    /// Whether the byte after those of `near` is missing, where that takes no search. This call may always return false.
+    /// Whether the byte after `near` is missing. The implementation may always return false: `true` only saves a search.
     #[inline(always)]
     fn ends_near(&self, _offset: u64) -> bool
-        ensures { result ≡ true → is_known (known self.now) (_offset + length (near self.now _offset)) ≡ false }
+        ensures { result ≡ true → is_known (content self.now) (_offset + length (near self.now _offset)) ≡ false }
     {
         false
     }
 
-    /// Copies the known bytes of a read into the buffer, up to the first missing byte, and returns how many it copied.
+    /// Copies the known bytes of a read into the buffer, up to the first missing byte, and returns how many it copied. The buffer
+    /// must end within the input.
     fn gather(&mut self, offset: u64, buffer: &mut [u8]) -> usize
-        requires { length buffer.old ≤ (known self.old).told - offset }
-        ensures same { known self.new ≡ known self.old }
+        requires { length buffer.old ≤ (content self.old).told - offset }
+        ensures same { content self.new ≡ content self.old }
         ensures certain { (offset : ℕ) → certain self.new offset ≡ certain self.old offset }
         ensures within { result ≤ length buffer.old }
-        ensures copied { take result buffer.new ≡ part (input_of (known self.old)) offset result }
-        ensures known { (i : ℕ) → i < result → is_known (known self.old) (offset + i) ≡ true }
-        ensures missing { result < length buffer.old → is_known (known self.old) (offset + result) ≡ false };
+        ensures copied { take result buffer.new ≡ part (input_of (content self.old)) offset result }
+        ensures known { (i : ℕ) → i < result → is_known (content self.old) (offset + i) ≡ true }
+        ensures missing { result < length buffer.old → is_known (content self.old) (offset + result) ≡ false };
 
-    /// What a read of a text misses whose first `found` bytes are known and do not end it. It requests `left` bytes after them.
+    /// What a text read misses, if its first `found` bytes are known and do not end the text. `left` more requested bytes lie
+    /// within the input.
     fn missed_text(&self, text: Text, offset: u64, found: usize, left: usize) -> Missing
-        requires known { (i : ℕ) → i < found → is_known (known self.now) (offset + i) ≡ true }
-        requires unknown { is_known (known self.now) (offset + found) ≡ false }
-        requires open { is_ended text (part (input_of (known self.now)) offset found) ≡ false }
+        requires known { (i : ℕ) → i < found → is_known (content self.now) (offset + i) ≡ true }
+        requires unknown { is_known (content self.now) (offset + found) ≡ false }
+        requires open { is_ended text (part (input_of (content self.now)) offset found) ≡ false }
         requires some { 0 < left }
-        requires fits { offset + found + left ≤ (known self.now).told }
-        ensures lacks { Lacks (known self.now) result }
+        requires fits { offset + found + left ≤ (content self.now).told }
+        ensures lacks { Lacks (content self.now) result }
         ensures start { result.start ≡ offset + found }
         ensures certain { certain self.now (offset + found) ≡ true → result.sure ≡ result.most }
-        ensures misses { (most : ℕ) → found + left ≡ min most ((known self.now).told - offset)
-            → MissesText (known self.now) text offset found most result };
+        ensures misses { (most : ℕ) → found + left ≡ min most ((content self.now).told - offset)
+            → MissesText (content self.now) text offset found most result };
 }
 
 /// The known bytes of an input, as a source.
@@ -87,9 +89,9 @@ pub struct KnownSource<K: Known> {
     pub missed: Option<Missing>,
     /// The spans of the reads.
     pub log: SpanLog,
-    ghost seen: { AllKnown (K.known known).told (K.known known).spans (K.known known).bytes log.spans },
-    ghost lacks: { ForSome missed (Lacks (K.known known)) },
-    ghost certain: { ForSome missed (λ m. K.certain known m.start ≡ true → m.sure ≡ m.most) },
+    ghost seen: { AllKnown (K.content known).told (K.content known).spans (K.content known).bytes log.spans },
+    ghost lacks: { ForSome missed (Lacks (K.content known)) },
+    ghost sure: { ForSome missed (λ m. K.certain known m.start ≡ true → m.sure ≡ m.most) },
     ghost fits: { ForSome missed (λ m. m.start + m.most < 2 ^ 64) },
 }
 
@@ -111,7 +113,7 @@ impl<K: Known> KnownSource<K> {
     /// Forgets what the reads so far saw and missed. The known bytes stay as they are.
     #[inline(always)]
     pub fn forget(&mut self)
-        ensures known { self.new.known ≡ self.old.known }
+        ensures same { self.new.known ≡ self.old.known }
         ensures seen { self.new.log.spans ≡ [] }
         ensures missed { self.new.missed ≡ None }
     {
@@ -132,8 +134,8 @@ impl<K: Known> KnownSource<K> {
     // Records `count` bytes from an offset on. Without bytes it records no span.
     #[inline(always)]
     fn see(&mut self, start: u64, count: usize)
-        requires { (i : ℕ) → i < count → is_known (K.known self.old.known) (start + i) ≡ true }
-        ensures known { self.new.known ≡ self.old.known }
+        requires { (i : ℕ) → i < count → is_known (K.content self.old.known) (start + i) ≡ true }
+        ensures same { self.new.known ≡ self.old.known }
         ensures seen { self.new.log.spans ≡ self.old.log.spans ++ span_at start count }
         ensures missed { self.new.missed ≡ self.old.missed }
     {
@@ -143,11 +145,11 @@ impl<K: Known> KnownSource<K> {
     // Records a read whose first `count` bytes are known, and what it misses.
     #[inline(always)]
     fn miss(&mut self, start: u64, count: usize, missing: Missing)
-        requires known { (i : ℕ) → i < count → is_known (K.known self.old.known) (start + i) ≡ true }
-        requires lacks { Lacks (K.known self.old.known) missing }
+        requires known { (i : ℕ) → i < count → is_known (K.content self.old.known) (start + i) ≡ true }
+        requires lacks { Lacks (K.content self.old.known) missing }
         requires certain { K.certain self.old.known missing.start ≡ true → missing.sure ≡ missing.most }
-        requires fits { (K.known self.old.known).told < 2 ^ 64 }
-        ensures known { self.new.known ≡ self.old.known }
+        requires short { (K.content self.old.known).told < 2 ^ 64 }
+        ensures same { self.new.known ≡ self.old.known }
         ensures seen { self.new.log.spans ≡ self.old.log.spans ++ span_at start count }
         ensures missed { self.new.missed ≡ Some missing }
     {
@@ -159,26 +161,26 @@ impl<K: Known> KnownSource<K> {
     // bytes of the buffer lie within the input.
     #[inline(always)]
     fn fill_known(&mut self, offset: u64, buffer: &mut [u8]) -> (usize, usize)
-        ensures same { K.known self.new.known ≡ K.known self.old.known }
+        ensures same { K.content self.new.known ≡ K.content self.old.known }
         ensures seen { self.new.log.spans ≡ self.old.log.spans }
         ensures missed { self.new.missed ≡ self.old.missed }
-        ensures wanted { result.1 ≡ min (length buffer.new) ((K.known self.old.known).told - offset) }
-        ensures fits { (K.known self.old.known).told < 2 ^ 64 }
+        ensures wanted { result.1 ≡ min (length buffer.new) ((K.content self.old.known).told - offset) }
+        ensures short { (K.content self.old.known).told < 2 ^ 64 }
         ensures within { result.0 ≤ result.1 }
-        ensures copied { take result.0 buffer.new ≡ part (input_of (K.known self.old.known)) offset result.0 }
-        ensures known { (i : ℕ) → i < result.0 → is_known (K.known self.old.known) (offset + i) ≡ true }
-        ensures missing { result.0 < result.1 → is_known (K.known self.old.known) (offset + result.0) ≡ false }
+        ensures copied { take result.0 buffer.new ≡ part (input_of (K.content self.old.known)) offset result.0 }
+        ensures known { (i : ℕ) → i < result.0 → is_known (K.content self.old.known) (offset + i) ≡ true }
+        ensures missing { result.0 < result.1 → is_known (K.content self.old.known) (offset + result.0) ≡ false }
     {
         let wanted = count_there(self.known.told(), offset, buffer.len());
         let found = self.known.gather(offset, &mut buffer[..wanted]);
         (found, wanted)
     }
 
-    // The `count` bytes from an offset on, or `None` if no slice has all of them.
+    // The `count` bytes from an offset on, or `None` if `near` does not have them all.
     #[inline(always)]
     fn whole_from(&self, offset: u64, count: usize) -> Option<&[u8]>
         ensures long { IfSome result (λ found. length found.now ≡ count) }
-        ensures known { IfSome result (λ found. AreKnown (K.known self.now.known) offset found.now) }
+        ensures known { IfSome result (λ found. AreKnown (K.content self.now.known) offset found.now) }
     {
         let near = self.known.near(offset);
         if near.len() < count {
@@ -187,21 +189,21 @@ impl<K: Known> KnownSource<K> {
         Some(&near[..count])
     }
 
-    // A read that no slice has as a whole. `None` means that a byte is missing. A number passes in a register, where a `Halt` is
-    // written to memory in parts and read whole.
+    // A read that `near` does not have as a whole. `None` means that a byte is missing. A number is returned in a register. A `Halt`
+    // would go through memory.
     #[cold]
     #[inline(never)]
     fn gather_at(&mut self, offset: u64, buffer: &mut [u8]) -> Option<usize>
         ensures bound { IfSome result (λ n. n ≤ length buffer.new) }
-        ensures there { IfSome result (λ n. n ≤ (K.known self.old.known).told - offset) }
+        ensures there { IfSome result (λ n. n ≤ (K.content self.old.known).told - offset) }
 
         // A failed read misses all its bytes from the first missing one on, as far as the input goes.
         ensures all { result ≡ None → IsSomeAnd self.new.missed
-            (λ m. (m.start + m.sure ≡ min (offset + length buffer.old) (K.known self.old.known).told) × (m.most ≡ m.sure)) }
-        ensures runs { Runs (known_state (K.known self.old.known) self.old.log.spans self.old.missed)
-            (known_state (K.known self.new.known) self.new.log.spans self.new.missed)
+            (λ m. (m.start + m.sure ≡ min (offset + length buffer.old) (K.content self.old.known).told) × (m.most ≡ m.sure)) }
+        ensures runs { Runs (known_state (K.content self.old.known) self.old.log.spans self.old.missed)
+            (known_state (K.content self.new.known) self.new.log.spans self.new.missed)
             (map_answer (λ n. take n buffer.new) (ok_or result Halt.Failed))
-            (part_read (input_of (K.known self.old.known)) offset (length buffer.new)) }
+            (part_read (input_of (K.content self.old.known)) offset (length buffer.new)) }
     {
         let (found, wanted) = self.fill_known(offset, buffer);
         if found < wanted {
@@ -221,29 +223,29 @@ impl<K: Known> KnownSource<K> {
         Some(found)
     }
 
-    // A text that no slice has as a whole. The bytes of the first slice are not searched again. `None` means that a byte is missing.
+    // A text that the bytes of `near` do not end. They are not searched again. `None` means that a byte is missing.
     #[cold]
     #[inline(never)]
     fn gather_text(&mut self, offset: u64, text: Text, buffer: &mut [u8]) -> Option<usize>
         requires { is_ended text (take (length buffer.old) (K.near self.old.known offset)) ≡ false }
         ensures bound { IfSome result (λ n. n ≤ length buffer.new) }
-        ensures there { IfSome result (λ n. n ≤ (K.known self.old.known).told - offset) }
-        ensures runs { Runs (known_state (K.known self.old.known) self.old.log.spans self.old.missed)
-            (known_state (K.known self.new.known) self.new.log.spans self.new.missed)
+        ensures there { IfSome result (λ n. n ≤ (K.content self.old.known).told - offset) }
+        ensures runs { Runs (known_state (K.content self.old.known) self.old.log.spans self.old.missed)
+            (known_state (K.content self.new.known) self.new.log.spans self.new.missed)
             (map_answer (λ n. take n buffer.new) (ok_or result Halt.Failed))
-            (text_read (input_of (K.known self.old.known)) text offset (length buffer.new)) }
+            (text_read (input_of (K.content self.old.known)) text offset (length buffer.new)) }
     {
-        let near = self.known.near(offset).len();
-        // Most texts that a chunk does not end lie at its end. For them this saves a copy.
+        let at_hand = self.known.near(offset).len();
+        // If the text goes on past the last known byte, no copy is needed.
         if self.known.ends_near(offset) {
             let wanted = count_there(self.known.told(), offset, buffer.len());
-            if near < wanted {
-                self.miss_text(offset, text, near, wanted);
+            if at_hand < wanted {
+                self.miss_text(offset, text, at_hand, wanted);
                 return None;
             }
         }
         let (found, wanted) = self.fill_known(offset, buffer);
-        let searched = near.min(found);
+        let searched = at_hand.min(found);
         let Some(count) = uncut_length(text, &buffer[..found], searched, wanted) else {
             self.miss_text(offset, text, found, wanted);
             return None;
@@ -252,21 +254,21 @@ impl<K: Known> KnownSource<K> {
         Some(count)
     }
 
-    // Records a read of a text that misses a byte. Its first `found` bytes are known, and do not end it. Of the bytes that it requests,
-    // `wanted` lie within the input.
+    // Records a read of a text that misses a byte. Its first `found` bytes are known, and do not end it. `wanted` is how many of the
+    // requested bytes lie within the input.
     #[inline(always)]
     fn miss_text(&mut self, offset: u64, text: Text, found: usize, wanted: usize)
-        requires known { (i : ℕ) → i < found → is_known (K.known self.old.known) (offset + i) ≡ true }
-        requires unknown { is_known (K.known self.old.known) (offset + found) ≡ false }
-        requires open { is_ended text (part (input_of (K.known self.old.known)) offset found) ≡ false }
-        requires short { found < wanted }
-        requires there { wanted ≤ (K.known self.old.known).told - offset }
-        requires fits { (K.known self.old.known).told < 2 ^ 64 }
-        ensures { (most : ℕ) → wanted ≡ min most ((K.known self.old.known).told - offset) → Runs {X = List ℕ}
-            (known_state (K.known self.old.known) self.old.log.spans self.old.missed)
-            (known_state (K.known self.new.known) self.new.log.spans self.new.missed)
+        requires known { (i : ℕ) → i < found → is_known (K.content self.old.known) (offset + i) ≡ true }
+        requires unknown { is_known (K.content self.old.known) (offset + found) ≡ false }
+        requires open { is_ended text (part (input_of (K.content self.old.known)) offset found) ≡ false }
+        requires few { found < wanted }
+        requires there { wanted ≤ (K.content self.old.known).told - offset }
+        requires short { (K.content self.old.known).told < 2 ^ 64 }
+        ensures { (most : ℕ) → wanted ≡ min most ((K.content self.old.known).told - offset) → Runs {X = List ℕ}
+            (known_state (K.content self.old.known) self.old.log.spans self.old.missed)
+            (known_state (K.content self.new.known) self.new.log.spans self.new.missed)
             (Err Halt.Failed)
-            (text_read (input_of (K.known self.old.known)) text offset most) }
+            (text_read (input_of (K.content self.old.known)) text offset most) }
     {
         let missing = self.known.missed_text(text, offset, found, wanted - found);
         self.miss(offset, found, missing);
@@ -276,7 +278,7 @@ impl<K: Known> KnownSource<K> {
 impl<K: Known> Claims for KnownSource<K> {}
 
 impl<K: Known> Source for KnownSource<K> {
-    ghost state = { λ s. known_state (K.known s.known) s.log.spans s.missed };
+    ghost state = { λ s. known_state (K.content s.known) s.log.spans s.missed };
 
     #[inline(always)]
     fn told(&self) -> u64 {
@@ -315,8 +317,8 @@ impl<K: Known> Source for KnownSource<K> {
     }
 }
 
-/// How many bytes from an offset on lie within an input of this length, up to the length of the buffer.
-pub fn count_there(told: u64, offset: u64, buffer: usize) -> usize
+// How many bytes from an offset on lie within an input of this length, up to the length of the buffer.
+fn count_there(told: u64, offset: u64, buffer: usize) -> usize
     ensures { result ≡ min buffer (told - offset) }
 {
     let left = told.saturating_sub(offset);
@@ -327,10 +329,10 @@ pub fn count_there(told: u64, offset: u64, buffer: usize) -> usize
     }
 }
 
-/// How many bytes the text at the front of the bytes has. `None` if it may go on after them: none of them ends it, and the read
-/// requests more. The first `searched` bytes do not end it.
+// How many bytes the text at the front of the bytes has. `None` if it may go on after them: none of them ends it, and the read
+// requests more. The first `searched` bytes do not end it.
 #[tactic(auto, using(crate::proofs::Texts::fronts, crate::proofs::Texts::whole_fronts))]
-pub fn uncut_length(text: Text, bytes: &[u8], searched: usize, wanted: usize) -> Option<usize>
+fn uncut_length(text: Text, bytes: &[u8], searched: usize, wanted: usize) -> Option<usize>
     requires searched { searched ≤ length bytes.now }
     requires unended { is_ended text (take searched bytes.now) ≡ false }
     ensures within { IfSome result (λ n. n ≤ length bytes.now) }

@@ -1,11 +1,11 @@
-//! The known parts of an input.
+//! The known parts of an input, as the bytes of a `KnownSource`.
 ghost use Rattle.std.specs.Prelude.{◌≡◌, ℕ, List, ◌+◌, ◌-◌, ◌<◌, ◌≤◌, ◌++◌, ◌&&◌, [], if◌then◌else◌, min, take, drop, length, slice_index, nat_le, nat_lt, is_some, true, false, None, Some};
 ghost use Rattle.std.specs.Option.{ForSome};
 ghost use Rattle.imagesize_source.specs.Input.{part};
 ghost use Rattle.imagesize_source.specs.Known.{LeavesOut, byte_in_parts, byte_of, filled_input, length_within};
 
 use super::known::{Known, KnownSource, Missing};
-use crate::part::part_of;
+use crate::part::{bytes_behind, part_of};
 use crate::{Span, Text};
 
 /// The known parts of an input.
@@ -17,8 +17,8 @@ pub struct Parts<'a> {
     pub bytes: &'a [u8],
     /// The length of the input in bytes.
     pub told: u64,
-    /// The known bytes from offset 0 on: those of the first parts, as far as each begins where the one before ends. Where the first part
-    /// begins later, those of the first part that contains the offset.
+    /// The known bytes from offset 0 on: those of the first parts, as far as each begins where the one before ends. If the first part
+    /// begins later, those of the first part that contains offset 0.
     pub front: &'a [u8],
     // The last parts, at which a search begins, once the parts before them were passed over.
     rest: Option<Rest<'a>>,
@@ -150,7 +150,7 @@ impl<'a> Parts<'a> {
 }
 
 impl Known for Parts<'_> {
-    ghost known = { λ s. record { told = s.told; spans = s.spans.now; bytes = s.bytes.now } };
+    ghost content = { λ s. record { told = s.told; spans = s.spans.now; bytes = s.bytes.now } };
 
     ghost near = { λ s offset. drop offset s.front.now };
 
@@ -173,7 +173,7 @@ impl Known for Parts<'_> {
         self.gather_on(offset, buffer)
     }
 
-    // The byte that ends the text may be each of those that are missing.
+    // Any of the missing bytes may end the text.
     #[inline(always)]
     fn missed_text(&self, _text: Text, offset: u64, found: usize, left: usize) -> Missing {
         Missing {
@@ -296,12 +296,4 @@ fn count_before(start: u64, offset: u64, most: u64) -> u64
     } else {
         most
     }
-}
-
-// The bytes after the first `count`.
-#[tactic(auto, using(crate::proofs::Known::slice_behind))]
-fn bytes_behind(bytes: &[u8], count: u64) -> &[u8]
-    ensures { result.now ≡ drop count bytes.now }
-{
-    &bytes[(count as usize).min(bytes.len())..]
 }

@@ -7,8 +7,8 @@ use Rattle.imagesize.proofs.parts.size_as.Goals as goal
 
 pub returns : goal.returns
 returns c =
-    let s = c.size-found.new.source in let new = c.forget.ensures in let known = new.known in
+    let s = c.size-found.new.source in let new = c.forget.ensures in let same = new.same in
     rw (c.found_or_wanted.ensures, c.has_texts-texts.ensures)
     (tells_of (has_texts c.args.image) (size_reads c.args.image) (local_size c.args.image) _ _ _ s.log.spans s.missed end_of_input 0 _
-    (called (size_reads c.args.image) _ _ _ _ _ _ _ _ _ _ _ _ _ _ (λ i. (known i).told) (λ i. (known i).spans.now) (λ i. (known i).bytes.now) new.seen new.missed
+    (called (size_reads c.args.image) _ _ _ _ _ _ _ _ _ _ _ _ _ _ (λ i. (same i).told) (λ i. (same i).spans.now) (λ i. (same i).bytes.now) new.seen new.missed
     c.size-found.ensures s.seen s.lacks))

@@ -8,8 +8,8 @@ use Rattle.imagesize_source.proofs.Agreement.{with_texts}
 use Rattle.imagesize_source.proofs.Sharing.{shared}
 use Rattle.imagesize_pieces.specs.Stream.{Begins, Says}
 use Rattle.imagesize_pieces.proofs.Asking.{Left, depends, ends_left, few_left, needs_left}
-use Rattle.imagesize_pieces.proofs.Beginning.{ArrivedSource, Holds, input_of}
-use Rattle.imagesize_pieces.proofs.Called.{Called, called, fresh, goes_on, arrived_source, holds_after, is_honest, made_state, says_begun, state_of}
+use Rattle.imagesize_pieces.proofs.Beginning.{ArrivedSource, Holds, arrived_input}
+use Rattle.imagesize_pieces.proofs.Called.{Called, called, fresh, goes_on, arrived_source, holds_after, is_honest, says_begun, state_of}
 use Rattle.imagesize_pieces.proofs.Needing.{needs_wider}
 use Rattle.imagesize_pieces.proofs.front.read_front.Given.{Over}
 use Rattle.imagesize_pieces.proofs.front.read_front.Goals.{After-read-found}
@@ -25,7 +25,7 @@ module _ (g : Over) (c : After-read-found g) where
 
   -- the source before the read
   abbrev made : State
-  made = made_state c.new-source.result
+  made = state_of (arrived_source c.new-source.result)
 
   call : Called made source c.args.told 0 c.args.bytes.now []
   call =
@@ -36,7 +36,7 @@ module _ (g : Over) (c : After-read-found g) where
   short : source.told < 2 ^ 63
   short = omega (arith, call.told, c.requires.short)
 
-  runs : Runs (fresh source) (state_of source) c.read-found.result (layout_reads (input_of source) layout)
+  runs : Runs (fresh source) (state_of source) c.read-found.result (layout_reads (arrived_input source) layout)
   runs = subst (λ x. Runs x (state_of source) c.read-found.result (layout_reads x.held.input layout)) call.new c.read-found.ensures
 
   run : Holds c.args.bytes.now source

@@ -18,7 +18,7 @@ use Rattle.imagesize_pieces.specs.Stream.{Begins, Needs, Reach, Says, stream_sta
 use Rattle.imagesize_pieces.specs.declared.stand.Stand.{Stand}
 use Rattle.imagesize_pieces.proofs.Asking.{Left, ends_left, few_left, needs_left, seen_there, shares_left}
 use Rattle.imagesize_pieces.proofs.Beginning.{ArrivedSource, Holds, Run, begins_left, run_held}
-use Rattle.imagesize_pieces.proofs.Called.{Called, called, fresh, goes_on, arrived_source, holds_after, is_honest, made_state, says_begun, state_of}
+use Rattle.imagesize_pieces.proofs.Called.{Called, called, fresh, goes_on, arrived_source, holds_after, is_honest, says_begun, state_of}
 use Rattle.imagesize_pieces.proofs.Needing.{needs_any, needs_behind, needs_wider, onward_any}
 use Rattle.imagesize_pieces.proofs.Reaching.{reach_covered}
 use Rattle.imagesize_pieces.proofs.walk.read_on.Given.{Over}
@@ -65,7 +65,7 @@ module _ (g : Over) (c : After-walk_on-found g) where
 
   -- the source before the walk
   abbrev made : State
-  made = made_state c.new-source.result
+  made = state_of (arrived_source c.new-source.result)
 
   call : Called made source stand.told start kept unread
   call =

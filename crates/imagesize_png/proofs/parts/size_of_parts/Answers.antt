@@ -9,9 +9,9 @@ use Rattle.imagesize_png.proofs.parts.size_of_parts.Goals as goal
 
 pub returns : goal.returns
 returns c =
-    let old = c.args.source.now.known in let s = c.size-found.new.source in let new = c.forget.ensures in let known = new.known in
+    let old = c.args.source.now.known in let s = c.size-found.new.source in let new = c.forget.ensures in let same = new.same in
     let call = called (λ x. png_reads x 0) old.told _ _ old.spans.now _ _ old.bytes.now _ _ _ _ _ _ _
-    (λ i. (known i).told) (λ i. (known i).spans.now) (λ i. (known i).bytes.now) new.seen new.missed c.size-found.ensures s.seen s.lacks in
+    (λ i. (same i).told) (λ i. (same i).spans.now) (λ i. (same i).bytes.now) new.seen new.missed c.size-found.ensures s.seen s.lacks in
     let back = sym c.found_or_wanted.ensures in
     record {
       says = λ d has short. subst (λ a. SaysOf false (png_of d 0) old.told old.spans.now old.bytes.now a) back

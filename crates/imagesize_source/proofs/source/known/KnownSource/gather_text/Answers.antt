@@ -9,13 +9,13 @@ use Rattle.imagesize_source.proofs.source.known.KnownSource.gather_text.Goals as
 
 pub uncut_length-requires-clause-unended : goal.uncut_length-requires-clause-unended
 uncut_length-requires-clause-unended g c =
-    let k : KnownBytes = g.K.Known.known c.args.self.now.known in
-    let bs : List ℕ = c.near-near.result.now in
+    let k : KnownBytes = g.K.Known.content c.args.self.now.known in
+    let bs : List ℕ = c.near-at_hand.result.now in
     let most : ℕ = length c.args.buffer.now in
     let n : ℕ = min (length bs) most in
-    let there = run_there k.told k.spans k.bytes bs c.args.offset n c.near-near.ensures.known (omega arith) in
+    let there = run_there k.told k.spans k.bytes bs c.args.offset n c.near-at_hand.ensures.known (omega arith) in
     let open_run : is_ended c.args.text (take most bs) ≡ false =
-    ap (λ xs. is_ended c.args.text (take most xs)) c.near-near.ensures.near ∙ c.requires in
+    ap (λ xs. is_ended c.args.text (take most xs)) c.near-at_hand.ensures.near ∙ c.requires in
     let f = c.fill_known-found in
     open_part c.args.text _ _ c.args.offset n _ _ f.ensures.copied
     (omega (arith, c.min-searched.ensures, f.ensures.within, f.ensures.wanted, f.auto.buffer)) (omega (arith, c.min-searched.ensures))
@@ -23,18 +23,18 @@ uncut_length-requires-clause-unended g c =
 
 pub miss_text-requires-clause-open : goal.miss_text-requires-clause-open
 miss_text-requires-clause-open g c =
-    let k : KnownBytes = g.K.Known.known c.args.self.now.known in
-    let bs : List ℕ = c.near-near.result.now in
+    let k : KnownBytes = g.K.Known.content c.args.self.now.known in
+    let bs : List ℕ = c.near-at_hand.result.now in
     let most : ℕ = length c.args.buffer.now in
-    let there = run_there k.told k.spans k.bytes bs c.args.offset (length bs) c.near-near.ensures.known (omega arith) in
-    let few : length bs ≤ most = omega (arith, c.if-near-wanted.true, c.count_there-wanted.ensures) in
+    let there = run_there k.told k.spans k.bytes bs c.args.offset (length bs) c.near-at_hand.ensures.known (omega arith) in
+    let few : length bs ≤ most = omega (arith, c.if-at_hand-wanted.true, c.count_there-wanted.ensures) in
     ap (is_ended c.args.text) (sym there.1 ∙ take_all (length bs) bs (omega arith) ∙ sym (take_all most bs few))
-    ∙ ap (λ xs. is_ended c.args.text (take most xs)) c.near-near.ensures.near ∙ c.requires
+    ∙ ap (λ xs. is_ended c.args.text (take most xs)) c.near-at_hand.ensures.near ∙ c.requires
 
 pub returns-clause-runs : goal.returns-clause-runs
 returns-clause-runs g c =
     let s = c.args.self.now in
-    let k : KnownBytes = g.K.Known.known s.known in
+    let k : KnownBytes = g.K.Known.content s.known in
     let f = c.fill_known-found in
     parts_text k.told k.spans k.bytes s.log.spans s.missed _ c.args.text f.new.buffer c.args.offset
     f.result.1 f.result.0 c.in-Some.count f.ensures.wanted f.ensures.within f.ensures.copied

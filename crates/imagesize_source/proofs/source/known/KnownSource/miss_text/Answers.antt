@@ -4,4 +4,4 @@ use Rattle.imagesize_source.proofs.source.known.KnownSource.miss_text.Goals as g
 pub returns : goal.returns
 returns g c = λ most wanted.
     let s = c.args.self.now in
-    c.missed_text-missing.ensures.misses most (omega (arith, wanted, c.requires.short)) s.log.spans s.missed _ (cc)
+    c.missed_text-missing.ensures.misses most (omega (arith, wanted, c.requires.few)) s.log.spans s.missed _ (cc)

@@ -7,7 +7,7 @@ use Rattle.imagesize_source.proofs.source.known.KnownSourceSource.read_at.Goals 
 
 pub returns-clause-pays : goal.returns-clause-pays
 returns-clause-pays g c = λ some behind.
-    let k : KnownBytes = g.K.Known.known c.args.self.now.known in
+    let k : KnownBytes = g.K.Known.content c.args.self.now.known in
     let found = c.in-Some.found.now in
     let there = run_there k.told k.spans k.bytes found c.args.offset (length found) c.in-Some.ensures.known (omega arith) in
     absurd (omega (arith, some, behind, there.0, c.in-Some.ensures.long))
@@ -15,7 +15,7 @@ returns-clause-pays g c = λ some behind.
 pub returns-clause-runs : goal.returns-clause-runs
 returns-clause-runs g c =
     let s = c.args.self.now in
-    let k : KnownBytes = g.K.Known.known s.known in
+    let k : KnownBytes = g.K.Known.content s.known in
     let found = c.in-Some.found.now in
     let there = run_there k.told k.spans k.bytes found c.args.offset (length found) c.in-Some.ensures.known (omega arith) in
     let same = c.copy_from_slice.ensures.after in

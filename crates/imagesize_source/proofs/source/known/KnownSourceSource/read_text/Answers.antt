@@ -7,14 +7,14 @@ use Rattle.imagesize_source.proofs.source.known.KnownSourceSource.read_text.Goal
 
 pub returns-clause-pays : goal.returns-clause-pays
 returns-clause-pays g c = λ some behind.
-    let k : KnownBytes = g.K.Known.known c.args.self.now.known in
+    let k : KnownBytes = g.K.Known.content c.args.self.now.known in
     let there = run_there k.told k.spans k.bytes c.near.result.now c.args.offset c.in-Some.count c.near.ensures.known c.in-Some.ensures.there in
     absurd (omega (arith, some, behind, there.0))
 
 pub returns-clause-runs : goal.returns-clause-runs
 returns-clause-runs g c =
     let s = c.args.self.now in
-    let k : KnownBytes = g.K.Known.known s.known in
+    let k : KnownBytes = g.K.Known.content s.known in
     let has = c.in-Some.ensures in
     let n : ℕ = c.in-Some.count in
     let there = run_there k.told k.spans k.bytes c.near.result.now c.args.offset n c.near.ensures.known has.there in
