@@ -19,14 +19,14 @@ returns-in-Found-Ok-clause-complete c = λ d has short.
 
 pub returns-in-Found-Err-clause-says : goal.returns-in-Found-Err-clause-says
 returns-in-Found-Err-clause-says c = λ d has short.
-    let new = c.source.ensures in
+    let new = c.source-source.ensures in
     let kind = moved (λ n spans bytes. TellsOf false (λ d. kind_of d 0) n spans bytes (Found c.in-Found-Err.field-0)) _ _ _ _ _ _
     new.told new.spans new.bytes c.in-Found-Err.ensures.tells in
     type_refused d c.in-Found-Err.error (sym c.in-Found-Err.field-0-is ∙ kind.says d has short)
 
 pub returns-in-Wanted-clause-says : goal.returns-in-Wanted-clause-says
 returns-in-Wanted-clause-says c = λ d has short.
-    let new = c.source.ensures in
+    let new = c.source-source.ensures in
     let kind = moved (λ n spans bytes. TellsOf false (λ d. kind_of d 0) n spans bytes (Wanted c.in-Wanted.span)) _ _ _ _ _ _
     new.told new.spans new.bytes c.in-Wanted.ensures.tells in
     type_wanted d c.args.total c.args.spans.now c.args.bytes.now c.in-Wanted.span (kind.says d has short)
@@ -42,7 +42,7 @@ returns-in-Found-Err-clause-unstopped c = grind arith
 
 pub returns-in-Found-Ok-clause-reaches : goal.returns-in-Found-Ok-clause-reaches
 returns-in-Found-Ok-clause-reaches c = λ short all is_text.
-    let new = c.source.ensures in let kept = c.in-Found-Ok.ensures in
+    let new = c.source-source.ensures in let kept = c.in-Found-Ok.ensures in
     let n = c.args.total in let spans = c.args.spans.now in let bytes = c.args.bytes.now in
     let d = filled_input n spans bytes in
     let kind = moved (λ n spans bytes. TellsOf false (λ d. kind_of d 0) n spans bytes (Found c.in-Found-Ok.field-0)) _ _ _ _ _ _
@@ -55,7 +55,7 @@ returns-in-Found-Ok-clause-reaches c = λ short all is_text.
 
 pub returns-in-Wanted-clause-reaches : goal.returns-in-Wanted-clause-reaches
 returns-in-Wanted-clause-reaches c = λ short all _.
-    let new = c.source.ensures in
+    let new = c.source-source.ensures in
     let n = c.args.total in let spans = c.args.spans.now in let bytes = c.args.bytes.now in
     let kind = moved (λ n spans bytes. TellsOf false (λ d. kind_of d 0) n spans bytes (Wanted c.in-Wanted.span)) _ _ _ _ _ _
     new.told new.spans new.bytes c.in-Wanted.ensures.tells in

@@ -7,7 +7,7 @@ use Rattle.imagesize_png.proofs.parts.parts_size.Goals as goal
 
 pub returns-clause-says : goal.returns-clause-says
 returns-clause-says c =
-    let new = c.source.ensures in
+    let new = c.source-source.ensures in
     moved (SaysOfEach false (λ d. png_reads d 0) c.size_of_parts.result) _ _ _ _ _ _
     new.told new.spans new.bytes c.size_of_parts.ensures.says
 
@@ -18,12 +18,12 @@ returns-clause-complete c =
 
 pub returns-clause-fits : goal.returns-clause-fits
 returns-clause-fits c =
-    let new = c.source.ensures in
+    let new = c.source-source.ensures in
     moved (λ n spans bytes. Fits n c.size_of_parts.result) _ _ _ _ _ _ new.told new.spans new.bytes
     c.size_of_parts.ensures.fits
 
 pub returns-clause-unstopped : goal.returns-clause-unstopped
 returns-clause-unstopped c =
-    let new = c.source.ensures in
+    let new = c.source-source.ensures in
     subst (λ n. n < 2 ^ 63
     → IfFound c.size_of_parts.result (λ answer. is_stopped answer ≡ false)) new.told c.size_of_parts.ensures.unstopped
