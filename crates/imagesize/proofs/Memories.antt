@@ -1,5 +1,5 @@
 -- A reader that was opened, and what a call over bytes in memory answers to their reader.
-use Rattle.std.proofs.Common.{arith, refl, ◌∙◌, ◌≡◌, ℕ, ◌+◌, ◌<◌, ◌^◌, List, length, true, false, Option, None, Some, is_some, Result, Ok}
+use Rattle.std.proofs.Common.{arith, refl, ◌∙◌, ◌≡◌, ℕ, ◌+◌, ◌<◌, ◌^◌, List, length, true, false, Option, None, is_some, Result, Ok}
 use Rattle.std.specs.Prelude.{option_map}
 use Rattle.imagesize.specs.Opening.{IsOpened, before, in_memory}
 use Rattle.imagesize.proofs.Meanings.{read_answers}

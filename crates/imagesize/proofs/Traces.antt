@@ -1,8 +1,8 @@
 -- What a recording slice shows of an answer.
-use Rattle.std.proofs.Common.{◌≡◌, ℕ, ◌+◌, ◌-◌, ◌^◌, ◌<◌, ◌≤◌, min, false, List, [], ◌∷◌, ◌++◌, length, take, Result, Ok, IfOk, IsTrue, refl, sym, ap, ◌∙◌, subst, arith}
+use Rattle.std.proofs.Common.{◌≡◌, ℕ, ◌+◌, ◌-◌, ◌^◌, ◌<◌, ◌≤◌, min, false, List, [], ◌∷◌, length, take, Result, refl, sym, ap, ◌∙◌, subst, arith}
 use Rattle.std.specs.Prelude.{Option}
 use Rattle.std.specs.Result.{result_ok}
-use Rattle.imagesize.specs.Counts.{lasts_as, stated_bytes}
+use Rattle.imagesize.specs.Counts.{stated_bytes}
 use Rattle.imagesize.specs.Meaning.{kind_of, kind_reads, meaning, meaning_reads, size_reads}
 use Rattle.imagesize.specs.Probed.{FindsKind}
 use Rattle.imagesize.specs.Traced.{AreWithin, IsSame}
@@ -10,17 +10,14 @@ use Rattle.imagesize.specs.declared.types.ImageType.{ImageType}
 use Rattle.imagesize_types.specs.declared.size.ImageSize.{ImageSize}
 use Rattle.imagesize.proofs.Counts.{cost_stated, cost_within}
 use Rattle.imagesize.proofs.Endings.{never_stopped}
-use Rattle.imagesize.proofs.Extension.{size_lasts}
 use Rattle.imagesize.proofs.Meanings.{same_kind}
 use Rattle.imagesize.proofs.Locality.{same_kind_of, same_meaning}
 use Rattle.imagesize.proofs.Within.{marks_few, meaning_within}
 use Rattle.imagesize_source.proofs.Agreement.{agrees_first}
 use Rattle.imagesize_source.proofs.Recordings.{past-recording}
 use Rattle.imagesize_source.specs.Agreement.{Agrees}
-use Rattle.imagesize_source.specs.Outcome.{outcome_of}
 use Rattle.imagesize_source.specs.Reading.{is_stopped}
 use Rattle.imagesize_source.specs.State.{State, Runs, recording_state, total}
-use Rattle.imagesize_source.specs.declared.error.ImageError.{ImageError}
 use Rattle.imagesize_source.specs.declared.halt.Halt.{Halt}
 use Rattle.imagesize_source.specs.declared.span.Span.{Span}
 

@@ -6,7 +6,7 @@ use Rattle.std.specs.List.{range_with_len}
 use Rattle.std.proofs.Math.Seq.{take-append_seam}
 use Rattle.std.proofs.lemmas.List.Elements.{All-append, All-nil}
 use Rattle.std.proofs.lemmas.Grind.{common_steps}
-use Rattle.imagesize_boxes.specs.Heif.{heif, heif_in_iprp, heif_in_meta, properties, search_for}
+use Rattle.imagesize_boxes.specs.Heif.{heif, properties, search_for}
 use Rattle.imagesize_boxes.specs.Jxl.{codestream, jxl_codestream, jxl_size, jxl_start}
 use Rattle.imagesize_texts.specs.Exr.{exr_attributes, name_room}
 use Rattle.imagesize_texts.specs.Hdr.{hdr_identifier, hdr_lines}
@@ -14,10 +14,10 @@ use Rattle.imagesize_texts.specs.Pnm.{pnm_words}
 use Rattle.imagesize_walked.specs.Ico.{icon_entries}
 use Rattle.imagesize_walked.specs.Ilbm.{ilbm_chunks}
 use Rattle.imagesize_walked.specs.Jpeg.{jpeg_segments}
-use Rattle.imagesize_walked.specs.Tiff.{count_bytes, tiff_directory, tiff_entries, tiff_header}
+use Rattle.imagesize_walked.specs.Tiff.{count_bytes, tiff_entries, tiff_header}
 use Rattle.imagesize.proofs.Counts.{cost_within}
 use Rattle.imagesize.specs.Kind.{kind}
-use Rattle.imagesize.specs.Meaning.{kind_reads, meaning_reads, size_reads}
+use Rattle.imagesize.specs.Meaning.{meaning_reads, size_reads}
 use Rattle.imagesize.specs.Parted.{IsWithin}
 use Rattle.imagesize.specs.Traced.{AreWithin}
 use Rattle.imagesize.specs.Types.{way_of}
@@ -27,11 +27,10 @@ use Rattle.imagesize_source.specs.Chain.{Along, Chain, chain_at, chain_from, mar
 use Rattle.imagesize_source.specs.Input.{span_at, span_of}
 use Rattle.imagesize_source.specs.Layout.{Layout, layout_reads}
 use Rattle.imagesize_source.specs.Layout.Layout.{«done», refuse, field, reading, begin_record}
-use Rattle.imagesize_source.specs.Reading.{Reads, Reading, AllOf, PartOf, TextOf, and_then, bytes_read, go_on, just, number_at, number_read, read_of, text_part}
+use Rattle.imagesize_source.specs.Reading.{Reads, Reading, AllOf, PartOf, TextOf, go_on, just, number_at, read_of, text_part}
 use Rattle.imagesize_types.specs.declared.size.ImageSize.{ImageSize}
 use Rattle.imagesize_source.specs.State.{total}
 use Rattle.imagesize_source.specs.Way.{Way, Fixed, Recorded, Texts, by_way}
-use Rattle.imagesize_source.specs.declared.endian.Endian.TheVariants.{Big, Little}
 use Rattle.imagesize_source.specs.declared.halt.Halt.{Halt}
 use Rattle.imagesize_source.specs.declared.span.Span.{Span}
 use Rattle.imagesize_io.proofs.Leaving.{EndsWithin}

@@ -176,7 +176,10 @@ fn type_of(source: &mut KnownSource<Parts<'_>>) -> PartsAnswer<ImageResult<Image
 
 // The size, read as this type, by reads that start anew.
 #[inline(always)]
-fn size_as(source: &mut KnownSource<Parts<'_>>, image: ImageType) -> PartsAnswer<ImageResult<ImageSize>>
+fn size_as(
+    source: &mut KnownSource<Parts<'_>>,
+    image: ImageType,
+) -> PartsAnswer<ImageResult<ImageSize>>
     ensures { TellsOf (has_texts image) (size_of image)
         source.old.known.told source.old.known.spans.now source.old.known.bytes.now result }
 {

@@ -4,8 +4,8 @@ ghost use Rattle.imagesize_source.specs.Text.{delimits};
 ghost use Rattle.imagesize_pieces.specs.Stream.{known_of, run_at};
 
 use imagesize_source::Text;
-use imagesize_source::source::known::{Known, Missing};
 use imagesize_source::part::bytes_behind;
+use imagesize_source::source::known::{Known, Missing};
 use imagesize_source::source::parts::put;
 
 // The proofs read each missing byte as this value. A text that it does not end goes on as far as the read requests.

@@ -159,9 +159,14 @@ impl Known for Parts<'_> {
         self.told
     }
 
+    // A branch, where `bytes_behind` takes a minimum: nearly all reads lie in `front`, so it costs least.
     #[inline(always)]
     fn near(&self, offset: u64) -> &[u8] {
-        bytes_behind(self.front, offset)
+        let start = offset as usize;
+        if start > self.front.len() {
+            return &self.front[..0];
+        }
+        &self.front[start..]
     }
 
     // An empty read, such as one past the end, needs no part.

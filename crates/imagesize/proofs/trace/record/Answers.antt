@@ -1,5 +1,5 @@
 use Rattle.std.proofs.Common.{arith}
-use Rattle.imagesize.proofs.Traces.{goes_on, recorded_count, recorded_found, recorded_kind, recorded_spans}
+use Rattle.imagesize.proofs.Traces.{recorded_count, recorded_spans}
 use Rattle.imagesize.proofs.trace.record.Goals as goal
 
 pub returns-clause-count : goal.returns-clause-count

@@ -1,6 +1,6 @@
 -- It refuses the call whose turn it is, and answers what the inner allocator answers at any other. Assumes `Logic`.
 use contract.Running.{tables_of}
-use Rattle.imagesize_readers.proofs.Walks.{◌≡◌, ℕ, ◌+◌, ◌^◌, ◌<◌, true, false, List, [], ◌∷◌, Ok, Err, refl, w64, Bor, Ura, Ty, Fn, Bool, Val, vbool, vint, vptr, inst_fn, SProp, ent, id⊢, Lft, Share, ftrue, flft, Memory, size, align, capped, up, Routine, WpFn, Tables, Logic, ◌⊑◌, ⊑_trans, Fun, fact, tables, fm_of, WpFn-mono, stop, fld, lit, addr, no_more, and_then, first, branches, skips, exec, returns, returns_within, enter, agg, after, yes, owns, shr_vals, unhide, param, uint_vals, uint_Tells, plain, types_at, heard, nothing, Ended, Clauses, triple_of, Triple, entered, cited, Stays, stay_dropped, walk_of, ends_at, walked, Goes-dropped, walk_Meets, ‵, raw, ◌⊛◌, some, later, given, learn, pick, at_ret, ◌$◌, ◌∵◌, !, qed, move, keep, use0, use1, use2, split, join, fsplit, fjoin, suffices, await, done, alloc_all, pass_all, free_all, look_at, get, through, sets, lands_as, env, block_ptr, usize, calls_at, Al, α, seen, Answer, answer_val, Answer-typed, Answer-Ok, Answer-err, takes_key, Takes, at_takes, Answered, Takes-goes, Takes-gives, answers}
+use Rattle.imagesize_readers.proofs.Walks.{◌≡◌, ℕ, ◌+◌, ◌^◌, ◌<◌, true, false, List, [], ◌∷◌, Ok, Err, refl, w64, Bor, Ura, Ty, Fn, Bool, Val, vbool, vint, vptr, inst_fn, SProp, ent, id⊢, Lft, Share, ftrue, flft, Memory, size, align, capped, up, Routine, WpFn, Tables, Logic, ◌⊑◌, ⊑_trans, Fun, fact, tables, fm_of, WpFn-mono, stop, fld, lit, addr, no_more, and_then, first, branches, skips, exec, returns, returns_within, enter, agg, after, yes, owns, shr_vals, unhide, uint_vals, uint_Tells, plain, types_at, heard, nothing, Ended, Clauses, triple_of, Triple, entered, cited, Stays, stay_dropped, walk_of, ends_at, walked, Goes-dropped, walk_Meets, ‵, raw, ◌⊛◌, some, later, given, learn, pick, at_ret, ◌$◌, ◌∵◌, !, qed, move, keep, use0, use1, use2, split, join, fsplit, fjoin, suffices, await, done, alloc_all, pass_all, free_all, look_at, get, through, sets, lands_as, env, block_ptr, usize, calls_at, Al, α, seen, Answer, answer_val, Answer-typed, Answer-Ok, Answer-err, takes_key, Takes, at_takes, Answered, Takes-goes, Takes-gives, answers}
 use Rattle.imagesize_readers.proofs.Noting.{args, self, Refuses, at_noted, noted_goes, refuses_gives}
 use Rattle.imagesize_readers.proofs.allocators.refuses.Symbol as c_sym
 use Rattle.imagesize_readers.proofs.allocators.refuses.Met as c_met

@@ -1,6 +1,6 @@
 -- It notes the block, and gives it back to the inner allocator. Assumes `Logic`.
 use contract.Running.{tables_of}
-use Rattle.imagesize_readers.proofs.Walks.{◌≡◌, ℕ, ◌+◌, ◌^◌, ◌<◌, List, [], ◌∷◌, refl, w64, Bor, Ura, Ty, Fn, Val, vint, vptr, inst_fn, SProp, ent, id⊢, Lft, Share, ftrue, flft, Memory, size, align, capped, up, Routine, WpFn, Tables, Logic, ◌⊑◌, ⊑_trans, Fun, fact, tables, fm_of, WpFn-mono, stop, fld, addr, no_more, and_then, of_opd, returns, enter, yes, owns, shr_vals, unhide, param, uint_vals, uint_Tells, plain, types_at, heard, nothing, Ended, Clauses, triple_of, Triple, entered, cited, Stays, stay_dropped, walk_of, ends_at, walked, Goes-dropped, walk_Meets, vunit, never_e, ffalse, fsep, froom, Item, ‵, raw, ◌⊛◌, later, given, ◌$◌, ◌∵◌, !, qed, by, move, keep, use1, use2, split, split3, join, learn, fsplit, fjoin, feq_i, suffices, await, done, unit_lit, alloc_all, pass_all, free_all, look_at, get, through, sets, lands_as, Ptr, block_ptr, null_ptr, ptr_val, rawptr_vals, rawptr_Tells, usize, RawPtr, calls_at, Al, α, seen, token, gives_key, Gives, at_gives, Gives-goes, Gives-Gives}
+use Rattle.imagesize_readers.proofs.Walks.{◌≡◌, ℕ, ◌+◌, ◌^◌, ◌<◌, List, [], ◌∷◌, refl, w64, Bor, Ura, Ty, Fn, Val, vint, vptr, inst_fn, SProp, ent, id⊢, Lft, Share, ftrue, flft, Memory, size, align, capped, up, Routine, WpFn, Tables, Logic, ◌⊑◌, ⊑_trans, Fun, fact, tables, fm_of, WpFn-mono, stop, fld, addr, no_more, and_then, of_opd, returns, enter, yes, owns, shr_vals, unhide, uint_vals, uint_Tells, plain, types_at, heard, nothing, Ended, Clauses, triple_of, Triple, entered, cited, Stays, stay_dropped, walk_of, ends_at, walked, Goes-dropped, walk_Meets, vunit, never_e, ffalse, fsep, froom, Item, ‵, raw, ◌⊛◌, later, given, ◌$◌, ◌∵◌, !, qed, by, move, keep, use1, use2, split, split3, join, learn, fsplit, fjoin, feq_i, suffices, await, done, unit_lit, alloc_all, pass_all, free_all, look_at, get, through, sets, lands_as, Ptr, block_ptr, null_ptr, ptr_val, rawptr_vals, rawptr_Tells, usize, RawPtr, calls_at, Al, α, seen, token, gives_key, Gives, at_gives, Gives-goes, Gives-Gives}
 use Rattle.imagesize_readers.proofs.Noting.{args, self, TakesBack, at_noted, noted_goes, take_back_gives}
 use Rattle.imagesize_readers.proofs.allocators.take_back.Symbol as c_sym
 use Rattle.imagesize_readers.proofs.allocators.take_back.Met as c_met
