@@ -289,6 +289,7 @@ impl<K: Known> Source for KnownSource<K> {
         0
     }
 
+    #[inline(always)]
     fn refusal(&self, halt: Halt) -> ImageError {
         halt.error(Reason::EndOfInput, 0)
     }
