@@ -1,3 +1,2 @@
 pub mod Pending
-pub mod Standing
 pub mod Stream

@@ -1,5 +1,6 @@
 -- An input that arrives in chunks: what the bytes so far say about every input that begins with them.
 use Rattle.std.specs.Prelude.{◌≡◌, ℕ, ◌+◌, ◌-◌, ◌≤◌, ◌<◌, nat_lt, if◌then◌else◌, Bool, true, false, List, [], ◌∷◌, ◌++◌, length, take, drop, Option, Result}
+use Rattle.imagesize_pieces.specs.declared.stand.Stand.{Stand}
 use Rattle.imagesize_source.specs.Agreement.{EndsBetween, is_covered}
 use Rattle.imagesize_source.specs.Known.{KnownBytes, byte_in_parts, input_of, known_state}
 use Rattle.imagesize_source.specs.Layout.{Layout, done, refuse, field, reading, begin_record}
@@ -93,3 +94,8 @@ pub record Streams {S X : Type 0} (step : Step S X) (s : S) (start offset told p
   pub rest : kept ≡ drop start front
   pub before : List Span
   pub resumes : (d : List ℕ) → Begins front told d → uncounted (whole d) ≡ put_behind before (uncounted (run step s offset d))
+
+-- these bytes arrived, the next record is after the state s, and the buffer holds the bytes from `stand.start` on
+abbrev pub Stands : {S X : Type 0} → Step S X → S → Stand → List ℕ → (List ℕ → Reads X) → List ℕ → Type 0
+Stands step s stand buffer whole front =
+    Streams step s stand.start stand.offset stand.told stand.passed (take (stand.passed - stand.start) buffer) whole front

@@ -3,8 +3,7 @@ ghost use Rattle.std.specs.Prelude.{◌≡◌, ℕ, ◌+◌, ◌-◌, ◌<◌, �
 ghost use Rattle.imagesize_source.specs.Agreement.{AllRead};
 ghost use Rattle.imagesize_source.specs.Reading.{Reads, is_faulted, is_stopped};
 ghost use Rattle.imagesize_source.specs.Walk.{CanFollow};
-ghost use Rattle.imagesize_pieces.specs.Standing.{Stands};
-ghost use Rattle.imagesize_pieces.specs.Stream.{AllBelow, Begins, Needs, Reach, Says};
+ghost use Rattle.imagesize_pieces.specs.Stream.{AllBelow, Begins, Needs, Reach, Says, Stands};
 
 use crate::arrived::Arrived;
 use crate::buffer::keep_behind;

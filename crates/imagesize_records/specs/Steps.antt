@@ -83,22 +83,12 @@ reach_at (Pnm s) = 1024
 -- what always holds of the next record at an offset
 abbrev pub IsSteady : Awaited → ℕ → Type 0
 IsSteady (Jpeg s) offset = jpeg_holds s offset
-IsSteady (Ilbm s) offset = Unit {0}
 IsSteady (Ico s) offset = ico_holds s offset
-IsSteady (Tiff s) offset = Unit {0}
-IsSteady (Heif s) offset = Unit {0}
 IsSteady (Jxl s) offset = jxl_holds s offset
-IsSteady (Exr long) offset = Unit {0}
-IsSteady Hdr offset = Unit {0}
-IsSteady (Pnm s) offset = Unit {0}
+IsSteady _ offset = Unit {0}
 
 pub steady_prop : (next : Awaited) (offset : ℕ) → IsProp (IsSteady next offset)
 steady_prop (Jpeg s) offset = le_prop
-steady_prop (Ilbm s) offset = Unit-prop
 steady_prop (Ico s) offset = ico_holds_prop s offset
-steady_prop (Tiff s) offset = Unit-prop
-steady_prop (Heif s) offset = Unit-prop
 steady_prop (Jxl s) offset = le_prop
-steady_prop (Exr long) offset = Unit-prop
-steady_prop Hdr offset = Unit-prop
-steady_prop (Pnm s) offset = Unit-prop
+steady_prop _ offset = Unit-prop

@@ -70,8 +70,7 @@ opening_records _ = refuse NotSupported
 -- what holds for the layout of a size at fixed offsets
 abbrev pub IfFixed : Way ImageSize → (Layout ImageSize → Type 0) → Type 0
 IfFixed (Fixed most layout) Holds = Holds layout
-IfFixed (Recorded outside each stated reads) Holds = Unit {0}
-IfFixed (Texts reads) Holds = Unit {0}
+IfFixed _ Holds = Unit {0}
 
 -- what holds for the reads of a size in records
 abbrev pub IfRecorded : Way ImageSize → ((List ℕ → Reads ImageSize) → Type 0) → Type 0
@@ -82,8 +81,7 @@ IfRecorded (Texts reads) Holds = Holds reads
 -- the size, if it is at fixed offsets, or else the first record
 abbrev pub opening_by : Way ImageSize → Layout Opening → Layout Opening
 opening_by (Fixed most layout) first = sized layout
-opening_by (Recorded outside each stated reads) first = first
-opening_by (Texts reads) first = first
+opening_by _ first = first
 
 -- what the first bytes say about the size, by the type
 abbrev pub opening : ImageType → Layout Opening

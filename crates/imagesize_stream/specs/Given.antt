@@ -10,7 +10,7 @@ use Rattle.imagesize_source.specs.Input.{part}
 use Rattle.imagesize_stream.specs.Heard.{IsByFooter}
 use Rattle.imagesize_stream.specs.Probe.{CameBy, IfAwaiting, MarkedBy}
 use Rattle.imagesize_stream.specs.declared.stage.Stage.{Stage}
-use Rattle.imagesize_stream.specs.declared.stage.Stage.TheVariants.{Done, First, Footer, Records}
+use Rattle.imagesize_stream.specs.declared.stage.Stage.TheVariants.{Done, Footer}
 
 -- the input has these bytes from an offset on; bytes past its end do not count
 abbrev pub HasPart : List ℕ → ℕ → List ℕ → Type 0
@@ -19,12 +19,11 @@ HasPart d offset bytes = take (length d - offset) bytes ≡ part d offset (lengt
 -- What is known of the input, by the stage. The first bytes came, except those that are not needed. For a footer, the buffer has
 -- those of the last 18 bytes that came.
 abbrev pub KnownBy : Stage → Option ImageType → ℕ → ℕ → ℕ → ℕ → List ℕ → List ℕ → Type 0
-KnownBy First kind start offset passed told buffer d = CameBy First kind start offset passed told buffer (take passed d)
-KnownBy (Records next) kind start offset passed told buffer d = CameBy (Records next) kind start offset passed told buffer (take passed d)
 KnownBy (Footer size) kind start offset passed told buffer d =
     IsByFooter size d × (drop (told - passed) (take 18 buffer) ≡ drop (told - 18) (take passed d))
 KnownBy (Done size) kind start offset passed told buffer d =
     (result_ok (kind_reads d 0).answer ≡ kind) × ((meaning_reads d 0).answer ≡ size)
+KnownBy stage kind start offset passed told buffer d = CameBy stage kind start offset passed told buffer (take passed d)
 
 -- the size depends on a byte at this offset or after it
 abbrev pub DependsFrom : ℕ → List ℕ → Type 0

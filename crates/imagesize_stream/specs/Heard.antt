@@ -2,8 +2,7 @@
 use Rattle.std.specs.Prelude.{◌≡◌, ◌⊎◌, ℕ, ◌-◌, ◌<◌, ◌≤◌, min, false, List, length, if◌then◌else◌, Option, None, Some, Result, Ok, Err, IfSome}
 use Rattle.std.specs.Result.{result_ok}
 use Rattle.imagesize.specs.Meaning.{kind_reads, meaning_reads}
-use Rattle.imagesize.specs.Parted.{texts_of}
-use Rattle.imagesize.specs.Parted.{has_texts}
+use Rattle.imagesize.specs.Parted.{has_texts, texts_of}
 use Rattle.imagesize.specs.declared.types.ImageType.{ImageType}
 use Rattle.imagesize_pieces.specs.Stream.{AllBelow, Begins, Needs, Says}
 use Rattle.imagesize.specs.declared.types.ImageType.TheVariants.{Tga}
@@ -17,8 +16,8 @@ use Rattle.imagesize_types.specs.declared.size.ImageSize.{ImageSize}
 use Rattle.imagesize_records.specs.Steps.{IsSteady, is_text}
 use Rattle.imagesize_records.specs.Streamed.{opening}
 use Rattle.imagesize_records.specs.declared.front.Opening.TheVariants as opened
-use Rattle.imagesize_stream.specs.declared.hear.Heard.{Heard}
-use Rattle.imagesize_stream.specs.declared.hear.Heard.TheVariants.{Answer, Footer, Missing, Records}
+use Rattle.imagesize_stream.specs.declared.stage.Stage.{Stage}
+use Rattle.imagesize_stream.specs.declared.stage.Stage.TheVariants.{Done, First, Footer, Records}
 
 -- every input that begins so has this type, or none
 abbrev pub TypeIs : List ℕ → ℕ → Option ImageType → Type 0
@@ -68,18 +67,12 @@ pub record Misses (front : List ℕ) (told : ℕ) (image : Option ImageType) (en
   pub between : OutOfHeader (length front) ⊎ (18 < end) → RestsBetween (length front) (min end 132) front told
 
 -- What the first bytes say is true of every input that begins so.
-abbrev pub Hears : List ℕ → ℕ → Heard → Type 0
-Hears front told (Missing image end) = Misses front told image end
-Hears front told (Answer image size) = TypeIs front told image × SizeIs front told size × (is_stopped size ≡ false)
-Hears front told (Records image next offset) =
-    IsSteady next offset × Says front told (λ d. kind_reads d 0) (Ok image)
-    × Says front told (λ d. layout_reads d (opening image)) (Ok (opened.Records next offset)) × (12 ≤ length front)
-    × (is_text next ≡ has_texts image)
-Hears front told (Footer size) = (18 ≤ length front) × ((d : List ℕ) → Begins front told d → IsByFooter size d)
-
--- it requests no byte from this offset on
-abbrev pub EndsIn : ℕ → Heard → Type 0
-EndsIn most (Missing image end) = end ≤ most
-EndsIn most (Answer image size) = Unit {0}
-EndsIn most (Records image next offset) = Unit {0}
-EndsIn most (Footer size) = Unit {0}
+abbrev pub Hears : List ℕ → ℕ → Option ImageType → Stage → ℕ → Type 0
+Hears front told kind First offset = Misses front told kind offset
+Hears front told kind (Records next) offset =
+    (type : ImageType) × (kind ≡ Some type) × IsSteady next offset × Says front told (λ d. kind_reads d 0) (Ok type)
+    × Says front told (λ d. layout_reads d (opening type)) (Ok (opened.Records next offset)) × (12 ≤ length front)
+    × (is_text next ≡ has_texts type)
+Hears front told kind (Footer size) offset =
+    (kind ≡ None) × (18 ≤ length front) × ((d : List ℕ) → Begins front told d → IsByFooter size d)
+Hears front told kind (Done size) offset = TypeIs front told kind × SizeIs front told size × (is_stopped size ≡ false)

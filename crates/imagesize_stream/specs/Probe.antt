@@ -30,9 +30,8 @@ texts_by (Some type) = has_texts type
 -- While no type is known, the type of each input of the reported length that begins so depends on a later byte.
 abbrev pub TypedBy : Stage → Option ImageType → List ℕ → ℕ → Type 0
 TypedBy First kind front told = TypeMissing kind front told
-TypedBy (Records next) kind front told = Unit {0}
 TypedBy (Footer size) kind front told = TypeRests front told
-TypedBy (Done size) kind front told = Unit {0}
+TypedBy _ kind front told = Unit {0}
 
 -- These bytes arrived. By the stage, the buffer holds all of them, those from the position of the walk on, or the last
 -- 18; or the result is known.
@@ -68,24 +67,18 @@ HoldsAt stage stand = HoldsBy stage stand.start stand.offset stand.passed
 
 -- So many of the kept bytes were searched for the end of the text that is next, and do not have it.
 abbrev pub SearchedBy : Stage → ℕ → ℕ → List ℕ → Type 0
-SearchedBy First searched kept buffer = Unit {0}
 SearchedBy (Records next) searched kept buffer = (searched ≤ kept) × (is_ended (first_text next) (take searched buffer) ≡ false)
-SearchedBy (Footer size) searched kept buffer = Unit {0}
-SearchedBy (Done size) searched kept buffer = Unit {0}
+SearchedBy _ searched kept buffer = Unit {0}
 
 pub searched_prop : (stage : Stage) (searched kept : ℕ) (buffer : List ℕ) → IsProp (SearchedBy stage searched kept buffer)
-searched_prop First searched kept buffer = Unit-prop
 searched_prop (Records next) searched kept buffer =
     ×_prop le_prop (≡_prop coded_bool (is_ended (first_text next) (take searched buffer)) false)
-searched_prop (Footer size) searched kept buffer = Unit-prop
-searched_prop (Done size) searched kept buffer = Unit-prop
+searched_prop _ searched kept buffer = Unit-prop
 
 -- P, if there is no result yet
 abbrev pub IfAwaiting : Stage → Type 0 → Type 0
-IfAwaiting First P = P
-IfAwaiting (Records next) P = P
-IfAwaiting (Footer size) P = P
 IfAwaiting (Done size) P = Unit {0}
+IfAwaiting _ P = P
 
 -- While there is no answer, bytes are missing up to this end, after those that came and after the start. A footer has 18
 -- bytes, a text 1,024 at most, another record 132. Not all bytes came that the record reads. Of the first bytes 18 or more are
@@ -103,10 +96,8 @@ IsAhead stage stand = AheadBy stage stand.start stand.passed stand.end stand.tol
 
 -- Of a record, no byte is requested after those that it reads. Any other stage requests all up to the end.
 abbrev pub IsCut : Stage → ℕ → ℕ → ℕ → Type 0
-IsCut First start end cut = cut ≡ end
 IsCut (Records next) start end cut = cut ≡ min end (start + reach_at next)
-IsCut (Footer size) start end cut = cut ≡ end
-IsCut (Done size) start end cut = cut ≡ end
+IsCut _ start end cut = cut ≡ end
 
 -- While there is no answer, the requested span is from the byte after those that came up to this end. A record is requested no
 -- further than it is read.
@@ -130,8 +121,7 @@ IsNext stage stand = NextBy stage stand.start stand.passed stand.end stand.told
 abbrev pub latest_by : Stage → ℕ → ℕ → ℕ
 latest_by First start told = 132
 latest_by (Records next) start told = start + reach_at next
-latest_by (Footer size) start told = told
-latest_by (Done size) start told = told
+latest_by _ start told = told
 
 -- The result depends on a byte before this end, after those that came, and in the next record or footer, where that is read. If no
 -- text is read, a read that it depends on ends at this end. At least the first 18 bytes are requested, so there a read ends among

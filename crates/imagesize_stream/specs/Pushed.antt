@@ -8,7 +8,7 @@ use Rattle.imagesize_stream.specs.Heard.{RestsOnMore}
 use Rattle.imagesize_stream.specs.Probe.{CameTo, IfAwaiting, IsAhead, TypedBy}
 use Rattle.imagesize_stream.specs.declared.probe.StreamProbe.{StreamProbe}
 use Rattle.imagesize_stream.specs.declared.stage.Stage.{Stage}
-use Rattle.imagesize_stream.specs.declared.stage.Stage.TheVariants.{Done, First, Footer, Records}
+use Rattle.imagesize_stream.specs.declared.stage.Stage.TheVariants.{Done}
 use Rattle.imagesize_types.specs.declared.size.ImageSize.{ImageSize}
 
 -- these bytes arrived
@@ -20,10 +20,8 @@ abbrev pub told_of : StreamProbe → ℕ
 told_of probe = probe.stand.told
 
 abbrev pub stage_answer : Option ImageType → Stage → Option (Option ImageType × Result ImageSize ImageError)
-stage_answer kind First = None
-stage_answer kind (Records next) = None
-stage_answer kind (Footer size) = None
 stage_answer kind (Done size) = Some (kind, stated size)
+stage_answer kind _ = None
 
 -- the type and the size, once they are known
 abbrev pub answer_of : StreamProbe → Option (Option ImageType × Result ImageSize ImageError)

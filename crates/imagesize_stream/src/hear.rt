@@ -6,13 +6,14 @@ ghost use Rattle.imagesize_pieces.specs.Stream.{Says};
 ghost use Rattle.imagesize_source.specs.Layout.{layout_reads};
 ghost use Rattle.imagesize_records.specs.declared.front.First.TheVariants as first;
 ghost use Rattle.imagesize_records.specs.Streamed.{first_layout};
-ghost use Rattle.imagesize_stream.specs.Heard.{EndsIn, Hears};
+ghost use Rattle.imagesize_stream.specs.Heard.{Hears};
+ghost use Rattle.imagesize_stream.specs.declared.stage.Stage.TheVariants as stage;
 
+use crate::stage::Stage;
 use imagesize::ImageType;
 use imagesize_fixed::formats::tga::lacks_its_map;
 use imagesize_pieces::front::read_front;
 use imagesize_pieces::walk::is_faulted;
-use imagesize_records::awaited::Awaited;
 use imagesize_records::front::{First, FirstBytes, FirstSize, Opening, TgaHeader, TgaSize};
 use imagesize_source::Halt;
 use imagesize_types::size::ImageSize;
@@ -20,31 +21,9 @@ use imagesize_types::size::ImageSize;
 // How many first bytes the type is read from.
 const HEAD: usize = 12;
 
-/// What the first bytes say.
-#[derive(Drop)]
-pub(crate) enum Heard {
-    /// The type needs more bytes or, if there is a type, its size does.
-    Missing {
-        image: Option<ImageType>,
-        /// The offset after the last byte that the read that missed a byte requests.
-        end: u64,
-    },
-    /// The type, if one was found, and the size or the error.
-    Answer {
-        image: Option<ImageType>,
-        size: Result<ImageSize, Halt>,
-    },
-    /// The type, and the first record on the way to its size.
-    Records {
-        image: ImageType,
-        next: Awaited,
-        offset: u64,
-    },
-    /// The last bytes of the input decide whether it is a TGA of this size.
-    Footer {
-        size: ImageSize,
-    },
-}
+/// What the first bytes say: the type, if one was found, the stage after them, and an offset. At the stage `First` the failed read
+/// requests the bytes before that offset, at `Records` the first record begins there.
+pub(crate) type Heard = (Option<ImageType>, Stage, u64);
 
 /// What the first bytes of an input of at most `told` bytes say.
 ///
@@ -53,14 +32,11 @@ pub(crate) enum Heard {
 pub(crate) fn hear(bytes: &[u8], told: u64) -> Heard
     requires fits { length bytes.now ≤ told }
     requires short { told < 2 ^ 63 }
-    ensures hears { Hears bytes.now told result }
-    ensures head { length bytes.now < 12 → EndsIn 12 result }
+    ensures hears { Hears bytes.now told result.0 result.1 result.2 }
+    ensures head { length bytes.now < 12 → result.1 ≡ stage.First → result.2 ≤ 12 }
 {
     if bytes.len() < HEAD && told >= HEAD as u64 {
-        return Heard::Missing {
-            image: None,
-            end: HEAD as u64,
-        };
+        return (None, Stage::First, HEAD as u64);
     }
     hear_type(bytes, told)
 }
@@ -71,25 +47,17 @@ fn hear_type(bytes: &[u8], told: u64) -> Heard
     requires enough { length bytes.now < 12 → told < 12 }
     requires fits { length bytes.now ≤ told }
     requires short { told < 2 ^ 63 }
-    ensures hears { Hears bytes.now told result }
-    ensures head { length bytes.now < 12 → EndsIn 12 result }
+    ensures hears { Hears bytes.now told result.0 result.1 result.2 }
+    ensures head { length bytes.now < 12 → result.1 ≡ stage.First → result.2 ≤ 12 }
 {
     let (found, end) = read_front(&FirstBytes, bytes, told);
     if is_faulted(&found) {
-        return Heard::Missing { image: None, end };
+        return (None, Stage::First, end);
     }
-    let first = match found {
-        Ok(first) => first,
-        Err(halt) => {
-            return Heard::Answer {
-                image: None,
-                size: Err(halt),
-            };
-        }
-    };
-    match first {
-        First::MaybeTga { head } => hear_tga(&head, bytes, told),
-        First::Type(image) => hear_size(image, bytes, told),
+    match found {
+        Ok(First::MaybeTga { head }) => hear_tga(&head, bytes, told),
+        Ok(First::Type(image)) => hear_size(image, bytes, told),
+        Err(halt) => (None, Stage::Done { size: Err(halt) }, 0),
     }
 }
 
@@ -98,34 +66,16 @@ fn hear_size(image: ImageType, bytes: &[u8], told: u64) -> Heard
     requires image { Says bytes.now told (λ d. kind_reads d 0) (Ok image) }
     requires fits { length bytes.now ≤ told }
     requires short { told < 2 ^ 63 }
-    ensures { Hears bytes.now told result }
+    ensures { Hears bytes.now told result.0 result.1 result.2 }
 {
     let (found, end) = read_front(&FirstSize { image }, bytes, told);
     if is_faulted(&found) {
-        return Heard::Missing {
-            image: Some(image),
-            end,
-        };
+        return (Some(image), Stage::First, end);
     }
-    let opening = match found {
-        Ok(opening) => opening,
-        Err(halt) => {
-            return Heard::Answer {
-                image: Some(image),
-                size: Err(halt),
-            };
-        }
-    };
-    match opening {
-        Opening::Size(size) => Heard::Answer {
-            image: Some(image),
-            size: Ok(size),
-        },
-        Opening::Records { next, offset } => Heard::Records {
-            image,
-            next,
-            offset,
-        },
+    match found {
+        Ok(Opening::Size(size)) => (Some(image), Stage::Done { size: Ok(size) }, 0),
+        Ok(Opening::Records { next, offset }) => (Some(image), Stage::Records { next }, offset),
+        Err(halt) => (Some(image), Stage::Done { size: Err(halt) }, 0),
     }
 }
 
@@ -134,35 +84,27 @@ fn hear_tga(head: &[u8; 12], bytes: &[u8], told: u64) -> Heard
     requires first { Says bytes.now told (λ d. layout_reads d first_layout) (Ok (first.MaybeTga head.now)) }
     requires fits { length bytes.now ≤ told }
     requires short { told < 2 ^ 63 }
-    ensures { Hears bytes.now told result }
+    ensures { Hears bytes.now told result.0 result.1 result.2 }
 {
     if told < 18 {
-        return Heard::Answer {
-            image: None,
-            size: Err(Halt::NotSupported),
-        };
+        let size = Err(Halt::NotSupported);
+        return (None, Stage::Done { size }, 0);
     }
     if bytes.len() < 18 {
-        return Heard::Missing {
-            image: None,
-            end: 18,
-        };
+        return (None, Stage::First, 18);
     }
     let (sound, end) = read_front(&TgaHeader { head: *head }, bytes, told);
     let Ok(sound) = sound else {
-        return Heard::Missing { image: None, end };
+        return (None, Stage::First, end);
     };
     let (size, end) = read_front(&TgaSize, bytes, told);
     let Ok(size) = size else {
-        return Heard::Missing { image: None, end };
+        return (None, Stage::First, end);
     };
     if is_by_header(sound, head) {
-        return Heard::Answer {
-            image: Some(ImageType::Tga),
-            size: Ok(size),
-        };
+        return (Some(ImageType::Tga), Stage::Done { size: Ok(size) }, 0);
     }
-    Heard::Footer { size }
+    (None, Stage::Footer { size }, 0)
 }
 
 // Whether it is a TGA whatever its last bytes are.

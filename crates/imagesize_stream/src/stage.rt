@@ -9,7 +9,7 @@ ghost use Rattle.imagesize_stream.specs.Skips.{PassesOver};
 ghost use Rattle.imagesize_records.specs.Steps.{is_text};
 ghost use Rattle.imagesize_stream.specs.declared.stage.Stage.TheVariants as stage;
 
-use crate::hear::{Heard, hear};
+use crate::hear::hear;
 use imagesize::ImageType;
 use imagesize_fixed::formats::tga::is_footer;
 use imagesize_pieces::buffer::{append, front_of, keep_behind};
@@ -221,29 +221,21 @@ fn begun(
     ensures typed { TypedBy into.new kind.new (take stand.old.passed buffer.old ++ chunk.now) stand.old.told }
 {
     let passed = stand.passed as usize;
-    match hear(&buffer[..passed], stand.told) {
-        Heard::Missing { image, end } => {
-            *kind = image;
-            stand.end = end.min(FIRST).max(HEADER).min(stand.told);
-            *into = Stage::First;
+    let (image, stage, offset) = hear(&buffer[..passed], stand.told);
+    *kind = image;
+    *into = match stage {
+        Stage::First => {
+            stand.end = offset.min(FIRST).max(HEADER).min(stand.told);
+            Stage::First
         }
-        Heard::Answer { image, size } => {
-            *kind = image;
-            *into = Stage::Done { size };
-        }
-        Heard::Records {
-            image,
-            next,
-            offset,
-        } => {
-            *kind = Some(image);
+        Stage::Records { next } => {
             stand.offset = offset;
-            *into = walk_from(next, stand, buffer, chunk);
+            walk_from(next, stand, buffer, chunk)
         }
-        Heard::Footer { size } => {
-            *kind = None;
+        Stage::Footer { size } => {
             keep_behind(buffer, passed, &[], stand.passed - 18);
-            *into = wait(size, kind, stand, buffer, chunk);
+            wait(size, kind, stand, buffer, chunk)
         }
-    }
+        done => done,
+    };
 }

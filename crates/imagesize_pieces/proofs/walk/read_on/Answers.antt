@@ -13,8 +13,7 @@ use Rattle.imagesize_source.proofs.Agreement.{with_texts}
 use Rattle.imagesize_source.proofs.Marks.{behind-behind}
 use Rattle.imagesize_source.proofs.Sharing.{run_shared, shares-left}
 use Rattle.imagesize_source.proofs.States.{goes, run_unfolds}
-use Rattle.imagesize_pieces.specs.Standing.{Stands}
-use Rattle.imagesize_pieces.specs.Stream.{Begins, Needs, Reach, Says, stream_state}
+use Rattle.imagesize_pieces.specs.Stream.{Begins, Needs, Reach, Says, Stands, stream_state}
 use Rattle.imagesize_pieces.specs.declared.stand.Stand.{Stand}
 use Rattle.imagesize_pieces.proofs.Asking.{Left, ends_left, few_left, needs_left, seen_there, shares_left}
 use Rattle.imagesize_pieces.proofs.Beginning.{ArrivedSource, Holds, Run, begins_left, run_held}

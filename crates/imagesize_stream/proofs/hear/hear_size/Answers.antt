@@ -29,21 +29,23 @@ returns-in-Err c =
       rw c.in-Err.is at (found.unstopped sure),
     )
 
-pub returns-in-Size : goal.returns-in-Size
-returns-in-Size c =
+pub returns-in-Ok-Size : goal.returns-in-Ok-Size
+returns-in-Ok-Size c =
     let says = c.read_front-found.ensures.says (sym c.is_faulted.ensures ∙ c.if-is_faulted.false) in (
       type_is c.args.bytes.now c.args.told _ c.requires.image,
-      size_said c.args.bytes.now c.args.told c.args.image c.requires.image (Ok (opened.Size c.in-Size.size))
-          (rw (c.in-Ok.is, c.in-Size.is) at says),
+      size_said c.args.bytes.now c.args.told c.args.image c.requires.image (Ok (opened.Size c.in-Ok-Size.size))
+          (rw (c.in-Ok-Size.is, rw c.in-Ok-Size.is at c.in-Ok-Size.field-0-is) at says),
       refl,
     )
 
-pub returns-in-Records : goal.returns-in-Records
-returns-in-Records c =
+pub returns-in-Ok-Records : goal.returns-in-Ok-Records
+returns-in-Ok-Records c =
     let says = c.read_front-found.ensures.says (sym c.is_faulted.ensures ∙ c.if-is_faulted.false) in
-    let is = rw (c.in-Ok.is, c.in-Records.is) at says in
-    let steady = steady_said c.args.bytes.now c.args.told c.args.image c.requires.image c.requires.fits c.in-Records.next
-    c.in-Records.offset is in (
+    let is = rw (c.in-Ok-Records.is, rw c.in-Ok-Records.is at c.in-Ok-Records.field-0-is) at says in
+    let steady = steady_said c.args.bytes.now c.args.told c.args.image c.requires.image c.requires.fits c.in-Ok-Records.next
+    c.in-Ok-Records.offset is in (
+      c.args.image,
+      refl,
       steady.0,
       c.requires.image,
       is,

@@ -44,6 +44,7 @@ returns-then-is_by_header c =
 
 pub returns : goal.returns
 returns c = (
+  refl,
   c.if-bytes-lt18.false,
   footer_decides c.args.bytes.now c.args.told c.args.head.now c.requires.first c.requires.fits c.in-Ok.sound
       c.in-Ok-size.size

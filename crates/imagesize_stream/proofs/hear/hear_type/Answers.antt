@@ -21,7 +21,7 @@ returns-then-is_faulted-clause-hears c =
 pub hear_size-requires-clause-image : goal.hear_size-requires-clause-image
 hear_size-requires-clause-image c =
     let says = c.read_front-found.ensures.says (sym c.is_faulted.ensures ∙ c.if-is_faulted.false) in
-    type_said c.args.bytes.now c.args.told c.in-Type.image (rw (c.in-Ok.is, c.in-Type.is) at says)
+    type_said c.args.bytes.now c.args.told c.in-Ok-Type.image (rw (c.in-Ok-Type.is, rw c.in-Ok-Type.is at c.in-Ok-Type.field-0-is) at says)
 
 pub returns-in-Err-clause-hears : goal.returns-in-Err-clause-hears
 returns-in-Err-clause-hears c =
@@ -29,14 +29,14 @@ returns-in-Err-clause-hears c =
     let refused = type_refused c.args.bytes.now c.args.told c.in-Err.halt (rw c.in-Err.is at (found.says sure)) in
     (refused.0, refused.1, rw c.in-Err.is at (found.unstopped sure))
 
-pub returns-in-MaybeTga-clause-head : goal.returns-in-MaybeTga-clause-head
-returns-in-MaybeTga-clause-head c = λ few.
+pub returns-in-Ok-MaybeTga-clause-head : goal.returns-in-Ok-MaybeTga-clause-head
+returns-in-Ok-MaybeTga-clause-head c = λ few.
     let says = c.read_front-found.ensures.says (sym c.is_faulted.ensures ∙ c.if-is_faulted.false) in
-    let enough = first_typed c.args.bytes.now c.args.told c.requires.fits c.in-Ok.first (rw c.in-Ok.is at says) in
+    let enough = first_typed c.args.bytes.now c.args.told c.requires.fits _ (rw (c.in-Ok-MaybeTga.is, rw c.in-Ok-MaybeTga.is at c.in-Ok-MaybeTga.field-0-is) at says) in
     absurd (omega (arith, few, enough))
 
-pub returns-in-Type-clause-head : goal.returns-in-Type-clause-head
-returns-in-Type-clause-head c = λ few.
+pub returns-in-Ok-Type-clause-head : goal.returns-in-Ok-Type-clause-head
+returns-in-Ok-Type-clause-head c = λ few.
     let says = c.read_front-found.ensures.says (sym c.is_faulted.ensures ∙ c.if-is_faulted.false) in
-    let enough = first_typed c.args.bytes.now c.args.told c.requires.fits c.in-Ok.first (rw c.in-Ok.is at says) in
+    let enough = first_typed c.args.bytes.now c.args.told c.requires.fits _ (rw (c.in-Ok-Type.is, rw c.in-Ok-Type.is at c.in-Ok-Type.field-0-is) at says) in
     absurd (omega (arith, few, enough))

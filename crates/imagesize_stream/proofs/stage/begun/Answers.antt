@@ -1,4 +1,4 @@
-use Rattle.std.proofs.Common.{◌≡◌, inl, inr, Some, None, length, take, refl, sym, ◌∙◌, subst, arith, rules}
+use Rattle.std.proofs.Common.{◌≡◌, inl, inr, Some, ◌<◌, ◌≤◌, length, take, refl, sym, ◌∙◌, subst, arith, rules}
 use Rattle.std.proofs.lemmas.List.{length-take}
 use Rattle.imagesize.specs.Meaning.{meaning_reads}
 use Rattle.imagesize.specs.Parted.{texts_of}
@@ -15,23 +15,23 @@ use Rattle.imagesize_stream.proofs.stage.begun.Goals as goal
 pub returns-in-Records : goal.returns-in-Records
 returns-in-Records c =
     let stand = c.args.stand.now in let buffer = c.args.buffer.now in
-    let hears = c.in-Records.ensures.hears in let on = c.walk_from.ensures.continues (Some c.in-Records.image) in
-    let came = opened_came buffer stand.passed stand.start stand.told c.in-Records.offset c.in-Records.next c.in-Records.image
-    c.requires.first (omega (arith, c.requires.few)) hears.1 hears.2 hears.4 in record {
+    let hears = rw c.in-Records.is at c.hear-image.ensures.hears in let on = c.walk_from.ensures.continues (Some hears.0) in
+    let came = opened_came buffer stand.passed stand.start stand.told c.hear-image.result.2 c.in-Records.next hears.0
+    c.requires.first (omega (arith, c.requires.few)) hears.3 hears.4 hears.6 in record {
       counts = search rules;
-      goes_on = on.goes_on _ came;
+      goes_on = rw hears.1 (on.goes_on _ came);
       complete = awaiting_map c.walk_from.result (λ rests. rests _ came) on.complete;
       marked = on.marked _ came;
-      typed = on.typed _ came;
+      typed = rw hears.1 (on.typed _ came);
     }
 
 pub returns-in-Footer : goal.returns-in-Footer
 returns-in-Footer c =
     let stand = c.args.stand.now in let buffer = c.args.buffer.now in
-    let hears = c.in-Footer.ensures.hears in let on = c.wait.ensures.continues in
-    let last = last_kept buffer c.keep_behind.new.buffer stand.passed (omega (arith, c.requires.few)) hears.0 c.keep_behind.ensures in
-    let came : CameTo (Footer c.in-Footer.size) None stand c.keep_behind.new.buffer (take stand.passed buffer) =
-    (last.0, last.1, tt, hears.1) in record {
+    let hears = rw c.in-Footer.is at c.hear-image.ensures.hears in let on = c.wait.ensures.continues in
+    let last = last_kept buffer c.keep_behind.new.buffer stand.passed (omega (arith, c.requires.few)) hears.1 c.keep_behind.ensures in
+    let came : CameTo (Footer c.in-Footer.size) c.hear-image.result.0 stand c.keep_behind.new.buffer (take stand.passed buffer) =
+    rw hears.0 (last.0, last.1, tt, hears.2) in record {
       counts = c.wait.ensures.counts;
       goes_on = on.goes_on _ came;
       complete = awaiting_map c.wait.result (λ rests. rests _ came) on.complete;
@@ -39,35 +39,38 @@ returns-in-Footer c =
       typed = on.typed _ came;
     }
 
-pub returns-in-Missing-clause-marked : goal.returns-in-Missing-clause-marked
-returns-in-Missing-clause-marked c = λ d begins as_long.
+pub returns-in-First-clause-marked : goal.returns-in-First-clause-marked
+returns-in-First-clause-marked c = λ d begins as_long.
     let front = take c.args.stand.now.passed c.args.buffer.now in
+    let missing = rw c.in-First.is at c.hear-image.ensures.hears in
     let many : length front ≡ c.args.stand.now.passed =
     length-take c.args.stand.now.passed c.args.buffer.now ∙ omega (arith, c.requires.few) in
     let starts = begins_left front c.args.chunk.now c.args.stand.now.told d begins in (
       λ out. needs_among (texts_of d) (length front) _ _ _ (meaning_reads d 0).marks (omega (arith, many))
-          (omega (arith, c.in-Missing.ensures.hears.ends.1))
-          (c.in-Missing.ensures.hears.between (inl (subst OutOfHeader (sym many) out)) d starts as_long),
+          (omega (arith, missing.ends.1))
+          (missing.between (inl (subst OutOfHeader (sym many) out)) d starts as_long),
       λ late no_text. subst (λ e. EndsAt e (meaning_reads d 0).marks)
-          (omega (arith, late, c.in-Missing.ensures.hears.ends.1))
-          ((c.in-Missing.ensures.hears.between (inr (omega (arith, late))) d starts as_long).1 no_text),
+          (omega (arith, late, missing.ends.1))
+          ((missing.between (inr (omega (arith, late))) d starts as_long).1 no_text),
     )
 
-pub returns-in-Missing-clause-counts : goal.returns-in-Missing-clause-counts
-returns-in-Missing-clause-counts c =
+pub returns-in-First-clause-counts : goal.returns-in-First-clause-counts
+returns-in-First-clause-counts c =
     let many = length-take c.args.stand.now.passed c.args.buffer.now in
-    let missing = c.in-Missing.ensures.hears in let few = missing.few in
+    let missing = rw c.in-First.is at c.hear-image.ensures.hears in let few = missing.few in
+    let early : length (take c.args.stand.now.passed c.args.buffer.now) < 12 → c.hear-image.result.2 ≤ 12 =
+    λ short. c.hear-image.ensures.head short c.in-First.is in
     let none = c.requires.all (omega (arith, many, few, c.requires.few)) in record {
       told = refl;
       holds = omega (arith, many, few, c.requires.few, c.requires.first);
-      ahead = omega (arith, many, missing.ends, few, c.in-Missing.ensures.head, c.requires.few, c.requires.first);
+      ahead = omega (arith, many, missing.ends, few, early, c.requires.few, c.requires.first);
       passed = omega (arith, none);
       whole = λ all. omega (arith, many, all, none, missing.ends, c.requires.few);
     }
 
-pub returns-in-Missing-clause-typed : goal.returns-in-Missing-clause-typed
-returns-in-Missing-clause-typed c =
+pub returns-in-First-clause-typed : goal.returns-in-First-clause-typed
+returns-in-First-clause-typed c =
     let many = length-take c.args.stand.now.passed c.args.buffer.now in
-    let few = c.in-Missing.ensures.hears.few in
-    missing_on c.in-Missing.image (take c.args.stand.now.passed c.args.buffer.now) c.args.chunk.now c.args.stand.now.told
-    (c.requires.all (omega (arith, many, few, c.requires.few))) c.in-Missing.ensures.hears.typed
+    let missing = rw c.in-First.is at c.hear-image.ensures.hears in
+    missing_on c.hear-image.result.0 (take c.args.stand.now.passed c.args.buffer.now) c.args.chunk.now c.args.stand.now.told
+    (c.requires.all (omega (arith, many, missing.few, c.requires.few))) missing.typed
