@@ -98,21 +98,6 @@ pub(crate) fn walk(
     }
 }
 
-// Begins the walk at this record, and returns the stage after the chunk.
-fn walk_from(next: Awaited, stand: &mut Stand, buffer: &mut [u8; ROOM], chunk: &[u8]) -> Stage
-    requires holds { HoldsAt (stage.Records next) stand.old }
-    requires fits { stand.old.passed + length chunk.now ≤ stand.old.told }
-    ensures counts { Counts result stand.old stand.new chunk.now }
-    ensures continues { (kind : Option ImageType) → Continues (stage.Records next) result kind kind stand.old stand.new
-        buffer.old buffer.new chunk.now }
-{
-    let mut next = next;
-    match walk(&mut next, stand, buffer, chunk) {
-        Some(size) => Stage::Done { size },
-        None => Stage::Records { next },
-    }
-}
-
 // Continues the walk along records that are texts with the next chunk.
 fn walk_texts(
     next: &mut Awaited,
@@ -228,9 +213,12 @@ fn begun(
             stand.end = offset.min(FIRST).max(HEADER).min(stand.told);
             Stage::First
         }
-        Stage::Records { next } => {
+        Stage::Records { mut next } => {
             stand.offset = offset;
-            walk_from(next, stand, buffer, chunk)
+            match walk(&mut next, stand, buffer, chunk) {
+                Some(size) => Stage::Done { size },
+                None => Stage::Records { next },
+            }
         }
         Stage::Footer { size } => {
             keep_behind(buffer, passed, &[], stand.passed - 18);

@@ -1,4 +1,4 @@
-use Rattle.std.proofs.Common.{◌≡◌, inl, inr, Some, ◌<◌, ◌≤◌, length, take, refl, sym, ◌∙◌, subst, arith, rules}
+use Rattle.std.proofs.Common.{◌≡◌, inl, inr, Some, ◌<◌, ◌≤◌, length, take, refl, sym, ◌∙◌, subst, arith}
 use Rattle.std.proofs.lemmas.List.{length-take}
 use Rattle.imagesize.specs.Meaning.{meaning_reads}
 use Rattle.imagesize.specs.Parted.{texts_of}
@@ -7,23 +7,44 @@ use Rattle.imagesize_pieces.specs.Stream.{EndsAt}
 use Rattle.imagesize_pieces.proofs.Needing.{needs_among}
 use Rattle.imagesize_stream.proofs.Footers.{last_kept}
 use Rattle.imagesize_stream.proofs.Coming.{awaiting_map, missing_on, opened_came}
-use Rattle.imagesize_stream.specs.Heard.{OutOfHeader}
-use Rattle.imagesize_stream.specs.Probe.{CameTo}
-use Rattle.imagesize_stream.specs.declared.stage.Stage.TheVariants.{Footer}
+use Rattle.imagesize_stream.specs.Heard.{Hears, OutOfHeader}
+use Rattle.imagesize_stream.specs.Probe.{CameBy, CameTo}
+use Rattle.imagesize_stream.specs.declared.stage.Stage.TheVariants.{Footer, Records}
+use Rattle.imagesize_stream.proofs.stage.begun.Goals.{In-Records}
 use Rattle.imagesize_stream.proofs.stage.begun.Goals as goal
 
-pub returns-in-Records : goal.returns-in-Records
-returns-in-Records c =
-    let stand = c.args.stand.now in let buffer = c.args.buffer.now in
-    let hears = rw c.in-Records.is at c.hear-image.ensures.hears in let on = c.walk_from.ensures.continues (Some hears.0) in
-    let came = opened_came buffer stand.passed stand.start stand.told c.hear-image.result.2 c.in-Records.next hears.0
-    c.requires.first (omega (arith, c.requires.few)) hears.3 hears.4 hears.6 in record {
-      counts = search rules;
-      goes_on = rw hears.1 (on.goes_on _ came);
-      complete = awaiting_map c.walk_from.result (λ rests. rests _ came) on.complete;
-      marked = on.marked _ came;
-      typed = rw hears.1 (on.typed _ came);
-    }
+-- the walk begins where the first bytes say
+module _ (c : In-Records) where
+  abbrev hears : Hears (take c.args.stand.now.passed c.args.buffer.now) c.args.stand.now.told c.hear-image.result.0
+      (Records c.in-Records.next) c.hear-image.result.2
+  hears = rw c.in-Records.is at c.hear-image.ensures.hears
+
+  came : CameBy (Records c.in-Records.next) (Some hears.0) c.args.stand.now.start c.hear-image.result.2 c.args.stand.now.passed
+      c.args.stand.now.told c.args.buffer.now (take c.args.stand.now.passed c.args.buffer.now)
+  came = opened_came c.args.buffer.now c.args.stand.now.passed c.args.stand.now.start c.args.stand.now.told c.hear-image.result.2
+      c.in-Records.next hears.0 c.requires.first (omega (arith, c.requires.few)) hears.3 hears.4 hears.6
+
+pub returns-in-Some-clause-goes_on : goal.returns-in-Some-clause-goes_on
+returns-in-Some-clause-goes_on c =
+    let h = (goal.at.returns-in-Some-clause-goes_on c).In-Records in
+    let on = rw c.in-Some.is at (c.walk.ensures.continues (Some (hears h).0)) in
+    rw (hears h).1 (on.goes_on _ (came h))
+
+pub returns-in-None-clause-goes_on : goal.returns-in-None-clause-goes_on
+returns-in-None-clause-goes_on c =
+    let h = (goal.at.returns-in-None-clause-goes_on c).In-Records in
+    let on = rw c.in-None.is at (c.walk.ensures.continues (Some (hears h).0)) in
+    rw (hears h).1 (on.goes_on _ (came h))
+
+pub returns-in-None-clause-complete : goal.returns-in-None-clause-complete
+returns-in-None-clause-complete c =
+    let h = (goal.at.returns-in-None-clause-complete c).In-Records in
+    (rw c.in-None.is at (c.walk.ensures.continues (Some (hears h).0))).complete _ (came h)
+
+pub returns-in-None-clause-marked : goal.returns-in-None-clause-marked
+returns-in-None-clause-marked c =
+    let h = (goal.at.returns-in-None-clause-marked c).In-Records in
+    (rw c.in-None.is at (c.walk.ensures.continues (Some (hears h).0))).marked _ (came h)
 
 pub returns-in-Footer : goal.returns-in-Footer
 returns-in-Footer c =
