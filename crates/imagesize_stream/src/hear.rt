@@ -21,90 +21,109 @@ use imagesize_types::size::ImageSize;
 // How many first bytes the type is read from.
 const HEAD: usize = 12;
 
-/// What the first bytes say: the type, if one was found, the stage after them, and an offset. At the stage `First` the failed read
-/// requests the bytes before that offset, at `Records` the first record begins there.
-pub(crate) type Heard = (Option<ImageType>, Stage, u64);
+/// The type, if the first bytes say one, and an offset. At the stage `First` the failed read requests the bytes before that offset, at
+/// `Records` the first record begins there.
+pub(crate) type Heard = (Option<ImageType>, u64);
 
-/// What the first bytes of an input of at most `told` bytes say.
+/// What the first bytes of an input of at most `told` bytes say. The stage after them is stored in `into`.
 ///
 /// Inlined: with too few bytes for the type, it makes no call. A probe over parts begins with no byte.
 #[inline(always)]
-pub(crate) fn hear(bytes: &[u8], told: u64) -> Heard
+pub(crate) fn hear(into: &mut Stage, bytes: &[u8], told: u64) -> Heard
+    requires first { into.old ≡ stage.First }
     requires fits { length bytes.now ≤ told }
     requires short { told < 2 ^ 63 }
-    ensures hears { Hears bytes.now told result.0 result.1 result.2 }
-    ensures head { length bytes.now < 12 → result.1 ≡ stage.First → result.2 ≤ 12 }
+    ensures hears { Hears bytes.now told result.0 into.new result.1 }
+    ensures head { length bytes.now < 12 → into.new ≡ stage.First → result.1 ≤ 12 }
 {
     if bytes.len() < HEAD && told >= HEAD as u64 {
-        return (None, Stage::First, HEAD as u64);
+        return (None, HEAD as u64);
     }
-    hear_type(bytes, told)
+    hear_type(into, bytes, told)
 }
 
 // What the first bytes say, if there are 12 of them or the input is shorter.
 #[inline(never)]
-fn hear_type(bytes: &[u8], told: u64) -> Heard
+fn hear_type(into: &mut Stage, bytes: &[u8], told: u64) -> Heard
+    requires first { into.old ≡ stage.First }
     requires enough { length bytes.now < 12 → told < 12 }
     requires fits { length bytes.now ≤ told }
     requires short { told < 2 ^ 63 }
-    ensures hears { Hears bytes.now told result.0 result.1 result.2 }
-    ensures head { length bytes.now < 12 → result.1 ≡ stage.First → result.2 ≤ 12 }
+    ensures hears { Hears bytes.now told result.0 into.new result.1 }
+    ensures head { length bytes.now < 12 → into.new ≡ stage.First → result.1 ≤ 12 }
 {
     let (found, end) = read_front(&FirstBytes, bytes, told);
     if is_faulted(&found) {
-        return (None, Stage::First, end);
+        return (None, end);
     }
     match found {
-        Ok(First::MaybeTga { head }) => hear_tga(&head, bytes, told),
-        Ok(First::Type(image)) => hear_size(image, bytes, told),
-        Err(halt) => (None, Stage::Done { size: Err(halt) }, 0),
+        Ok(First::MaybeTga { head }) => hear_tga(into, &head, bytes, told),
+        Ok(First::Type(image)) => hear_size(into, image, bytes, told),
+        Err(halt) => {
+            *into = Stage::Done { size: Err(halt) };
+            (None, 0)
+        }
     }
 }
 
 // What the first bytes say about the size, after they decided the type.
-fn hear_size(image: ImageType, bytes: &[u8], told: u64) -> Heard
+fn hear_size(into: &mut Stage, image: ImageType, bytes: &[u8], told: u64) -> Heard
+    requires first { into.old ≡ stage.First }
     requires image { Says bytes.now told (λ d. kind_reads d 0) (Ok image) }
     requires fits { length bytes.now ≤ told }
     requires short { told < 2 ^ 63 }
-    ensures { Hears bytes.now told result.0 result.1 result.2 }
+    ensures { Hears bytes.now told result.0 into.new result.1 }
 {
     let (found, end) = read_front(&FirstSize { image }, bytes, told);
     if is_faulted(&found) {
-        return (Some(image), Stage::First, end);
+        return (Some(image), end);
     }
     match found {
-        Ok(Opening::Size(size)) => (Some(image), Stage::Done { size: Ok(size) }, 0),
-        Ok(Opening::Records { next, offset }) => (Some(image), Stage::Records { next }, offset),
-        Err(halt) => (Some(image), Stage::Done { size: Err(halt) }, 0),
+        Ok(Opening::Size(size)) => {
+            *into = Stage::Done { size: Ok(size) };
+            (Some(image), 0)
+        }
+        Ok(Opening::Records { next, offset }) => {
+            *into = Stage::Records { next };
+            (Some(image), offset)
+        }
+        Err(halt) => {
+            *into = Stage::Done { size: Err(halt) };
+            (Some(image), 0)
+        }
     }
 }
 
 // What the first bytes say about what may be a TGA. If the header does not decide, the footer does.
-fn hear_tga(head: &[u8; 12], bytes: &[u8], told: u64) -> Heard
+fn hear_tga(into: &mut Stage, head: &[u8; 12], bytes: &[u8], told: u64) -> Heard
+    requires stage { into.old ≡ stage.First }
     requires first { Says bytes.now told (λ d. layout_reads d first_layout) (Ok (first.MaybeTga head.now)) }
     requires fits { length bytes.now ≤ told }
     requires short { told < 2 ^ 63 }
-    ensures { Hears bytes.now told result.0 result.1 result.2 }
+    ensures { Hears bytes.now told result.0 into.new result.1 }
 {
     if told < 18 {
         let size = Err(Halt::NotSupported);
-        return (None, Stage::Done { size }, 0);
+        *into = Stage::Done { size };
+        return (None, 0);
     }
     if bytes.len() < 18 {
-        return (None, Stage::First, 18);
+        return (None, 18);
     }
     let (sound, end) = read_front(&TgaHeader { head: *head }, bytes, told);
     let Ok(sound) = sound else {
-        return (None, Stage::First, end);
+        return (None, end);
     };
     let (size, end) = read_front(&TgaSize, bytes, told);
     let Ok(size) = size else {
-        return (None, Stage::First, end);
+        return (None, end);
     };
     if is_by_header(sound, head) {
-        return (Some(ImageType::Tga), Stage::Done { size: Ok(size) }, 0);
+        *into = Stage::Done { size: Ok(size) };
+        return (Some(ImageType::Tga), 0);
     }
-    (None, Stage::Footer { size }, 0)
+    *into = Stage::Footer { size };
+    (None, 0)
 }
 
 // Whether it is a TGA whatever its last bytes are.

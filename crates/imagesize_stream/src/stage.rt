@@ -173,7 +173,8 @@ pub(crate) fn begin(
     buffer: &mut [u8; ROOM],
     chunk: &[u8],
 )
-    requires first { stand.old.start ≡ 0 }
+    requires first { into.old ≡ stage.First }
+    requires start { stand.old.start ≡ 0 }
     requires few { stand.old.passed < 132 }
     requires fits { stand.old.passed + length chunk.now ≤ stand.old.told }
     ensures counts { Counts into.new stand.old stand.new chunk.now }
@@ -195,7 +196,8 @@ fn begun(
     buffer: &mut [u8; ROOM],
     chunk: &[u8],
 )
-    requires first { stand.old.start ≡ 0 }
+    requires first { into.old ≡ stage.First }
+    requires start { stand.old.start ≡ 0 }
     requires few { stand.old.passed ≤ 132 }
     requires all { stand.old.passed < 132 → length chunk.now ≡ 0 }
     requires fits { stand.old.passed + length chunk.now ≤ stand.old.told }
@@ -206,24 +208,21 @@ fn begun(
     ensures typed { TypedBy into.new kind.new (take stand.old.passed buffer.old ++ chunk.now) stand.old.told }
 {
     let passed = stand.passed as usize;
-    let (image, stage, offset) = hear(&buffer[..passed], stand.told);
+    let (image, offset) = hear(into, &buffer[..passed], stand.told);
     *kind = image;
-    *into = match stage {
-        Stage::First => {
-            stand.end = offset.min(FIRST).max(HEADER).min(stand.told);
-            Stage::First
-        }
-        Stage::Records { mut next } => {
+    match into {
+        Stage::First => stand.end = offset.min(FIRST).max(HEADER).min(stand.told),
+        Stage::Records { next } => {
             stand.offset = offset;
-            match walk(&mut next, stand, buffer, chunk) {
-                Some(size) => Stage::Done { size },
-                None => Stage::Records { next },
+            if let Some(size) = walk(next, stand, buffer, chunk) {
+                *into = Stage::Done { size };
             }
         }
         Stage::Footer { size } => {
+            let size = *size;
             keep_behind(buffer, passed, &[], stand.passed - 18);
-            wait(size, kind, stand, buffer, chunk)
+            *into = wait(size, kind, stand, buffer, chunk);
         }
-        done => done,
-    };
+        Stage::Done { .. } => {}
+    }
 }

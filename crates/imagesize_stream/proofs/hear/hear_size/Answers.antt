@@ -11,14 +11,14 @@ returns-then-is_faulted c =
     let faults = sym c.is_faulted.ensures ∙ c.if-is_faulted.true in let found = c.read_front-found.ensures in
     let asked = size_asked c.args.bytes.now c.args.told c.args.image c.requires.image _ (λ d begins as_long.
     found.marked faults d begins as_long (has_texts c.args.image) 132 (opening_read c.args.image)
-    (opening_reaches c.args.image)) in record {
+    (opening_reaches c.args.image)) in rw c.requires.first (record {
       few = found.few faults 132 (opening_reaches c.args.image);
       ends = found.ends faults;
       rests = rests_more c.args.bytes.now c.args.told _ asked;
       known = c.requires.image;
       typed = tt;
       between = λ _. asked;
-    }
+    })
 
 pub returns-in-Err : goal.returns-in-Err
 returns-in-Err c =

@@ -13,14 +13,14 @@ returns-then-told-lt18 c =
 pub returns-then-bytes-lt18 : goal.returns-then-bytes-lt18
 returns-then-bytes-lt18 c =
     let bytes = c.args.bytes.now in let told = c.args.told in let head = c.args.head.now in let few = c.if-bytes-lt18.true in
-    let typed = first_typed bytes told c.requires.fits (first.MaybeTga head) c.requires.first in record {
+    let typed = first_typed bytes told c.requires.fits (first.MaybeTga head) c.requires.first in rw c.requires.stage (record {
       few = omega (arith, few);
       ends = (few, c.if-told-lt18.false);
       rests = rests_on_more bytes told head c.requires.first c.requires.fits c.if-told-lt18.false few;
       known = tt;
       typed = type_on_more bytes told head c.requires.first c.requires.fits c.if-told-lt18.false few;
       between = λ asked. absurd (omega (arith, asked, typed, few));
-    }
+    })
 
 pub returns-in_default : goal.returns-in_default
 returns-in_default c = absurd (

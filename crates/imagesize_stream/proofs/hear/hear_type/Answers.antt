@@ -8,7 +8,7 @@ pub returns-then-is_faulted-clause-hears : goal.returns-then-is_faulted-clause-h
 returns-then-is_faulted-clause-hears c =
     let faults = sym c.is_faulted.ensures ∙ c.if-is_faulted.true in let found = c.read_front-found.ensures in
     let asked = first_asked c.args.bytes.now c.args.told _
-    (λ d begins as_long. found.marked faults d begins as_long false 132 first_plain first_reaches) in record {
+    (λ d begins as_long. found.marked faults d begins as_long false 132 first_plain first_reaches) in rw c.requires.first (record {
       few = found.few faults 132 first_reaches;
       ends = found.ends faults;
       rests = rests_more c.args.bytes.now c.args.told _ asked;
@@ -16,7 +16,7 @@ returns-then-is_faulted-clause-hears c =
       typed = type_asked c.args.bytes.now c.args.told _
           (λ d begins as_long. found.marked faults d begins as_long false 132 first_plain first_reaches);
       between = λ _. asked;
-    }
+    })
 
 pub hear_size-requires-clause-image : goal.hear_size-requires-clause-image
 hear_size-requires-clause-image c =
