@@ -37,6 +37,8 @@ pub(crate) fn hear(into: &mut Stage, bytes: &[u8], told: u64) -> Heard
     ensures head { length bytes.now < 12 → into.new ≡ stage.First → result.1 ≤ 12 }
 {
     if bytes.len() < HEAD && told >= HEAD as u64 {
+        // It is that stage already. Stored here, it is not looked up by the caller.
+        *into = Stage::First;
         return (None, HEAD as u64);
     }
     hear_type(into, bytes, told)
