@@ -6,7 +6,7 @@ ghost use Rattle.imagesize_stream.specs.Given.{IsGiven, MayBeAt};
 ghost use Rattle.imagesize_stream.specs.Heard.{RestsOnMore};
 ghost use Rattle.imagesize_stream.specs.Probe.{CameTo, Continues, Counts, HoldsAt, IfAwaiting, RestsOnNext, TypedBy, stage_after};
 ghost use Rattle.imagesize_stream.specs.Skips.{PassesOver};
-ghost use Rattle.imagesize_records.specs.Steps.{IsSteady, is_text, reach_of, step};
+ghost use Rattle.imagesize_records.specs.Steps.{is_text};
 ghost use Rattle.imagesize_stream.specs.declared.stage.Stage.TheVariants as stage;
 
 use crate::hear::hear;
@@ -19,7 +19,6 @@ use imagesize_records::awaited::Awaited;
 use imagesize_records::records::Texts;
 use imagesize_source::Halt;
 use imagesize_source::part::bytes_behind;
-use imagesize_source::walk::Records;
 use imagesize_texts::util::WORD_ROOM;
 use imagesize_types::size::ImageSize;
 
@@ -90,7 +89,13 @@ pub(crate) fn walk(
     if next.is_text() {
         return walk_texts(next, stand, buffer, chunk);
     }
-    walk_along(next, RECORD, stand, buffer, chunk)
+    match read_on(next, stand, buffer, chunk) {
+        Some(size) => Some(size),
+        None => {
+            stand.end = stand.end.min(stand.start + RECORD);
+            None
+        }
+    }
 }
 
 // Continues the walk along records that are texts with the next chunk.
@@ -111,40 +116,11 @@ fn walk_texts(
         next: *next,
         buffer: [0; WORD_ROOM],
     };
-    match walk_along(&mut texts, TEXT, stand, buffer, chunk) {
+    match read_on(&mut texts, stand, buffer, chunk) {
         Some(size) => Some(size),
         None => {
+            stand.end = stand.end.min(stand.start + TEXT);
             *next = texts.next;
-            None
-        }
-    }
-}
-
-// Continues the walk along these records, which are texts or are none. Of each, at most `most` bytes are requested. Inlined, since
-// each kind has its own.
-#[inline(always)]
-fn walk_along<R: Records<State = Awaited, Answer = ImageSize>>(
-    records: &mut R,
-    most: u64,
-    stand: &mut Stand,
-    buffer: &mut [u8; ROOM],
-    chunk: &[u8],
-) -> Option<Result<ImageSize, Halt>>
-    requires steps { R.step ≡ step }
-    requires kind { (r : R) (offset : ℕ) → R.holds r offset
-        → IsSteady (R.state r) offset × (is_text (R.state r) ≡ is_text (R.state records.old)) }
-    requires most { most ≡ reach_of (is_text (R.state records.old)) }
-    requires record { R.holds records.old stand.old.offset }
-    requires holds { HoldsAt (stage.Records (R.state records.old)) stand.old }
-    requires fits { stand.old.passed + length chunk.now ≤ stand.old.told }
-    ensures counts { Counts (stage_after (R.state records.new) result) stand.old stand.new chunk.now }
-    ensures continues { (kind : Option ImageType) → Continues (stage.Records (R.state records.old))
-        (stage_after (R.state records.new) result) kind kind stand.old stand.new buffer.old buffer.new chunk.now }
-{
-    match read_on(records, stand, buffer, chunk) {
-        Some(size) => Some(size),
-        None => {
-            stand.end = stand.end.min(stand.start + most);
             None
         }
     }
