@@ -16,13 +16,12 @@ use imagesize_pieces::front::read_front;
 use imagesize_pieces::walk::is_faulted;
 use imagesize_records::front::{First, FirstBytes, FirstSize, Opening, TgaHeader, TgaSize};
 use imagesize_source::Halt;
-use imagesize_types::size::ImageSize;
 
 // How many first bytes the type is read from.
 const HEAD: usize = 12;
 
-/// The type, if the first bytes say one, and an offset. At the stage `First` the failed read requests the bytes before that offset, at
-/// `Records` the first record begins there.
+/// The type, if the first bytes say one, and an offset. The requested bytes end there at the stage `First`. The first record begins
+/// there at `Records`. It says nothing at the other stages.
 pub(crate) type Heard = (Option<ImageType>, u64);
 
 /// What the first bytes of an input of at most `told` bytes say. The stage after them is stored in `into`.
@@ -37,7 +36,7 @@ pub(crate) fn hear(into: &mut Stage, bytes: &[u8], told: u64) -> Heard
     ensures head { length bytes.now < 12 → into.new ≡ stage.First → result.1 ≤ 12 }
 {
     if bytes.len() < HEAD && told >= HEAD as u64 {
-        // It is that stage already. Stored here, it is not looked up by the caller.
+        // The stage is stored anew, so that the caller need not load it.
         *into = Stage::First;
         return (None, HEAD as u64);
     }

@@ -21,7 +21,8 @@ returns-then-is_faulted-clause-hears c =
 pub hear_size-requires-clause-image : goal.hear_size-requires-clause-image
 hear_size-requires-clause-image c =
     let says = c.read_front-found.ensures.says (sym c.is_faulted.ensures ∙ c.if-is_faulted.false) in
-    type_said c.args.bytes.now c.args.told c.in-Ok-Type.image (rw (c.in-Ok-Type.is, rw c.in-Ok-Type.is at c.in-Ok-Type.field-0-is) at says)
+    let is = rw c.in-Ok-Type.is at c.in-Ok-Type.field-0-is in
+    type_said c.args.bytes.now c.args.told c.in-Ok-Type.image (rw (c.in-Ok-Type.is, is) at says)
 
 pub returns-in-Err-clause-hears : goal.returns-in-Err-clause-hears
 returns-in-Err-clause-hears c =
@@ -32,11 +33,13 @@ returns-in-Err-clause-hears c =
 pub returns-in-Ok-MaybeTga-clause-head : goal.returns-in-Ok-MaybeTga-clause-head
 returns-in-Ok-MaybeTga-clause-head c = λ few.
     let says = c.read_front-found.ensures.says (sym c.is_faulted.ensures ∙ c.if-is_faulted.false) in
-    let enough = first_typed c.args.bytes.now c.args.told c.requires.fits _ (rw (c.in-Ok-MaybeTga.is, rw c.in-Ok-MaybeTga.is at c.in-Ok-MaybeTga.field-0-is) at says) in
+    let is = rw c.in-Ok-MaybeTga.is at c.in-Ok-MaybeTga.field-0-is in
+    let enough = first_typed c.args.bytes.now c.args.told c.requires.fits _ (rw (c.in-Ok-MaybeTga.is, is) at says) in
     absurd (omega (arith, few, enough))
 
 pub returns-in-Ok-Type-clause-head : goal.returns-in-Ok-Type-clause-head
 returns-in-Ok-Type-clause-head c = λ few.
     let says = c.read_front-found.ensures.says (sym c.is_faulted.ensures ∙ c.if-is_faulted.false) in
-    let enough = first_typed c.args.bytes.now c.args.told c.requires.fits _ (rw (c.in-Ok-Type.is, rw c.in-Ok-Type.is at c.in-Ok-Type.field-0-is) at says) in
+    let is = rw c.in-Ok-Type.is at c.in-Ok-Type.field-0-is in
+    let enough = first_typed c.args.bytes.now c.args.told c.requires.fits _ (rw (c.in-Ok-Type.is, is) at says) in
     absurd (omega (arith, few, enough))
