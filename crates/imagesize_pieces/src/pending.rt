@@ -1,7 +1,5 @@
 //! Texts whose end has not arrived. A chunk without their end is kept, and the bytes before it are not searched again.
-ghost use Rattle.std.specs.Prelude.{◌≡◌, ◌+◌, ◌-◌, ◌≤◌, ◌++◌, [], ◌∷◌, false, true, length, not, take};
-ghost use Rattle.std.specs.Char.{is_ascii_whitespace};
-ghost use Rattle.std.specs.List.{list_any};
+ghost use Rattle.std.specs.Prelude.{◌≡◌, ◌+◌, ◌-◌, ◌≤◌, false, true, length, take};
 ghost use Rattle.imagesize_source.specs.Text.{is_ended};
 ghost use Rattle.imagesize_pieces.specs.Pending.{KeepsPending};
 
@@ -9,7 +7,7 @@ use crate::buffer::append;
 use crate::stand::Stand;
 use imagesize_source::Text;
 use imagesize_source::part::bytes_behind;
-use imagesize_source::text::{ended_length, has_begun};
+use imagesize_source::text::is_pending;
 
 /// Keeps a chunk that comes before the text at the next record's offset, or belongs to it. Returns whether it was kept. It is kept
 /// only if no byte so far ends the text, these are fewer than `most`, and the input has more bytes. The first `searched` kept bytes
@@ -49,75 +47,4 @@ pub fn keep_pending(
     stand.end = (stand.start + most as u64).min(stand.told);
     *searched = count;
     true
-}
-
-// Whether neither the kept bytes nor the chunk after them end the text. The first `searched` bytes do not.
-#[inline(always)]
-fn is_pending(text: Text, searched: usize, kept: &[u8], chunk: &[u8]) -> bool
-    requires within { searched ≤ length kept.now }
-    requires unended { is_ended text (take searched kept.now) ≡ false }
-    ensures { result ≡ true → is_ended text (kept.now ++ chunk.now) ≡ false }
-{
-    if searched < kept.len() && !stays_pending(text, &kept[..searched], &kept[searched..]) {
-        return false;
-    }
-    stays_pending(text, kept, chunk)
-}
-
-// Whether a text that the first bytes do not end is not ended by those after them either.
-#[inline]
-#[tactic(auto, using(imagesize_source::proofs::Unended::line_on))]
-fn stays_pending(text: Text, first: &[u8], rest: &[u8]) -> bool
-    requires { is_ended text first.now ≡ false }
-    ensures { result ≡ not (is_ended text (first.now ++ rest.now)) }
-{
-    match text {
-        Text::Line { .. } => !is_closed(text, rest),
-        Text::Word => word_stays_pending(first, rest),
-    }
-}
-
-// Whether a word that the first bytes do not end is not ended by those after them either.
-#[inline]
-#[tactic(auto, using(imagesize_source::proofs::Unended::word_on))]
-fn word_stays_pending(first: &[u8], rest: &[u8]) -> bool
-    requires { is_ended Text.Word first.now ≡ false }
-    ensures { result ≡ not (is_ended Text.Word (first.now ++ rest.now)) }
-{
-    if has_begun(first) {
-        return !has_white(rest);
-    }
-    !is_closed(Text::Word, rest)
-}
-
-// Whether one of the bytes is white space.
-#[inline(always)]
-fn has_white(bytes: &[u8]) -> bool
-    ensures { result ≡ list_any is_ascii_whitespace bytes.now }
-{
-    bytes.iter().any(|byte| byte.is_ascii_whitespace())
-}
-
-// Whether one of the bytes ends the text at their front.
-#[inline(always)]
-fn is_closed(text: Text, bytes: &[u8]) -> bool
-    ensures { result ≡ is_ended text bytes.now }
-{
-    // A single byte needs no search.
-    if let (Text::Line { delimiter }, [byte]) = (text, bytes) {
-        return ends_line(delimiter, *byte);
-    }
-    match ended_length(text, bytes) {
-        Some(_) => true,
-        None => false,
-    }
-}
-
-// Whether a byte ends the line that it is the first byte of.
-#[inline(always)]
-#[tactic(auto, unfolding(imagesize_source::specs::Text::is_ended))]
-fn ends_line(delimiter: u8, byte: u8) -> bool
-    ensures { result ≡ is_ended (Text.Line delimiter) (byte ∷ []) }
-{
-    byte == delimiter
 }

@@ -1,5 +1,5 @@
 //! Texts within an input: bytes up to one that ends them.
-ghost use Rattle.std.specs.Prelude.{◌≡◌, ◌+◌, ◌++◌, ◌≤◌, not, true, false, None, length, take, drop, IfSome, IsTrue};
+ghost use Rattle.std.specs.Prelude.{◌≡◌, ◌+◌, ◌++◌, ◌≤◌, [], ◌∷◌, not, true, false, None, length, take, drop, IfSome, IsTrue};
 ghost use Rattle.std.specs.List.{list_any, position, position_or_len};
 ghost use Rattle.std.specs.Char.{is_ascii_whitespace};
 ghost use Rattle.imagesize_source.specs.Text.{front_through, has_begun, is_ended, text_front};
@@ -65,15 +65,86 @@ pub fn ended_behind(text: Text, first: &[u8], rest: &[u8]) -> Option<usize>
     }
 }
 
-/// Whether a word has begun in these bytes, which do not end it. If it has, the last of them is a byte of the word.
+// Whether a word has begun in these bytes, which do not end it. If it has, the last of them is a byte of the word.
 #[inline(always)]
 #[tactic(auto, using(crate::proofs::Unended::begun_at))]
-pub fn has_begun(bytes: &[u8]) -> bool
+fn has_begun(bytes: &[u8]) -> bool
     requires { is_ended Text.Word bytes.now ≡ false }
     ensures { result ≡ has_begun bytes.now }
 {
     let count = bytes.len();
     count > 0 && !bytes[count - 1].is_ascii_whitespace()
+}
+
+/// Whether neither the kept bytes nor the chunk after them end the text. The first `searched` bytes do not.
+#[inline(always)]
+pub fn is_pending(text: Text, searched: usize, kept: &[u8], chunk: &[u8]) -> bool
+    requires within { searched ≤ length kept.now }
+    requires unended { is_ended text (take searched kept.now) ≡ false }
+    ensures { result ≡ true → is_ended text (kept.now ++ chunk.now) ≡ false }
+{
+    if searched < kept.len() && !stays_pending(text, &kept[..searched], &kept[searched..]) {
+        return false;
+    }
+    stays_pending(text, kept, chunk)
+}
+
+// Whether a text that the first bytes do not end is not ended by those after them either.
+#[inline]
+#[tactic(auto, using(crate::proofs::Unended::line_on))]
+fn stays_pending(text: Text, first: &[u8], rest: &[u8]) -> bool
+    requires { is_ended text first.now ≡ false }
+    ensures { result ≡ not (is_ended text (first.now ++ rest.now)) }
+{
+    match text {
+        Text::Line { .. } => !is_closed(text, rest),
+        Text::Word => word_stays_pending(first, rest),
+    }
+}
+
+// Whether a word that the first bytes do not end is not ended by those after them either.
+#[inline]
+#[tactic(auto, using(crate::proofs::Unended::word_on))]
+fn word_stays_pending(first: &[u8], rest: &[u8]) -> bool
+    requires { is_ended Text.Word first.now ≡ false }
+    ensures { result ≡ not (is_ended Text.Word (first.now ++ rest.now)) }
+{
+    if has_begun(first) {
+        return !has_white(rest);
+    }
+    !is_closed(Text::Word, rest)
+}
+
+// Whether one of the bytes is white space.
+#[inline(always)]
+fn has_white(bytes: &[u8]) -> bool
+    ensures { result ≡ list_any is_ascii_whitespace bytes.now }
+{
+    bytes.iter().any(|byte| byte.is_ascii_whitespace())
+}
+
+// Whether one of the bytes ends the text at their front.
+#[inline(always)]
+fn is_closed(text: Text, bytes: &[u8]) -> bool
+    ensures { result ≡ is_ended text bytes.now }
+{
+    // A single byte needs no search.
+    if let (Text::Line { delimiter }, [byte]) = (text, bytes) {
+        return ends_line(delimiter, *byte);
+    }
+    match ended_length(text, bytes) {
+        Some(_) => true,
+        None => false,
+    }
+}
+
+// Whether a byte ends the line that it is the first byte of.
+#[inline(always)]
+#[tactic(auto, unfolding(crate::specs::Text::is_ended))]
+fn ends_line(delimiter: u8, byte: u8) -> bool
+    ensures { result ≡ is_ended (Text.Line delimiter) (byte ∷ []) }
+{
+    byte == delimiter
 }
 
 // How many bytes there are up to and with the first white space, if it is there.

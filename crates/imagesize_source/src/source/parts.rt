@@ -159,7 +159,7 @@ impl Known for Parts<'_> {
         self.told
     }
 
-    // A branch, where `bytes_behind` takes a minimum: nearly all reads lie in `front`, so it costs least.
+    // Nearly all reads lie in `front`. A branch saves a record 8 to 15 instructions beside the minimum that `bytes_behind` takes.
     #[inline(always)]
     fn near(&self, offset: u64) -> &[u8] {
         let start = offset as usize;
