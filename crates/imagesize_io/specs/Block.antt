@@ -1,5 +1,12 @@
--- What a block of a file gives.
+-- What a block of a file has and gives.
 use Rattle.std.specs.Prelude.{ℕ, ◌+◌, ◌-◌, ◌&&◌, List, length, drop, nat_le, nat_lt, if◌then◌else◌}
+use Rattle.imagesize_io.specs.declared.block.Memory.{Memory}
+use Rattle.imagesize_io.specs.declared.block.Memory.TheVariants.{Borrowed, Owned}
+
+-- the bytes of a block's memory
+abbrev pub bytes_in : Memory → List ℕ
+bytes_in (Borrowed bytes) = bytes.now
+bytes_in (Owned bytes) = bytes.items
 
 -- the bytes of a block from an offset on, or else those of the first bytes
 abbrev pub held_from : List ℕ → ℕ → List ℕ → ℕ → List ℕ

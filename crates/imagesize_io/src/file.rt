@@ -4,6 +4,7 @@ ghost use Rattle.std.specs.Io.KnownBytes.{Consumes, IsAtEnd, Keeps, ReadConsumes
 ghost use Rattle.std.specs.Io.Seek.{IsAtOffset, SeekMoves};
 ghost use Rattle.std.specs.Result.{result_ok};
 ghost use Rattle.std.specs.declared.io.Error.{Error};
+ghost use Rattle.imagesize_io.specs.Block.{bytes_in};
 ghost use Rattle.imagesize_io.specs.File.{IsSoughtTo, held_of};
 ghost use Rattle.imagesize_io.specs.ReaderState.{kept_window};
 ghost use Rattle.imagesize_io.specs.StopOf.{stop_of};
@@ -36,16 +37,16 @@ use std::io::{self, ErrorKind, Read, Seek, SeekFrom};
 /// assert_eq!((size.width, size.height), (100, 100));
 /// ```
 #[derive(Drop)]
-pub struct FileReader<R: Read + Seek + Drop> {
+pub struct FileReader<'a, R: Read + Seek + Drop> {
     file: R,
     // The file's own offset, if it is known.
     position: Option<u64>,
-    block: Block,
+    block: Block<'a>,
     offset: u64,
     length: Option<u64>,
 }
 
-impl<R: Read + Seek + Drop> FileReader<R> {
+impl<'a, R: Read + Seek + Drop> FileReader<'a, R> {
     /// Wraps a file at offset 0, with its length in bytes if known. It makes no call of the file. A file at another offset gives wrong
     /// bytes.
     ///
@@ -61,7 +62,7 @@ impl<R: Read + Seek + Drop> FileReader<R> {
     }
 
     /// Wraps a file as `new` does, with the block of an earlier reader. It allocates nothing.
-    pub fn over(mut block: Block, file: R, length: Option<u64>) -> Self
+    pub fn over(mut block: Block<'a>, file: R, length: Option<u64>) -> Self
         ensures file { result.file ≡ file }
         ensures start { (result.position ≡ Some 0) × (result.offset ≡ 0) }
         ensures length { result.length ≡ length }
@@ -78,7 +79,7 @@ impl<R: Read + Seek + Drop> FileReader<R> {
     }
 
     /// Closes the file, and returns the block for the reader of the next one.
-    pub fn into_block(self) -> Block {
+    pub fn into_block(self) -> Block<'a> {
         self.block
     }
 
@@ -88,12 +89,12 @@ impl<R: Read + Seek + Drop> FileReader<R> {
     fn fetch(&mut self) -> io::Result<usize>
         ensures reads { IfOk result (λ n. (file : R)
             × IsSoughtTo R.stream_position R.stream_bytes self.old.file file self.old.position self.old.offset
-            × Consumes (R.remaining file) (R.remaining self.new.file) (take n self.new.block.bytes.items)
+            × Consumes (R.remaining file) (R.remaining self.new.file) (take n (bytes_in self.new.block.memory))
             × (n ≡ 0 → IsAtEnd (R.remaining self.new.file))) }
         ensures keeps { self.old.position ≡ Some self.old.offset
             → IfErr result (λ _. Keeps (R.remaining self.old.file) (R.remaining self.new.file)) }
         ensures block { IfOk result (λ n. (self.new.block.filled ≡ n) × (self.new.block.start ≡ self.old.offset)
-            × (self.new.block.front.items ≡ kept_window self.old.block.front.items self.old.offset (take n self.new.block.bytes.items))) }
+            × (self.new.block.front.items ≡ kept_window self.old.block.front.items self.old.offset (take n (bytes_in self.new.block.memory)))) }
         ensures position { IfOk result (λ n. self.new.position ≡ Some (self.old.offset + n)) }
         ensures unknown { IfErr result (λ _. self.new.position ≡ None) }
         ensures fails { IfErr result (λ _. (self.new.block.front ≡ self.old.block.front)
@@ -151,7 +152,7 @@ fn go<R: Seek>(file: &mut R, position: Option<u64>, offset: u64) -> io::Result<(
     Ok(())
 }
 
-impl<R: Read + Seek + Drop> Told for FileReader<R> {
+impl<R: Read + Seek + Drop> Told for FileReader<'_, R> {
     ghost telling = { λ _. None };
 
     ghost count = { λ _. None };
@@ -178,7 +179,7 @@ impl<R: Read + Seek + Drop> Told for FileReader<R> {
             × (self.new.position ≡ Some (self.new.offset + length (held_of self.new)))
             × (self.new.block.start ≡ self.old.offset)
             × (self.new.block.front.items ≡ kept_window self.old.block.front.items self.old.offset
-            (take self.new.block.filled self.new.block.bytes.items))) }
+            (take self.new.block.filled (bytes_in self.new.block.memory)))) }
         ensures keeps { self.old.position ≡ Some self.old.offset
             → IfErr result (λ _. Keeps (R.remaining self.old.file) (R.remaining self.new.file)) }
         ensures unknown { IfErr result (λ _. self.new.position ≡ None) }

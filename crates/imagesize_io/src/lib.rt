@@ -1,7 +1,7 @@
 //! Readers as sources: a reader's model and its offset, and how its bytes are read at offsets within a budget.
 #![tactic(auto)]
 
-mod block;
+pub mod block;
 pub mod counting;
 pub mod file;
 pub mod memory;

@@ -69,15 +69,15 @@ fn or_memory<T, E: Drop>(made: Result<T, E>) -> ImageResult<T>
 struct Disk<'a, R> {
     rt: &'a R,
     // The block of the last file, for the next one. It saves an allocation and 4 KiB of zeroes for each.
-    block: Option<Block>,
+    block: Option<Block<'a>>,
 }
 
-impl<R: Files + AllocGlobal> Open for Disk<'_, R> {
-    type Reader = FileReader<R::File>;
+impl<'a, R: Files + AllocGlobal> Open for Disk<'a, R> {
+    type Reader = FileReader<'a, R::File>;
 
     ghost known = { λ _. None };
 
-    fn open(&mut self, name: &str) -> ImageResult<FileReader<R::File>>
+    fn open(&mut self, name: &str) -> ImageResult<FileReader<'a, R::File>>
         ensures opens { Unit {0} }
         ensures keeps { ◌≡◌ {A = Option Files} None None }
         ensures refuses { IfErr result (λ e. IsTrue (is_fault e || is_memory e)) }
@@ -90,7 +90,7 @@ impl<R: Files + AllocGlobal> Open for Disk<'_, R> {
         }
     }
 
-    fn close(&mut self, reader: FileReader<R::File>)
+    fn close(&mut self, reader: FileReader<'a, R::File>)
         ensures { ◌≡◌ {A = Option Files} None None }
     {
         self.block = Some(reader.into_block());

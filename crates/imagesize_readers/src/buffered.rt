@@ -1,7 +1,8 @@
 //! Buffered readers keep their block if it has the offset of a seek. A reader of a file calls the file no more than needed.
 
+use imagesize_io::block::FIRST;
 use imagesize_io::reader::{Origin, ReaderSource, open, settle};
-use imagesize_io::{FileReader, Stop, Told};
+use imagesize_io::{Block, FileReader, Stop, Told};
 use imagesize_source::Text;
 use imagesize_source::source::Source;
 use std::io::{self, BufReader, Cursor, ErrorKind, Read, Seek, SeekFrom};
@@ -166,11 +167,8 @@ fn an_offset_behind_in_the_block_is_reached_with_no_call(rt: HostRuntime) -> Res
     Ok(())
 }
 
-#[test]
-fn a_block_is_small_at_the_start_and_after_a_seek(rt: HostRuntime) -> Result<(), Fail> {
-    let bytes = Vec::from_elem(rt.alloc(), 7u8, 60_000)?;
-    let inner = Cursor::new(bytes.as_slice());
-    let mut reader = FileReader::new(rt.alloc(), inner, Some(60_000))?;
+// Reads blocks of a file of 60,000 bytes.
+fn check_blocks<H: Abort>(rt: &H, mut reader: FileReader<'_, Cursor<&[u8]>>) -> Result<(), Fail> {
     // The offset of each block, and how many bytes it has after the first one.
     for (offset, held) in [
         (0, 4095),
@@ -182,6 +180,35 @@ fn a_block_is_small_at_the_start_and_after_a_seek(rt: HostRuntime) -> Result<(),
         assert_eq!(rt; reader.seek_told(SeekFrom::Start(offset))?, offset);
         assert!(rt; matches!(reader.read_told(&mut [0u8; 1]), Ok(1)));
         assert_eq!(rt; reader.held().len(), held);
+    }
+    Ok(())
+}
+
+#[test]
+fn a_block_is_small_at_the_start_and_after_a_seek(rt: HostRuntime) -> Result<(), Fail> {
+    let bytes = Vec::from_elem(rt.alloc(), 7u8, 60_000)?;
+    let inner = Cursor::new(bytes.as_slice());
+    check_blocks(&rt, FileReader::new(rt.alloc(), inner, Some(60_000))?)?;
+    let mut memory = [0; FIRST];
+    let block = Block::borrowed(rt.alloc(), &mut memory);
+    let inner = Cursor::new(bytes.as_slice());
+    check_blocks(&rt, FileReader::over(block, inner, Some(60_000)))
+}
+
+#[test]
+fn a_borrowed_block_serves_the_next_file(rt: HostRuntime) -> Result<(), Fail> {
+    let mut memory = [0; FIRST];
+    let mut block = Block::borrowed(rt.alloc(), &mut memory);
+    for byte in [1u8, 2] {
+        let bytes = Vec::from_elem(rt.alloc(), byte, 5000)?;
+        let mut reader = FileReader::over(block, Cursor::new(bytes.as_slice()), Some(5000));
+        let mut buffer = [0u8; 3];
+        assert!(rt; matches!(reader.read_told(&mut buffer), Ok(3)));
+        assert_eq!(rt; buffer, [byte; 3]);
+        assert_eq!(rt; reader.seek_told(SeekFrom::Start(4096))?, 4096);
+        assert!(rt; matches!(reader.read_told(&mut buffer), Ok(3)));
+        assert_eq!(rt; buffer, [byte; 3]);
+        block = reader.into_block();
     }
     Ok(())
 }
