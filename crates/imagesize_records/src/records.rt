@@ -10,7 +10,7 @@ ghost use Rattle.imagesize_records.specs.Steps.{IsSteady, is_text, step};
 use crate::awaited::Awaited;
 use imagesize_source::Halt;
 use imagesize_source::source::Source;
-use imagesize_source::walk::{Found, Records};
+use imagesize_source::walk::{RecordResult, Records};
 use imagesize_texts::formats::exr::read_attribute;
 use imagesize_texts::formats::hdr::{LINE_ROOM, read_line};
 use imagesize_texts::util::WORD_ROOM;
@@ -31,11 +31,7 @@ impl Records for Awaited {
     ghost holds = { λ next offset. IsSteady next offset × (is_text next ≡ false) };
 
     #[inline(always)]
-    fn read_record<S: Source>(
-        &mut self,
-        source: &mut S,
-        offset: u64,
-    ) -> Result<Found<ImageSize>, Halt> {
+    fn read_record<S: Source>(&mut self, source: &mut S, offset: u64) -> RecordResult<ImageSize> {
         match self {
             Awaited::Jpeg(segments) => read_next(segments, source, offset),
             Awaited::Ilbm(chunks) => chunks.read_record(source, offset),
@@ -66,7 +62,7 @@ fn read_next<R: Records<Answer = ImageSize>, S: Source>(
     records: &mut R,
     source: &mut S,
     offset: u64,
-) -> Result<Found<ImageSize>, Halt>
+) -> RecordResult<ImageSize>
     requires { R.holds records.old offset }
     ensures nears { IfOk result (λ found. Nears (S.state source.old) (S.state source.new) offset
         (said_at (R.state records.new) offset found)) }
@@ -99,11 +95,7 @@ impl Records for Texts {
     ghost holds = { λ texts offset. IsSteady texts.next offset × (is_text texts.next ≡ true) };
 
     #[inline(always)]
-    fn read_record<S: Source>(
-        &mut self,
-        source: &mut S,
-        offset: u64,
-    ) -> Result<Found<ImageSize>, Halt> {
+    fn read_record<S: Source>(&mut self, source: &mut S, offset: u64) -> RecordResult<ImageSize> {
         let buffer = &mut self.buffer;
         match &mut self.next {
             Awaited::Exr { long } => read_attribute(source, offset, *long, buffer),

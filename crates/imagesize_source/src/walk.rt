@@ -20,6 +20,9 @@ pub enum Found<X> {
     Other { length: u64 },
 }
 
+/// The result of reading a record.
+pub type RecordResult<X> = Result<Found<X>, Halt>;
+
 /// Where a sequence of records begins.
 #[derive(Drop)]
 pub struct Start<R> {
@@ -45,14 +48,10 @@ pub trait Records {
     ghost state: { Self → Self.State };
 
     /// What always holds before the record at an offset.
-    ghost holds: { Self → ℕ → Type 0 };
+    ghost holds: { Self → ℕ → Type 0 } = { λ _ _. Unit {0} };
 
     /// Reads the record at an offset.
-    fn read_record<S: Source>(
-        &mut self,
-        source: &mut S,
-        offset: u64,
-    ) -> Result<Found<Self::Answer>, Halt>
+    fn read_record<S: Source>(&mut self, source: &mut S, offset: u64) -> RecordResult<Self::Answer>
         requires { holds self.now offset }
         ensures nears { IfOk result (λ found. Nears (S.state source.old) (S.state source.new) offset
             (said_at (state self.new) offset found)) }

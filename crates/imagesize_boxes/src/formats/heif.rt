@@ -14,7 +14,7 @@ use imagesize_source::readings::{
     read_bytes_behind, read_exact_at, read_u32, read_whole_at, read_whole_behind,
 };
 use imagesize_source::source::Source;
-use imagesize_source::walk::{Found, Records, Start, walk};
+use imagesize_source::walk::{Found, RecordResult, Records, Start, walk};
 use imagesize_source::{Endian, Halt};
 use imagesize_types::compression::Compression;
 use imagesize_types::size::{ImageSize, area};
@@ -164,15 +164,9 @@ impl Records for Boxes {
 
     ghost state = { λ boxes. boxes };
 
-    ghost holds = { λ _ offset. Unit {0} };
-
     // Reads the box at an offset.
     #[inline(always)]
-    fn read_record<S: Source>(
-        &mut self,
-        source: &mut S,
-        offset: u64,
-    ) -> Result<Found<FoundBox>, Halt> {
+    fn read_record<S: Source>(&mut self, source: &mut S, offset: u64) -> RecordResult<FoundBox> {
         read_box(source, offset, &self.name)
     }
 
@@ -186,7 +180,7 @@ impl Records for Boxes {
 // Reads the box at an offset, and whether it has this name.
 #[inline(always)]
 #[tactic(auto, using(imagesize_source::proofs::Runs::steps))]
-fn read_box<S: Source>(source: &mut S, offset: u64, name: &[u8; 4]) -> Result<Found<FoundBox>, Halt>
+fn read_box<S: Source>(source: &mut S, offset: u64, name: &[u8; 4]) -> RecordResult<FoundBox>
     ensures pays { IfOk result (λ _. Paid (S.state source.old) (S.state source.new) offset) }
     ensures nears { IfOk result (λ found. Nears (S.state source.old) (S.state source.new) offset (box_said offset found)) }
     ensures runs { Follows (S.state source.old) (S.state source.new) (map_answer (box_said offset) result)
@@ -287,16 +281,10 @@ impl Records for Gathered {
 
     ghost state = { λ gathered. gathered };
 
-    ghost holds = { λ _ offset. Unit {0} };
-
     // Reads the property at an offset.
     #[inline(always)]
     #[tactic(auto, using(imagesize_source::proofs::Runs::steps, imagesize_source::proofs::Layouts::binding))]
-    fn read_record<S: Source>(
-        &mut self,
-        source: &mut S,
-        offset: u64,
-    ) -> Result<Found<ImageSize>, Halt> {
+    fn read_record<S: Source>(&mut self, source: &mut S, offset: u64) -> RecordResult<ImageSize> {
         let Some(property) = read_property(source, offset, self.left)? else {
             return Ok(Found::Answer(answer(*self)?));
         };
@@ -478,15 +466,9 @@ impl Records for Sought {
 
     ghost state = { λ sought. sought };
 
-    ghost holds = { λ _ offset. Unit {0} };
-
     // Reads the box or the property at an offset.
     #[inline(always)]
-    fn read_record<S: Source>(
-        &mut self,
-        source: &mut S,
-        offset: u64,
-    ) -> Result<Found<ImageSize>, Halt> {
+    fn read_record<S: Source>(&mut self, source: &mut S, offset: u64) -> RecordResult<ImageSize> {
         match self {
             Sought::Meta => read_meta(self, source, offset),
             Sought::Iprp => read_iprp(self, source, offset),
@@ -506,11 +488,7 @@ impl Records for Sought {
 }
 
 #[tactic(auto, using(imagesize_source::proofs::Runs::steps, imagesize_source::proofs::Runs::missed_before, imagesize_source::proofs::Layouts::binding))]
-fn read_meta<S: Source>(
-    next: &mut Sought,
-    source: &mut S,
-    offset: u64,
-) -> Result<Found<ImageSize>, Halt>
+fn read_meta<S: Source>(next: &mut Sought, source: &mut S, offset: u64) -> RecordResult<ImageSize>
     ensures nears { IfOk result (λ found. Nears (S.state source.old) (S.state source.new) offset (said_at next.new offset found)) }
     ensures stays { IfErr result (λ _. next.new ≡ next.old) }
     ensures runs { Follows (S.state source.old) (S.state source.new) (map_answer (said_at next.new offset) result)
@@ -530,11 +508,7 @@ fn read_meta<S: Source>(
 }
 
 #[tactic(auto, using(imagesize_source::proofs::Runs::steps, imagesize_source::proofs::Runs::missed_before, imagesize_source::proofs::Layouts::binding))]
-fn read_iprp<S: Source>(
-    next: &mut Sought,
-    source: &mut S,
-    offset: u64,
-) -> Result<Found<ImageSize>, Halt>
+fn read_iprp<S: Source>(next: &mut Sought, source: &mut S, offset: u64) -> RecordResult<ImageSize>
     ensures nears { IfOk result (λ found. Nears (S.state source.old) (S.state source.new) offset (said_at next.new offset found)) }
     ensures stays { IfErr result (λ _. next.new ≡ next.old) }
     ensures runs { Follows (S.state source.old) (S.state source.new) (map_answer (said_at next.new offset) result)
@@ -553,11 +527,7 @@ fn read_iprp<S: Source>(
 }
 
 #[tactic(auto, using(imagesize_source::proofs::Runs::steps, imagesize_source::proofs::Runs::missed_before, imagesize_source::proofs::Layouts::binding))]
-fn read_ipco<S: Source>(
-    next: &mut Sought,
-    source: &mut S,
-    offset: u64,
-) -> Result<Found<ImageSize>, Halt>
+fn read_ipco<S: Source>(next: &mut Sought, source: &mut S, offset: u64) -> RecordResult<ImageSize>
     ensures nears { IfOk result (λ found. Nears (S.state source.old) (S.state source.new) offset (said_at next.new offset found)) }
     ensures stays { IfErr result (λ _. next.new ≡ next.old) }
     ensures runs { Follows (S.state source.old) (S.state source.new) (map_answer (said_at next.new offset) result)
@@ -580,7 +550,7 @@ fn read_listed<S: Source>(
     gathered: &mut Gathered,
     source: &mut S,
     offset: u64,
-) -> Result<Found<ImageSize>, Halt>
+) -> RecordResult<ImageSize>
     ensures nears { IfOk result (λ found. Nears (S.state source.old) (S.state source.new) offset (said_at gathered.new offset found)) }
     ensures stays { IfErr result (λ _. gathered.new ≡ gathered.old) }
     ensures runs { Follows (S.state source.old) (S.state source.new) (map_answer (said_at gathered.new offset) result)

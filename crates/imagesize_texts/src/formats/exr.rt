@@ -10,7 +10,7 @@ ghost use Rattle.imagesize_texts.specs.Texts.{line_read};
 use crate::util::{read_line_capped, read_u32_behind};
 use imagesize_source::readings::{read_bytes_behind, read_u32};
 use imagesize_source::source::Source;
-use imagesize_source::walk::{Found, Records, Start, ended, walk};
+use imagesize_source::walk::{Found, RecordResult, Records, Start, ended, walk};
 use imagesize_source::{Endian, Halt};
 use imagesize_types::size::{ImageSize, size_if_known};
 
@@ -92,15 +92,9 @@ impl Records for Attributes {
 
     ghost state = { λ attributes. attributes.long };
 
-    ghost holds = { λ attributes offset. Unit {0} };
-
     // Reads the attribute at an offset.
     #[inline(always)]
-    fn read_record<S: Source>(
-        &mut self,
-        source: &mut S,
-        offset: u64,
-    ) -> Result<Found<ImageSize>, Halt> {
+    fn read_record<S: Source>(&mut self, source: &mut S, offset: u64) -> RecordResult<ImageSize> {
         read_attribute(source, offset, self.long, &mut self.buffer)
     }
 
@@ -121,7 +115,7 @@ pub fn read_attribute<S: Source>(
     offset: u64,
     long: bool,
     buffer: &mut [u8],
-) -> Result<Found<ImageSize>, Halt>
+) -> RecordResult<ImageSize>
     requires { names_of long ≤ length buffer.old }
     ensures nears { IfOk result (λ found. Nears (S.state source.old) (S.state source.new) offset (said_at long offset found)) }
     ensures runs { Follows (S.state source.old) (S.state source.new) (map_answer (said_at long offset) result)

@@ -10,7 +10,7 @@ ghost use Rattle.imagesize_texts.specs.Hdr.{hdr, hdr_identifier, hdr_open, hdr_s
 use crate::util::{number, read_line_capped};
 use imagesize_source::Halt;
 use imagesize_source::source::Source;
-use imagesize_source::walk::{Found, Records, Start, walk};
+use imagesize_source::walk::{Found, RecordResult, Records, Start, walk};
 use imagesize_types::size::{ImageSize, size_if_known};
 
 /// A line after the first has at most this many bytes, including its line feed.
@@ -105,15 +105,9 @@ impl Records for Lines {
 
     ghost state = { λ _. tt };
 
-    ghost holds = { λ _ offset. Unit {0} };
-
     // Reads the line at an offset.
     #[inline(always)]
-    fn read_record<S: Source>(
-        &mut self,
-        source: &mut S,
-        offset: u64,
-    ) -> Result<Found<ImageSize>, Halt> {
+    fn read_record<S: Source>(&mut self, source: &mut S, offset: u64) -> RecordResult<ImageSize> {
         read_line(source, offset, &mut self.buffer)
     }
 
@@ -132,7 +126,7 @@ pub fn read_line<S: Source>(
     source: &mut S,
     offset: u64,
     buffer: &mut [u8],
-) -> Result<Found<ImageSize>, Halt>
+) -> RecordResult<ImageSize>
     requires { length buffer.old ≡ 256 }
     ensures nears { IfOk result (λ found. Nears (S.state source.old) (S.state source.new) offset
         (said_at {S = Unit {0}} tt offset found)) }

@@ -15,7 +15,7 @@ use crate::util::{
 };
 use imagesize_source::Halt;
 use imagesize_source::source::Source;
-use imagesize_source::walk::{Found, Records, ended, walk};
+use imagesize_source::walk::{Found, RecordResult, Records, ended, walk};
 use imagesize_types::size::{ImageSize, size_if_known};
 
 /// Whether the input begins with a magic number from `P1` to `P6`.
@@ -62,17 +62,11 @@ impl Records for Words {
 
     ghost state = { λ _. tt };
 
-    ghost holds = { λ _ offset. Unit {0} };
-
     // Reads the word at an offset. After the width it reads the height too, and at the start of a comment the rest of the
     // comment.
     #[inline(always)]
     #[tactic(auto, using(imagesize_source::proofs::Runs::steps, imagesize_source::proofs::Runs::missed_before))]
-    fn read_record<S: Source>(
-        &mut self,
-        source: &mut S,
-        offset: u64,
-    ) -> Result<Found<ImageSize>, Halt> {
+    fn read_record<S: Source>(&mut self, source: &mut S, offset: u64) -> RecordResult<ImageSize> {
         let word = read_word(source, offset, &mut self.buffer)?;
         let taken = word.taken as u64;
         if is_comment(word.text) {
@@ -127,7 +121,7 @@ impl Part {
         source: &mut S,
         offset: u64,
         buffer: &mut [u8; WORD_ROOM],
-    ) -> Result<Found<ImageSize>, Halt>
+    ) -> RecordResult<ImageSize>
         ensures nears { IfOk result (λ found. Nears (S.state source.old) (S.state source.new) offset (said_at self.new offset found)) }
         ensures stays { IfErr result (λ _. self.new ≡ self.old) }
         ensures runs { Follows (S.state source.old) (S.state source.new) (map_answer (said_at self.new offset) result)
@@ -148,7 +142,7 @@ fn read_header_word<S: Source>(
     source: &mut S,
     offset: u64,
     buffer: &mut [u8; WORD_ROOM],
-) -> Result<Found<ImageSize>, Halt>
+) -> RecordResult<ImageSize>
     ensures nears { IfOk result (λ found. Nears (S.state source.old) (S.state source.new) offset (said_at next.new offset found)) }
     ensures stays { IfErr result (λ _. next.new ≡ next.old) }
     ensures runs { Follows (S.state source.old) (S.state source.new) (map_answer (said_at next.new offset) result)
@@ -187,7 +181,7 @@ fn read_comment<S: Source>(
     source: &mut S,
     offset: u64,
     buffer: &mut [u8; WORD_ROOM],
-) -> Result<Found<ImageSize>, Halt>
+) -> RecordResult<ImageSize>
     ensures nears { IfOk result (λ found. Nears (S.state source.old) (S.state source.new) offset (said_at next.new offset found)) }
     ensures stays { IfErr result (λ _. next.new ≡ next.old) }
     ensures runs { Follows (S.state source.old) (S.state source.new) (map_answer (said_at next.new offset) result)
@@ -207,7 +201,7 @@ fn read_height<S: Source>(
     offset: u64,
     width: Option<usize>,
     buffer: &mut [u8; WORD_ROOM],
-) -> Result<Found<ImageSize>, Halt>
+) -> RecordResult<ImageSize>
     ensures nears { IfOk result (λ found. Nears (S.state source.old) (S.state source.new) offset
         (said_at (part.Height width) offset found)) }
     ensures runs { Follows (S.state source.old) (S.state source.new) (map_answer (said_at (part.Height width) offset) result)

@@ -10,7 +10,7 @@ ghost use Rattle.imagesize_source.specs.State.{Runs, Follows};
 
 use imagesize_source::readings::{read_if_there, read_u16};
 use imagesize_source::source::Source;
-use imagesize_source::walk::{Found, Records, Start, walk};
+use imagesize_source::walk::{Found, RecordResult, Records, Start, walk};
 use imagesize_source::{Endian, Halt};
 use imagesize_types::size::ImageSize;
 
@@ -74,11 +74,7 @@ impl Records for Entries {
     // Reads the entry at an offset.
     #[inline(always)]
     #[tactic(auto, using(imagesize_source::proofs::Runs::steps))]
-    fn read_record<S: Source>(
-        &mut self,
-        source: &mut S,
-        offset: u64,
-    ) -> Result<Found<ImageSize>, Halt> {
+    fn read_record<S: Source>(&mut self, source: &mut S, offset: u64) -> RecordResult<ImageSize> {
         let Some(bytes) = self.read_entry(source, offset)? else {
             return Ok(Found::Answer(answer(self.largest)?));
         };

@@ -6,7 +6,7 @@ ghost use Rattle.imagesize_walked.specs.Walks.{ilbm_step};
 
 use imagesize_source::readings::{read_exact_at, read_u16_behind};
 use imagesize_source::source::Source;
-use imagesize_source::walk::{Found, Records, walk};
+use imagesize_source::walk::{Found, RecordResult, Records, walk};
 use imagesize_source::{Endian, Halt};
 use imagesize_types::size::ImageSize;
 
@@ -43,16 +43,10 @@ impl Records for Chunks {
 
     ghost state = { λ chunks. chunks };
 
-    ghost holds = { λ chunks offset. Unit {0} };
-
     // Reads the chunk at an offset.
     #[inline(always)]
     #[tactic(auto, using(imagesize_source::proofs::Runs::steps))]
-    fn read_record<S: Source>(
-        &mut self,
-        source: &mut S,
-        offset: u64,
-    ) -> Result<Found<ImageSize>, Halt> {
+    fn read_record<S: Source>(&mut self, source: &mut S, offset: u64) -> RecordResult<ImageSize> {
         // Read into a buffer: bytes returned in a result are copied in parts, and a load of the whole waits for all of them.
         let mut head = [0u8; 8];
         read_exact_at(source, offset, &mut head)?;

@@ -8,7 +8,7 @@ ghost use Rattle.imagesize_source.specs.Strides.{Strides};
 
 use imagesize_source::readings::{read_bytes, read_u16_behind};
 use imagesize_source::source::Source;
-use imagesize_source::walk::{Found, Records, ended, walk_on};
+use imagesize_source::walk::{Found, RecordResult, Records, ended, walk_on};
 use imagesize_source::{Endian, Halt};
 use imagesize_types::size::ImageSize;
 
@@ -78,11 +78,7 @@ impl Records for Segments {
     // Reads the segment at an offset.
     #[inline(always)]
     #[tactic(auto, using(imagesize_source::proofs::Runs::steps, imagesize_source::proofs::Runs::missed_before))]
-    fn read_record<S: Source>(
-        &mut self,
-        source: &mut S,
-        offset: u64,
-    ) -> Result<Found<ImageSize>, Halt> {
+    fn read_record<S: Source>(&mut self, source: &mut S, offset: u64) -> RecordResult<ImageSize> {
         let [first, marker] = read_bytes::<S, 2>(source, offset)?;
         if first != 0xFF {
             return Err(Halt::Corrupted);

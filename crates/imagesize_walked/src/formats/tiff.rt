@@ -14,7 +14,7 @@ use imagesize_source::readings::{
     read_bytes, read_exact_at, read_u16, read_u32, read_u64, read_whole_behind,
 };
 use imagesize_source::source::Source;
-use imagesize_source::walk::{Found, Records, Start, walk};
+use imagesize_source::walk::{Found, RecordResult, Records, Start, walk};
 use imagesize_source::{Endian, Halt};
 use imagesize_types::size::{ImageSize, size_if_known};
 
@@ -266,15 +266,9 @@ impl<const HEAD: usize, const VALUE: usize> Records for Entries<HEAD, VALUE> {
 
     ghost state = { λ entries. entries.listed };
 
-    ghost holds = { λ entries offset. Unit {0} };
-
     // Reads the entry at an offset.
     #[inline(always)]
-    fn read_record<S: Source>(
-        &mut self,
-        source: &mut S,
-        offset: u64,
-    ) -> Result<Found<ImageSize>, Halt> {
+    fn read_record<S: Source>(&mut self, source: &mut S, offset: u64) -> RecordResult<ImageSize> {
         read_next::<S, HEAD, VALUE>(&mut self.listed, source, offset)
     }
 
@@ -307,15 +301,9 @@ impl Records for Directory {
 
     ghost state = { λ directory. directory };
 
-    ghost holds = { λ directory offset. Unit {0} };
-
     // Reads the number of entries, or the entry at an offset.
     #[inline(always)]
-    fn read_record<S: Source>(
-        &mut self,
-        source: &mut S,
-        offset: u64,
-    ) -> Result<Found<ImageSize>, Halt> {
+    fn read_record<S: Source>(&mut self, source: &mut S, offset: u64) -> RecordResult<ImageSize> {
         match self {
             Directory::Count { header } => {
                 let header = *header;
@@ -343,7 +331,7 @@ impl Directory {
         source: &mut S,
         offset: u64,
         header: Header,
-    ) -> Result<Found<ImageSize>, Halt>
+    ) -> RecordResult<ImageSize>
         ensures nears { IfOk result (λ found. Nears (S.state source.old) (S.state source.new) offset (said_at self.new offset found)) }
         ensures stays { IfErr result (λ _. self.new ≡ self.old) }
         ensures runs { Follows (S.state source.old) (S.state source.new) (map_answer (said_at self.new offset) result)
@@ -362,7 +350,7 @@ fn read_listed<S: Source>(
     listed: &mut Listed,
     source: &mut S,
     offset: u64,
-) -> Result<Found<ImageSize>, Halt>
+) -> RecordResult<ImageSize>
     ensures nears { IfOk result (λ found. Nears (S.state source.old) (S.state source.new) offset (said_at listed.new offset found)) }
     ensures stays { IfErr result (λ _. listed.new ≡ listed.old) }
     ensures runs { Follows (S.state source.old) (S.state source.new) (map_answer (said_at listed.new offset) result)
@@ -392,7 +380,7 @@ fn read_next<S: Source, const HEAD: usize, const VALUE: usize>(
     listed: &mut Listed,
     source: &mut S,
     offset: u64,
-) -> Result<Found<ImageSize>, Halt>
+) -> RecordResult<ImageSize>
     requires head { HEAD ≡ head_bytes listed.old.version }
     requires value { VALUE ≡ value_bytes listed.old.version }
     ensures version { listed.new.version ≡ listed.old.version }

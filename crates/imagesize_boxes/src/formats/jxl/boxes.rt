@@ -13,7 +13,7 @@ ghost use Rattle.imagesize_source.specs.declared.endian.Endian.TheVariants as en
 use super::front::{Front, MOST};
 use imagesize_source::readings::{read_bytes_behind, read_exact_at, read_u64};
 use imagesize_source::source::Source;
-use imagesize_source::walk::{Found, Records, walk};
+use imagesize_source::walk::{Found, RecordResult, Records, walk};
 use imagesize_source::{Endian, Halt};
 use imagesize_types::size::ImageSize;
 
@@ -92,11 +92,7 @@ impl Records for Boxes {
     // Reads the box at an offset.
     #[inline(always)]
     #[tactic(auto, using(imagesize_source::proofs::Runs::steps, imagesize_source::proofs::Layouts::binding))]
-    fn read_record<S: Source>(
-        &mut self,
-        source: &mut S,
-        offset: u64,
-    ) -> Result<Found<ImageSize>, Halt> {
+    fn read_record<S: Source>(&mut self, source: &mut S, offset: u64) -> RecordResult<ImageSize> {
         match read_box(source, offset, self)? {
             Content::Codestream(front) => {
                 let size = front.size()?;
