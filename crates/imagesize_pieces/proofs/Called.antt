@@ -9,7 +9,7 @@ use Rattle.imagesize_source.specs.Reading.{Reads, is_faulted, is_stopped, uncoun
 use Rattle.imagesize_source.specs.Sharing.{Shares}
 use Rattle.imagesize_source.specs.State.{State, Frame, Runs, EndedBy, parts_of}
 use Rattle.imagesize_source.proofs.KnownReadings.{past-parts}
-use Rattle.imagesize_pieces.specs.Stream.{Says, came, start_of, stream_state}
+use Rattle.imagesize_pieces.specs.Stream.{Says, came, stream_state}
 use Rattle.imagesize_pieces.specs.contracts.arrived.ArrivedKnown.TheImpl.{ghosts}
 use Rattle.imagesize_pieces.specs.declared.arrived.Arrived.{Arrived}
 use Rattle.imagesize_source.specs.declared.source.known.KnownSource.{KnownSource}
@@ -52,6 +52,11 @@ first_end [] = 0
 first_end (s ∷ spans) = s.start + s.len
 
 -- A source in the state a was made of these bytes. The source b is that one after a call, and reads the same bytes.
+-- where the first span starts
+abbrev start_of : List Span → ℕ
+start_of [] = 0
+start_of (s ∷ spans) = s.start
+
 pub record Called (a : State) (b : ArrivedSource) (n low : ℕ) (kept unread : List ℕ) : Type 0 where
   pub new : a ≡ fresh b
   pub told : n ≡ b.told

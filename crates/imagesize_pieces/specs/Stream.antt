@@ -50,13 +50,9 @@ pub record Says {X : Type 0} (front : List ℕ) (told : ℕ) (reads : List ℕ �
   pub marks : List Span
   pub is : (d : List ℕ) → Begins front told d → uncounted (reads d) ≡ just answer marks
 
--- the n bytes from an offset on, as one span
-abbrev pub run_of : ℕ → ℕ → List Span
-run_of offset n = record { start = offset; len = n } ∷ []
-
 -- the span of the bytes from an offset on: those that were kept, and those of the next chunk after them
 abbrev pub came : ℕ → List ℕ → List ℕ → List Span
-came start kept chunk = run_of start (length kept + length chunk)
+came start kept chunk = record { start = start; len = length kept + length chunk } ∷ []
 
 -- the byte at an offset, or `None` if it is not one of them
 abbrev pub byte_at : ℕ → ℕ → List ℕ → List ℕ → ℕ → Option ℕ
@@ -80,14 +76,8 @@ stream_input told start kept chunk = input_of (known_of told start kept chunk)
 abbrev pub stream_state : ℕ → ℕ → List ℕ → List ℕ → List Span → Option Missing → State
 stream_state told start kept chunk seen missed = known_state (known_of told start kept chunk) seen missed
 
--- where the first span starts
-abbrev pub start_of : List Span → ℕ
-start_of [] = 0
-start_of (s ∷ spans) = s.start
-
--- The first `passed` bytes of an input of at most `told` bytes arrived. Those from `start` on are kept. The next record
--- of the walk, after the state s, is at `offset`. For every input that begins so, the reads are some spans, then those from that
--- record on.
+-- The first `passed` bytes of an input of at most `told` bytes arrived. Those from `start` on are kept. The walk's next record, after the
+-- state s, is at `offset`. For every input that begins so, the reads are some spans, then those from that record on.
 pub record Streams {S X : Type 0} (step : Step S X) (s : S) (start offset told passed : ℕ) (kept : List ℕ) (whole : List ℕ → Reads X)
     (front : List ℕ) : Type 0 where
   pub as_many : passed ≡ length front

@@ -3,7 +3,7 @@
 
 pub mod arrived;
 pub mod buffer;
-pub mod front;
+pub mod first;
 pub mod pending;
 pub mod stand;
 pub mod walk;

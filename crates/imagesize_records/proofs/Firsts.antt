@@ -4,7 +4,7 @@ use Rattle.imagesize.specs.Kind.{first_row, kind_by, with_compression}
 use Rattle.imagesize.specs.Meaning.{kind_reads}
 use Rattle.imagesize_records.specs.Streamed.{first_by, first_layout, type_behind}
 use Rattle.imagesize.specs.Types.{rows}
-use Rattle.imagesize_records.specs.declared.front.First.TheVariants as first
+use Rattle.imagesize_records.specs.declared.opening.First.TheVariants as first
 use Rattle.imagesize.specs.declared.types.ImageType.{ImageType}
 use Rattle.imagesize_fixed.specs.Tga.{is_tga}
 use Rattle.imagesize_source.specs.Input.{span_of}

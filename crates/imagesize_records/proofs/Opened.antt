@@ -17,8 +17,8 @@ use Rattle.imagesize_records.specs.Steps.{step}
 use Rattle.imagesize_records.specs.Streamed.{jxl_opened, opening, opening_by, opening_records, opens_at, IfRecorded}
 use Rattle.imagesize_records.specs.declared.awaited.Awaited.{Awaited}
 use Rattle.imagesize_records.specs.declared.awaited.Awaited.TheVariants.{Exr, Hdr, Heif, Ico, Ilbm, Jpeg, Jxl, Pnm, Tiff}
-use Rattle.imagesize_records.specs.declared.front.Opening.{Opening}
-use Rattle.imagesize_records.specs.declared.front.Opening.TheVariants as opened
+use Rattle.imagesize_records.specs.declared.opening.Opening.{Opening}
+use Rattle.imagesize_records.specs.declared.opening.Opening.TheVariants as opened
 use Rattle.imagesize_records.proofs.Firsts.{seen_from}
 use Rattle.imagesize_records.proofs.Steps.{step_follows}
 use Rattle.imagesize_boxes.proofs.Heif.{heif_follows, heif_is}

@@ -25,7 +25,7 @@ use Rattle.imagesize_records.specs.Steps.{is_text, step}
 use Rattle.imagesize_records.specs.Streamed.{first_by, first_layout, jxl_opened, opening}
 use Rattle.imagesize_records.specs.declared.awaited.Awaited.{Awaited}
 use Rattle.imagesize_records.specs.declared.awaited.Awaited.TheVariants as awaited
-use Rattle.imagesize_records.specs.declared.front.First.TheVariants as first
+use Rattle.imagesize_records.specs.declared.opening.First.TheVariants as first
 use Rattle.imagesize_types.specs.declared.size.ImageSize.{ImageSize}
 use Rattle.imagesize_walked.specs.Ico.{icon_answer, icon_entry}
 use Rattle.imagesize_walked.specs.Tiff.{stated_offset, tiff_entry, tiff_head, tiff_header, tiff_value}

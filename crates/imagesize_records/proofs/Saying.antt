@@ -13,8 +13,8 @@ use Rattle.imagesize_records.specs.declared.awaited.Awaited.TheVariants as await
 use Rattle.imagesize_boxes.specs.Jxl.{jxl_start}
 use Rattle.imagesize_records.specs.Steps.{IsSteady, is_text}
 use Rattle.imagesize_records.specs.Streamed.{jxl_opened, opening, opens_at}
-use Rattle.imagesize_records.specs.declared.front.Opening.{Opening}
-use Rattle.imagesize_records.specs.declared.front.Opening.TheVariants as opened
+use Rattle.imagesize_records.specs.declared.opening.Opening.{Opening}
+use Rattle.imagesize_records.specs.declared.opening.Opening.TheVariants as opened
 
 -- the record that the first bytes tell stands well, and is a text if the format has texts
 abbrev pub OpensSteady : Bool → Opening → Type 0

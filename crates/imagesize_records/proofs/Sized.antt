@@ -10,8 +10,8 @@ use Rattle.imagesize_source.specs.State.{State, Follows}
 use Rattle.imagesize_source.specs.Way.{Way, Fixed, Recorded, Texts}
 use Rattle.imagesize_source.specs.declared.halt.Halt.{Halt}
 use Rattle.imagesize_records.specs.Streamed.{sized, IfFixed}
-use Rattle.imagesize_records.specs.declared.front.Opening.{Opening}
-use Rattle.imagesize_records.specs.declared.front.Opening.TheVariants as opened
+use Rattle.imagesize_records.specs.declared.opening.Opening.{Opening}
+use Rattle.imagesize_records.specs.declared.opening.Opening.TheVariants as opened
 use Rattle.imagesize_types.specs.declared.size.ImageSize.{ImageSize}
 
 -- a size at fixed offsets is all that the first bytes say of it

@@ -15,10 +15,10 @@ use Rattle.imagesize_boxes.specs.Jxl.{jxl_size, jxl_start}
 use Rattle.imagesize_boxes.specs.Walks.{heif_open, no_boxes}
 use Rattle.imagesize_records.specs.declared.awaited.Awaited.{Awaited}
 use Rattle.imagesize_records.specs.declared.awaited.Awaited.TheVariants.{Exr, Hdr, Heif, Ico, Ilbm, Jpeg, Jxl, Pnm, Tiff}
-use Rattle.imagesize_records.specs.declared.front.First.{First}
-use Rattle.imagesize_records.specs.declared.front.First.TheVariants as first
-use Rattle.imagesize_records.specs.declared.front.Opening.{Opening}
-use Rattle.imagesize_records.specs.declared.front.Opening.TheVariants as opened
+use Rattle.imagesize_records.specs.declared.opening.First.{First}
+use Rattle.imagesize_records.specs.declared.opening.First.TheVariants as first
+use Rattle.imagesize_records.specs.declared.opening.Opening.{Opening}
+use Rattle.imagesize_records.specs.declared.opening.Opening.TheVariants as opened
 use Rattle.imagesize_texts.specs.Exr.{exr_open}
 use Rattle.imagesize_texts.specs.Hdr.{hdr_open}
 use Rattle.imagesize_texts.specs.declared.formats.pnm.Part.TheVariants.{Word}

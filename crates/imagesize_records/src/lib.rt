@@ -2,5 +2,5 @@
 #![tactic(auto)]
 
 pub mod awaited;
-pub mod front;
+pub mod opening;
 pub mod records;

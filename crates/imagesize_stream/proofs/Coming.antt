@@ -1,6 +1,7 @@
 -- What more bytes leave of what the bytes so far tell.
 use Rattle.std.proofs.Common.{◌≡◌, ℕ, ◌+◌, ◌-◌, ◌≤◌, Bool, List, ◌++◌, length, take, Option, Some, None, Result, Ok, refl, sym, ap, ◌∙◌, arith}
 use Rattle.std.proofs.lemmas.List.{length-append, length-take}
+use Rattle.std.specs.Prelude.{IfSome}
 use Rattle.std.specs.Result.{result_ok}
 use Rattle.imagesize.specs.Meaning.{kind_reads, meaning_reads}
 use Rattle.imagesize.specs.Parted.{has_texts, texts_as, texts_of}
@@ -16,21 +17,21 @@ use Rattle.imagesize_records.proofs.Opened.{opened_rest}
 use Rattle.imagesize_records.specs.Steps.{is_text}
 use Rattle.imagesize_records.specs.Streamed.{opening}
 use Rattle.imagesize_records.specs.declared.awaited.Awaited.{Awaited}
-use Rattle.imagesize_records.specs.declared.front.Opening.TheVariants as opened
+use Rattle.imagesize_records.specs.declared.opening.Opening.TheVariants as opened
 use Rattle.imagesize_stream.specs.declared.stage.Stage.{Stage}
 use Rattle.imagesize_stream.specs.declared.stage.Stage.TheVariants.{Records}
 use Rattle.imagesize_source.specs.Reading.{Reads, uncounted}
 use Rattle.imagesize_source.specs.declared.halt.Halt.{Halt}
 use Rattle.imagesize_stream.specs.Heard.{SizeIs, TypeIs, TypeMissing}
-use Rattle.imagesize_stream.specs.Probe.{CameBy, CameTo, IfAwaiting, TypeSays, texts_by}
+use Rattle.imagesize_stream.specs.Probe.{CameBy, CameTo, IfAwaiting, texts_by}
 use Rattle.imagesize_types.specs.declared.size.ImageSize.{ImageSize}
 
 pub type_on : (front chunk : List ℕ) (told now : ℕ) (kind : Option ImageType) → now ≡ told → TypeIs front told kind
     → TypeIs (front ++ chunk) now kind
 type_on front chunk told now kind same is d begins = is d (begins_left front chunk told d (rw same at begins))
 
-pub says_on : (front chunk : List ℕ) (told : ℕ) (kind : Option ImageType) → TypeSays front told kind
-    → TypeSays (front ++ chunk) told kind
+pub says_on : (front chunk : List ℕ) (told : ℕ) (kind : Option ImageType) → IfSome kind (λ type. TypeIs front told (Some type))
+    → IfSome kind (λ type. TypeIs (front ++ chunk) told (Some type))
 says_on front chunk told None says = tt
 says_on front chunk told (Some type) says = type_on front chunk told told (Some type) refl says
 

@@ -29,8 +29,8 @@ use Rattle.imagesize_stream.specs.Heard.{IsByFooter, RestsOnMore, SizeIs, TypeIs
 use Rattle.imagesize_stream.specs.Probe.{CameTo}
 use Rattle.imagesize_stream.specs.declared.stage.Stage.TheVariants.{Footer}
 use Rattle.imagesize_records.specs.Streamed.{first_by, first_layout}
-use Rattle.imagesize_records.specs.declared.front.First.{First}
-use Rattle.imagesize_records.specs.declared.front.First.TheVariants as first
+use Rattle.imagesize_records.specs.declared.opening.First.{First}
+use Rattle.imagesize_records.specs.declared.opening.First.TheVariants as first
 use Rattle.imagesize_types.specs.declared.size.ImageSize.{ImageSize}
 
 bytes_sure : (d : List ℕ) (offset k : ℕ) → offset + k ≤ length d → bytes_at d offset k ≡ Ok (part d offset k)

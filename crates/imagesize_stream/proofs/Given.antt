@@ -11,12 +11,12 @@ use Rattle.imagesize.specs.declared.types.ImageType.TheVariants.{Tga}
 use Rattle.imagesize_fixed.specs.Tga.{is_tga_footer}
 use Rattle.imagesize_pieces.proofs.Beginning.{begins_all, begins_left}
 use Rattle.imagesize_pieces.proofs.Needing.{needs_among, needs_wider}
-use Rattle.imagesize_pieces.specs.Stream.{Begins, EndsAt, NeedsAmong}
+use Rattle.imagesize_pieces.specs.Stream.{AllBelow, Begins, EndsAt, NeedsAmong}
 use Rattle.imagesize_pieces.specs.declared.stand.Stand.{Stand}
 use Rattle.imagesize_source.specs.Input.{part}
 use Rattle.imagesize_source.specs.declared.halt.Halt.TheVariants.{NotSupported}
 use Rattle.imagesize_source.specs.declared.span.Span.{Span}
-use Rattle.imagesize_stream.specs.Given.{DependsFrom, HasPart, IsGiven, KnownBy, MayBeAt}
+use Rattle.imagesize_stream.specs.Given.{HasPart, IsGiven, KnownBy, MayBeAt}
 use Rattle.imagesize_stream.specs.Heard.{IsByFooter, OutOfHeader}
 use Rattle.imagesize_stream.specs.Probe.{AheadBy, CameBy, CameTo, Continues, Counts, HoldsAt, HoldsBy, IfAwaiting, IsCut, IsNext, MarkedBy, NextBy, latest_by}
 use Rattle.imagesize_stream.specs.Pushed.{stage_answer}
@@ -156,8 +156,8 @@ known_behind stage kind start offset passed next end told buffer d as_long is ho
     ]
 
 pub depends_behind : (stage : Stage) (start offset passed next end : ℕ) (d : List ℕ) → next ≡ max passed start
-    → HoldsBy stage start offset passed → IfAwaiting stage (DependsFrom passed d)
-    → MarkedBy (texts_of d) stage start passed end (meaning_reads d 0).marks → IfAwaiting stage (DependsFrom next d)
+    → HoldsBy stage start offset passed → IfAwaiting stage (AllBelow passed (meaning_reads d 0).marks → ⊥)
+    → MarkedBy (texts_of d) stage start passed end (meaning_reads d 0).marks → IfAwaiting stage (AllBelow next (meaning_reads d 0).marks → ⊥)
 depends_behind stage start offset passed next end d is holds depends marked = grind arith
 
 -- where no record is next

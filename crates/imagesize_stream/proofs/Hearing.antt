@@ -24,10 +24,10 @@ use Rattle.imagesize_stream.specs.Heard.{RestsBetween, RestsOnMore, SizeIs, Type
 use Rattle.imagesize_records.specs.Steps.{IsSteady, is_text}
 use Rattle.imagesize_records.specs.Streamed.{first_layout, opening, type_behind}
 use Rattle.imagesize_records.specs.declared.awaited.Awaited.{Awaited}
-use Rattle.imagesize_records.specs.declared.front.First.{First}
-use Rattle.imagesize_records.specs.declared.front.First.TheVariants as first
-use Rattle.imagesize_records.specs.declared.front.Opening.{Opening}
-use Rattle.imagesize_records.specs.declared.front.Opening.TheVariants as opened
+use Rattle.imagesize_records.specs.declared.opening.First.{First}
+use Rattle.imagesize_records.specs.declared.opening.First.TheVariants as first
+use Rattle.imagesize_records.specs.declared.opening.Opening.{Opening}
+use Rattle.imagesize_records.specs.declared.opening.Opening.TheVariants as opened
 use Rattle.imagesize_types.specs.declared.size.ImageSize.{ImageSize}
 
 first_short : (d : List ℕ) → length d < 12 → (layout_reads d first_layout).answer ≡ Err Ended

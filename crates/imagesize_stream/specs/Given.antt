@@ -16,18 +16,13 @@ use Rattle.imagesize_stream.specs.declared.stage.Stage.TheVariants.{Done, Footer
 abbrev pub HasPart : List ℕ → ℕ → List ℕ → Type 0
 HasPart d offset bytes = take (length d - offset) bytes ≡ part d offset (length bytes)
 
--- What is known of the input, by the stage. The first bytes came, except those that are not needed. For a footer, the buffer has
--- those of the last 18 bytes that came.
+-- What is known of the input, by the stage. The first bytes came that are needed. For a footer, the buffer has those of the last 18.
 abbrev pub KnownBy : Stage → Option ImageType → ℕ → ℕ → ℕ → ℕ → List ℕ → List ℕ → Type 0
 KnownBy (Footer size) kind start offset passed told buffer d =
     IsByFooter size d × (drop (told - passed) (take 18 buffer) ≡ drop (told - 18) (take passed d))
 KnownBy (Done size) kind start offset passed told buffer d =
     (result_ok (kind_reads d 0).answer ≡ kind) × ((meaning_reads d 0).answer ≡ size)
 KnownBy stage kind start offset passed told buffer d = CameBy stage kind start offset passed told buffer (take passed d)
-
--- the size depends on a byte at this offset or after it
-abbrev pub DependsFrom : ℕ → List ℕ → Type 0
-DependsFrom offset d = AllBelow offset (meaning_reads d 0).marks → ⊥
 
 -- the input may be this one, by its length and the parts that were given
 pub record IsGiven (stage : Stage) (kind : Option ImageType) (stand : Stand) (buffer d : List ℕ) : Type 0 where
@@ -37,5 +32,5 @@ pub record IsGiven (stage : Stage) (kind : Option ImageType) (stand : Stand) (bu
 -- and depends on more, while there is no answer
 pub record MayBeAt (stage : Stage) (kind : Option ImageType) (stand : Stand) (buffer d : List ℕ) : Type 0 where
   pub given : IsGiven stage kind stand buffer d
-  pub depends : IfAwaiting stage (DependsFrom stand.passed d)
+  pub depends : IfAwaiting stage (AllBelow stand.passed (meaning_reads d 0).marks → ⊥)
   pub marked : MarkedBy (texts_of d) stage stand.start stand.passed stand.end (meaning_reads d 0).marks

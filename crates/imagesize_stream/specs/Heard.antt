@@ -15,7 +15,7 @@ use Rattle.imagesize_source.specs.declared.halt.Halt.TheVariants.{NotSupported}
 use Rattle.imagesize_types.specs.declared.size.ImageSize.{ImageSize}
 use Rattle.imagesize_records.specs.Steps.{IsSteady, is_text}
 use Rattle.imagesize_records.specs.Streamed.{opening}
-use Rattle.imagesize_records.specs.declared.front.Opening.TheVariants as opened
+use Rattle.imagesize_records.specs.declared.opening.Opening.TheVariants as opened
 use Rattle.imagesize_stream.specs.declared.stage.Stage.{Stage}
 use Rattle.imagesize_stream.specs.declared.stage.Stage.TheVariants.{Done, First, Footer, Records}
 

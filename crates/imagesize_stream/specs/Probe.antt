@@ -18,10 +18,6 @@ use Rattle.imagesize_stream.specs.declared.stage.Stage.{Stage}
 use Rattle.imagesize_stream.specs.declared.stage.Stage.TheVariants.{Done, First, Footer, Records}
 use Rattle.imagesize_types.specs.declared.size.ImageSize.{ImageSize}
 
--- a known type is the type of every input that begins so
-abbrev pub TypeSays : List ℕ → ℕ → Option ImageType → Type 0
-TypeSays front told kind = IfSome kind (λ type. TypeIs front told (Some type))
-
 -- whether the type is a text format
 abbrev pub texts_by : Option ImageType → Bool
 texts_by None = false
@@ -33,16 +29,16 @@ TypedBy First kind front told = TypeMissing kind front told
 TypedBy (Footer size) kind front told = TypeRests front told
 TypedBy _ kind front told = Unit {0}
 
--- These bytes arrived. By the stage, the buffer holds all of them, those from the position of the walk on, or the last
--- 18; or the result is known.
+-- These bytes arrived. By the stage, the buffer holds all, those from the walk's position on, or the last 18; or the result is known.
 abbrev pub CameBy : Stage → Option ImageType → ℕ → ℕ → ℕ → ℕ → List ℕ → List ℕ → Type 0
-CameBy First kind start offset passed told buffer front = (take passed buffer ≡ front) × TypeSays front told kind
+CameBy First kind start offset passed told buffer front = (take passed buffer ≡ front) × IfSome kind (λ type. TypeIs front told (Some type))
 CameBy (Records next) kind start offset passed told buffer front =
     TypeIs front told kind
     × Streams step next start offset told passed (take (passed - start) buffer) (λ d. meaning_reads d 0) front
     × (is_text next ≡ texts_by kind)
 CameBy (Footer size) kind start offset passed told buffer front =
-    (passed ≡ length front) × (take 18 buffer ≡ drop (length front - 18) front) × TypeSays front told kind
+    (passed ≡ length front) × (take 18 buffer ≡ drop (length front - 18) front)
+    × IfSome kind (λ type. TypeIs front told (Some type))
     × ((d : List ℕ) → Begins front told d → IsByFooter size d)
 CameBy (Done size) kind start offset passed told buffer front = TypeIs front told kind × SizeIs front told size × (length front ≤ told)
 

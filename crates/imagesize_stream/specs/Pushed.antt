@@ -27,10 +27,6 @@ stage_answer kind _ = None
 abbrev pub answer_of : StreamProbe → Option (Option ImageType × Result ImageSize ImageError)
 answer_of probe = stage_answer probe.kind probe.stage
 
--- the type, once it is known
-abbrev pub type_of : StreamProbe → Option ImageType
-type_of probe = probe.kind
-
 -- a probe after a call that kept and counted no bytes
 abbrev pub KeepsNothing : StreamProbe → StreamProbe → Type 0
 KeepsNothing old new = (new.stand ≡ old.stand) × (new.buffer ≡ old.buffer)

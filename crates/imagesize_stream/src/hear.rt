@@ -4,7 +4,7 @@ ghost use Rattle.imagesize_fixed.specs.Tga.{lacks_its_map};
 ghost use Rattle.imagesize.specs.Meaning.{kind_reads};
 ghost use Rattle.imagesize_pieces.specs.Stream.{Says};
 ghost use Rattle.imagesize_source.specs.Layout.{layout_reads};
-ghost use Rattle.imagesize_records.specs.declared.front.First.TheVariants as first;
+ghost use Rattle.imagesize_records.specs.declared.opening.First.TheVariants as first;
 ghost use Rattle.imagesize_records.specs.Streamed.{first_layout};
 ghost use Rattle.imagesize_stream.specs.Heard.{Hears};
 ghost use Rattle.imagesize_stream.specs.declared.stage.Stage.TheVariants as stage;
@@ -12,9 +12,9 @@ ghost use Rattle.imagesize_stream.specs.declared.stage.Stage.TheVariants as stag
 use crate::stage::Stage;
 use imagesize::ImageType;
 use imagesize_fixed::formats::tga::lacks_its_map;
-use imagesize_pieces::front::read_front;
+use imagesize_pieces::first::read_first;
 use imagesize_pieces::walk::is_faulted;
-use imagesize_records::front::{First, FirstBytes, FirstSize, Opening, TgaHeader, TgaSize};
+use imagesize_records::opening::{First, FirstBytes, FirstSize, Opening, TgaHeader, TgaSize};
 use imagesize_source::Halt;
 
 // How many first bytes the type is read from.
@@ -53,7 +53,7 @@ fn hear_type(into: &mut Stage, bytes: &[u8], told: u64) -> Heard
     ensures hears { Hears bytes.now told result.0 into.new result.1 }
     ensures head { length bytes.now < 12 → into.new ≡ stage.First → result.1 ≤ 12 }
 {
-    let (found, end) = read_front(&FirstBytes, bytes, told);
+    let (found, end) = read_first(&FirstBytes, bytes, told);
     if is_faulted(&found) {
         return (None, end);
     }
@@ -75,7 +75,7 @@ fn hear_size(into: &mut Stage, image: ImageType, bytes: &[u8], told: u64) -> Hea
     requires short { told < 2 ^ 63 }
     ensures { Hears bytes.now told result.0 into.new result.1 }
 {
-    let (found, end) = read_front(&FirstSize { image }, bytes, told);
+    let (found, end) = read_first(&FirstSize { image }, bytes, told);
     if is_faulted(&found) {
         return (Some(image), end);
     }
@@ -111,11 +111,11 @@ fn hear_tga(into: &mut Stage, head: &[u8; 12], bytes: &[u8], told: u64) -> Heard
     if bytes.len() < 18 {
         return (None, 18);
     }
-    let (sound, end) = read_front(&TgaHeader { head: *head }, bytes, told);
+    let (sound, end) = read_first(&TgaHeader { head: *head }, bytes, told);
     let Ok(sound) = sound else {
         return (None, end);
     };
-    let (size, end) = read_front(&TgaSize, bytes, told);
+    let (size, end) = read_first(&TgaSize, bytes, told);
     let Ok(size) = size else {
         return (None, end);
     };

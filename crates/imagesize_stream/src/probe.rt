@@ -57,7 +57,7 @@ pub struct StreamProbe {
 }
 
 impl StreamProbe {
-    ghost use Rattle.imagesize_stream.specs.Pushed.{Came, KeepsNothing, TakesIn, answer_of, told_of, type_of};
+    ghost use Rattle.imagesize_stream.specs.Pushed.{Came, KeepsNothing, TakesIn, answer_of, told_of};
 
     /// Begins an input of `total` bytes, or of unknown length. Bytes past that length do not count.
     pub fn new(total: Option<u64>) -> StreamProbe
@@ -108,7 +108,7 @@ impl StreamProbe {
         ensures whole { result ≡ None → (front : List ℕ) → Came self.old front → told_of self.old ≤ length front + length chunk.now → ⊥ }
 
         // The type is known once an input of the reported length that begins with these bytes has it by them alone.
-        ensures typed { type_of self.new ≡ None → (front : List ℕ) → Came self.old front → (d : List ℕ)
+        ensures typed { self.new.kind ≡ None → (front : List ℕ) → Came self.old front → (d : List ℕ)
             → Begins (front ++ take (told_of self.old - length front) chunk.now) (told_of self.old) d → length d ≡ told_of self.old
             → AllBelow (length front + length (take (told_of self.old - length front) chunk.now)) (kind_of d 0).marks
             → result_ok (kind_of d 0).answer ≡ None }
@@ -126,7 +126,7 @@ impl StreamProbe {
     /// The type, once it is known.
     pub fn kind(&self) -> Option<ImageType>
         // The type that `typed` of `push` speaks of.
-        ensures is { result ≡ type_of self.now }
+        ensures is { result ≡ self.now.kind }
         ensures answered { IfSome (answer_of self.now) (λ answer. result ≡ answer.0) }
         ensures says { (front : List ℕ) → Came self.now front → IfSome result (λ kind. (d : List ℕ) → Begins front (told_of self.now) d
             → result_ok (kind_of d 0).answer ≡ Some kind) }

@@ -21,7 +21,7 @@ use imagesize_fixed::formats::tga::{has_sound_header, may_be_tga};
 use imagesize_fixed::formats::{
     aseprite, astc, atc, bmp, dds, farbfeld, gif, ktx2, pkm, psd, pvrtc, qoi, tga, vtf, webp,
 };
-use imagesize_pieces::front::Fixed;
+use imagesize_pieces::first::Fixed;
 use imagesize_source::Halt;
 use imagesize_source::readings::read_exact_at;
 use imagesize_source::source::Source;

@@ -11,9 +11,9 @@ use Rattle.imagesize_pieces.proofs.Asking.{Left, depends, ends_left, few_left, n
 use Rattle.imagesize_pieces.proofs.Beginning.{ArrivedSource, Holds, arrived_input}
 use Rattle.imagesize_pieces.proofs.Called.{Called, called, fresh, goes_on, arrived_source, holds_after, is_honest, says_begun, state_of}
 use Rattle.imagesize_pieces.proofs.Needing.{needs_wider}
-use Rattle.imagesize_pieces.proofs.front.read_front.Given.{Over}
-use Rattle.imagesize_pieces.proofs.front.read_front.Goals.{After-read-found}
-use Rattle.imagesize_pieces.proofs.front.read_front.Goals as goal
+use Rattle.imagesize_pieces.proofs.first.read_first.Given.{Over}
+use Rattle.imagesize_pieces.proofs.first.read_first.Goals.{After-read-found}
+use Rattle.imagesize_pieces.proofs.first.read_first.Goals as goal
 
 -- the value over the first bytes, of which all are kept
 module _ (g : Over) (c : After-read-found g) where

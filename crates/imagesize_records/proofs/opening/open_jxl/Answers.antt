@@ -2,7 +2,7 @@ use Rattle.std.proofs.Common.{sym, ◌∙◌, arith}
 use Rattle.imagesize_boxes.proofs.JxlBoxes.{plain_size}
 use Rattle.imagesize_source.proofs.Layouts.{binding}
 use Rattle.imagesize_source.proofs.Runs.{missed_before, steps}
-use Rattle.imagesize_records.proofs.front.open_jxl.Goals as goal
+use Rattle.imagesize_records.proofs.opening.open_jxl.Goals as goal
 
 pub returns-in_err-size-in-Some : goal.returns-in_err-size-in-Some
 returns-in_err-size-in-Some g c =

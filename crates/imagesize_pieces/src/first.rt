@@ -26,7 +26,7 @@ pub trait Fixed {
 
 /// Reads the value from the first bytes of an input of at most `told` bytes. The read fails if a byte that it needs is missing.
 /// Also returns the offset after the last byte that a failed read requests.
-pub fn read_front<F: Fixed>(fixed: &F, bytes: &[u8], told: u64) -> (Result<F::Answer, Halt>, u64)
+pub fn read_first<F: Fixed>(fixed: &F, bytes: &[u8], told: u64) -> (Result<F::Answer, Halt>, u64)
     requires fits { length bytes.now ≤ told }
     requires short { told < 2 ^ 63 }
     ensures says { is_faulted result.0 ≡ false → Says bytes.now told (λ d. layout_reads d (F.layout fixed.now)) result.0 }

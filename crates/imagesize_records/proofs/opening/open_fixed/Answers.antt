@@ -1,7 +1,7 @@
 use Rattle.std.proofs.Common.{Ok, Err, rules}
 use Rattle.imagesize.specs.Types.{way_of}
 use Rattle.imagesize_records.proofs.Sized.{fixed_as}
-use Rattle.imagesize_records.proofs.front.open_fixed.Goals as goal
+use Rattle.imagesize_records.proofs.opening.open_fixed.Goals as goal
 
 pub returns-in_err-size : goal.returns-in_err-size
 returns-in_err-size g c =
