@@ -29,6 +29,8 @@ use std::rt::Files;
 /// assert_eq!((size.width, size.height), (100, 100));
 /// ```
 pub fn size<F: Files, P: AsPath + Drop>(rt: &F, alloc: Global, path: P) -> ImageResult<ImageSize>
+    ensures memory { IfErr result (λ e. is_memory e ≡ false) }
+
     // A spent budget is the reported length plus 64.
     ensures spent { IfErr result (λ e. IfSome (budget_spent e) (λ budget. allowance ≤ budget)) }
 {
