@@ -18,7 +18,7 @@ use std::rt::Files;
 
 /// Reads the size in pixels of the image in the file at a path, block by block.
 ///
-/// A block of at most 4,096 bytes needs no allocation. A longer one is allocated, where there is memory.
+/// Only a block of more than 4,096 bytes is allocated. If there is no memory for it, blocks have at most 4,096 bytes.
 ///
 /// Errors: those of `reader_size`, and `Fault` if the file cannot be opened.
 ///

@@ -75,7 +75,8 @@ pub fetched : {R : Type 0} (remaining : R → Option (List ℕ)) (known : Option
     → held_of old ≡ []
     → Consumes known (remaining read.file) (take count (bytes_in read.block.memory)) → (count ≡ 0 → IsAtEnd (remaining read.file))
     → read.block.filled ≡ count → read.block.start ≡ old.offset
-    → read.block.front.items ≡ kept_window old.block.front.items old.offset (take count (bytes_in read.block.memory)) → read.offset ≡ old.offset
+    → read.block.front.items ≡ kept_window old.block.front.items old.offset (take count (bytes_in read.block.memory))
+    → read.offset ≡ old.offset
     → n ≡ min (length buffer) (length (held_of read)) → take n buffer ≡ take n (held_of read)
     → left.file ≡ read.file → left.block ≡ read.block → left.offset ≡ read.offset + n
     → ReadConsumes {E = Stop} known (prepend_known (held_of left) (remaining left.file)) (Ok n) buffer
@@ -102,12 +103,15 @@ fetched remaining known old read left buffer count n none reads at_end filled st
 pub lost : {R : Type 0} (old new : FileReader R) → length (held_of old) ≡ 0 → new.offset ≡ old.offset → new.block.front ≡ old.block.front
     → (new.block ≡ old.block) ⊎ (new.block.filled ≡ 0) → held_of new ≡ []
 lost old new few at front (inl same) = rw (same, at) (drop_all 0 (held_of old) (omega (arith, few)))
-lost old new few at front (inr zero) =
-    by_place (is_inside new.block.start (length (take new.block.filled (bytes_in new.block.memory))) new.offset) refl where
-      by_place : (b : Bool) → is_inside new.block.start (length (take new.block.filled (bytes_in new.block.memory))) new.offset ≡ b
-          → cond b (drop (new.offset - new.block.start) (take new.block.filled (bytes_in new.block.memory))) (drop new.offset new.block.front.items) ≡ []
-      by_place true is = absurd (grind (arith, nat_tests, length-take new.block.filled (bytes_in new.block.memory), zero))
-      by_place false is =
-          let none = drop_all 0 (held_of old) (omega (arith, few)) in
-          let behind = behind_front (take old.block.filled (bytes_in old.block.memory)) old.block.front.items old.block.start old.offset none in
-          rw (at, front) (drop_all old.offset old.block.front.items behind)
+lost old new few at front (inr zero) = by_place (is_inside new.block.start (length block) new.offset) refl where
+  block : List ℕ
+  block = take new.block.filled (bytes_in new.block.memory)
+
+  by_place : (b : Bool) → is_inside new.block.start (length block) new.offset ≡ b
+      → cond b (drop (new.offset - new.block.start) block) (drop new.offset new.block.front.items) ≡ []
+  by_place true is = absurd (grind (arith, nat_tests, length-take new.block.filled (bytes_in new.block.memory), zero))
+  by_place false is =
+      let none = drop_all 0 (held_of old) (omega (arith, few)) in
+      let before = take old.block.filled (bytes_in old.block.memory) in
+      let behind = behind_front before old.block.front.items old.block.start old.offset none in
+      rw (at, front) (drop_all old.offset old.block.front.items behind)

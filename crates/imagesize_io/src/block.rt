@@ -21,9 +21,9 @@ static ZEROES: [u8; FIRST] = [0; FIRST];
 // The memory of a block.
 #[derive(Drop)]
 enum Memory<'a> {
-    // An array of the caller. It saves an allocation.
+    // The caller's array, which saves an allocation.
     Borrowed(&'a mut [u8; FIRST]),
-    // It has room for the longest block from the start. Zeroes are written to the second half only if such a block is read.
+    // Allocated with capacity for the longest block. Zeroes are written to its second half only if such a block is read.
     Owned(Vec<u8>),
 }
 
@@ -54,8 +54,8 @@ pub struct Block<'a> {
 }
 
 impl<'a> Block<'a> {
-    /// An empty block in memory of the caller. If a longer block is read, memory is allocated for it. If it cannot be allocated, blocks
-    /// stay short.
+    /// An empty block in the caller's array. A block of more than 4,096 bytes is read into memory that is allocated for it. If that
+    /// cannot be allocated, blocks have at most 4,096 bytes.
     pub fn borrowed(alloc: Global, memory: &'a mut [u8; FIRST]) -> Self
         ensures empty { (result.filled ≡ 0) × (result.front.items ≡ []) }
     {
@@ -123,7 +123,7 @@ impl<'a> Block<'a> {
         most.min(self.memory.bytes().len())
     }
 
-    // Makes the block as long as the longest one, if there is memory.
+    // Makes a block of 4,096 bytes as long as the longest one, if there is memory.
     fn lengthen(&mut self)
         requires { self.old.filled ≡ 0 }
         ensures filled { self.new.filled ≡ 0 }

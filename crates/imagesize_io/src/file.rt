@@ -61,7 +61,8 @@ impl<'a, R: Read + Seek + Drop> FileReader<'a, R> {
         Ok(FileReader::over(block, file, length))
     }
 
-    /// Wraps a file as `new` does, with the block of an earlier reader. It allocates nothing.
+    /// Wraps a file as `new` does, with a block of `Block::borrowed` or of an earlier reader. It allocates nothing. A read may, if the
+    /// block is borrowed.
     pub fn over(mut block: Block<'a>, file: R, length: Option<u64>) -> Self
         ensures file { result.file ≡ file }
         ensures start { (result.position ≡ Some 0) × (result.offset ≡ 0) }
@@ -94,7 +95,8 @@ impl<'a, R: Read + Seek + Drop> FileReader<'a, R> {
         ensures keeps { self.old.position ≡ Some self.old.offset
             → IfErr result (λ _. Keeps (R.remaining self.old.file) (R.remaining self.new.file)) }
         ensures block { IfOk result (λ n. (self.new.block.filled ≡ n) × (self.new.block.start ≡ self.old.offset)
-            × (self.new.block.front.items ≡ kept_window self.old.block.front.items self.old.offset (take n (bytes_in self.new.block.memory)))) }
+            × (self.new.block.front.items ≡ kept_window self.old.block.front.items self.old.offset
+            (take n (bytes_in self.new.block.memory)))) }
         ensures position { IfOk result (λ n. self.new.position ≡ Some (self.old.offset + n)) }
         ensures unknown { IfErr result (λ _. self.new.position ≡ None) }
         ensures fails { IfErr result (λ _. (self.new.block.front ≡ self.old.block.front)

@@ -46,17 +46,17 @@ fresh s = stream_state s.told s.start s.kept s.chunk [] None
 abbrev parts : Frame → ℕ × (List Span × List ℕ)
 parts f = (f.told, unwrap_or (parts_of f.backing) ([], []))
 
+-- where the first span starts
+abbrev start_of : List Span → ℕ
+start_of [] = 0
+start_of (s ∷ spans) = s.start
+
 -- where the first span ends
 abbrev first_end : List Span → ℕ
 first_end [] = 0
 first_end (s ∷ spans) = s.start + s.len
 
 -- A source in the state a was made of these bytes. The source b is that one after a call, and reads the same bytes.
--- where the first span starts
-abbrev start_of : List Span → ℕ
-start_of [] = 0
-start_of (s ∷ spans) = s.start
-
 pub record Called (a : State) (b : ArrivedSource) (n low : ℕ) (kept unread : List ℕ) : Type 0 where
   pub new : a ≡ fresh b
   pub told : n ≡ b.told

@@ -76,12 +76,12 @@ fn has_begun(bytes: &[u8]) -> bool
     count > 0 && !bytes[count - 1].is_ascii_whitespace()
 }
 
-/// Whether neither the kept bytes nor the chunk after them end the text. The first `searched` bytes do not.
+/// Whether neither the kept bytes nor the chunk after them end the text. The first `searched` kept bytes do not.
 #[inline(always)]
 pub fn is_pending(text: Text, searched: usize, kept: &[u8], chunk: &[u8]) -> bool
     requires within { searched ≤ length kept.now }
     requires unended { is_ended text (take searched kept.now) ≡ false }
-    ensures { result ≡ true → is_ended text (kept.now ++ chunk.now) ≡ false }
+    ensures { result ≡ not (is_ended text (kept.now ++ chunk.now)) }
 {
     if searched < kept.len() && !stays_pending(text, &kept[..searched], &kept[searched..]) {
         return false;

@@ -157,7 +157,8 @@ known_behind stage kind start offset passed next end told buffer d as_long is ho
 
 pub depends_behind : (stage : Stage) (start offset passed next end : ℕ) (d : List ℕ) → next ≡ max passed start
     → HoldsBy stage start offset passed → IfAwaiting stage (AllBelow passed (meaning_reads d 0).marks → ⊥)
-    → MarkedBy (texts_of d) stage start passed end (meaning_reads d 0).marks → IfAwaiting stage (AllBelow next (meaning_reads d 0).marks → ⊥)
+    → MarkedBy (texts_of d) stage start passed end (meaning_reads d 0).marks
+    → IfAwaiting stage (AllBelow next (meaning_reads d 0).marks → ⊥)
 depends_behind stage start offset passed next end d is holds depends marked = grind arith
 
 -- where no record is next

@@ -16,7 +16,7 @@ use Rattle.imagesize_stream.specs.declared.stage.Stage.TheVariants.{Done, Footer
 abbrev pub HasPart : List ℕ → ℕ → List ℕ → Type 0
 HasPart d offset bytes = take (length d - offset) bytes ≡ part d offset (length bytes)
 
--- What is known of the input, by the stage. The first bytes came that are needed. For a footer, the buffer has those of the last 18.
+-- What is known of the input, by the stage. The first bytes that are needed came. For a footer, the buffer has those of the last 18.
 abbrev pub KnownBy : Stage → Option ImageType → ℕ → ℕ → ℕ → ℕ → List ℕ → List ℕ → Type 0
 KnownBy (Footer size) kind start offset passed told buffer d =
     IsByFooter size d × (drop (told - passed) (take 18 buffer) ≡ drop (told - 18) (take passed d))

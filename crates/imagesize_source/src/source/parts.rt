@@ -159,7 +159,7 @@ impl Known for Parts<'_> {
         self.told
     }
 
-    // Nearly all reads lie in `front`. A branch saves a record 8 to 15 instructions beside the minimum that `bytes_behind` takes.
+    // The bytes of `front` from an offset on. Nearly all reads lie there, so a branch costs less than the minimum of `bytes_behind`.
     #[inline(always)]
     fn near(&self, offset: u64) -> &[u8] {
         let start = offset as usize;
