@@ -7,7 +7,6 @@ ghost use Rattle.imagesize_io.specs.ReaderState.{kept_window};
 use crate::window::{Window, keep};
 use std::alloc::{AllocError, Global};
 use std::io::{self, Read};
-use std::mem;
 
 /// How many bytes the first block of a file has at most, and one after a seek.
 pub const FIRST: usize = 4096;
@@ -20,11 +19,12 @@ static ZEROES: [u8; FIRST] = [0; FIRST];
 
 // The memory of a block.
 #[derive(Drop)]
-enum Memory<'a> {
-    // The caller's array, which saves an allocation.
-    Borrowed(&'a mut [u8; FIRST]),
-    // Allocated with capacity for the longest block. Zeroes are written to its second half only if such a block is read.
-    Owned(Vec<u8>),
+struct Memory<'a> {
+    // The caller's array, which saves an allocation, or nothing.
+    borrowed: &'a mut [u8],
+    // Used once it is not empty. It has capacity for the longest block. Zeroes are written to its second half only if such a block is
+    // read.
+    owned: Vec<u8>,
 }
 
 impl Memory<'_> {
@@ -32,17 +32,27 @@ impl Memory<'_> {
     fn bytes(&self) -> &[u8]
         ensures { result.now ≡ bytes_in self.now }
     {
-        match self {
-            Memory::Borrowed(bytes) => bytes.as_slice(),
-            Memory::Owned(bytes) => bytes.as_slice(),
+        if self.owned.is_empty() {
+            self.borrowed
+        } else {
+            self.owned.as_slice()
         }
+    }
+
+    // Makes memory for a short block as long as for the longest one, if it can be allocated.
+    fn lengthen(&mut self)
+        ensures { 0 < length (bytes_in self.old) → 0 < length (bytes_in self.new) }
+    {
+        if self.owned.is_empty() && add_half(&mut self.owned).is_err() {
+            return;
+        }
+        let _ = add_half(&mut self.owned);
     }
 }
 
 /// A block of a file, and the first bytes of the file. One serves the readers of many files, one after another.
 #[derive(Drop)]
 pub struct Block<'a> {
-    alloc: Global,
     // The first `filled` bytes lie at the offset `start` of the file.
     memory: Memory<'a>,
     filled: usize,
@@ -56,10 +66,13 @@ pub struct Block<'a> {
 impl<'a> Block<'a> {
     /// An empty block in the caller's array. A block of more than 4,096 bytes is read into memory that is allocated for it. If that
     /// cannot be allocated, blocks have at most 4,096 bytes.
-    pub fn borrowed(alloc: Global, memory: &'a mut [u8; FIRST]) -> Self
+    pub fn borrowed(alloc: Global, array: &'a mut [u8; FIRST]) -> Self
         ensures empty { (result.filled ≡ 0) × (result.front.items ≡ []) }
     {
-        Block::empty(alloc, Memory::Borrowed(memory))
+        Block::empty(Memory {
+            borrowed: array,
+            owned: Vec::new(alloc),
+        })
     }
 
     // An empty block in memory of its own.
@@ -68,15 +81,19 @@ impl<'a> Block<'a> {
     pub(crate) fn new(alloc: Global) -> Result<Self, AllocError>
         ensures empty { IfOk result (λ b. (b.filled ≡ 0) × (b.front.items ≡ [])) }
     {
-        Ok(Block::empty(alloc, Memory::Owned(half(alloc)?)))
+        let mut owned = Vec::new(alloc);
+        add_half(&mut owned)?;
+        Ok(Block::empty(Memory {
+            borrowed: &mut [],
+            owned,
+        }))
     }
 
-    fn empty(alloc: Global, memory: Memory<'a>) -> Self
+    fn empty(memory: Memory<'a>) -> Self
         requires { 0 < length (bytes_in memory) }
         ensures { (result.filled ≡ 0) × (result.front.items ≡ []) }
     {
         Block {
-            alloc,
             memory,
             filled: 0,
             start: 0,
@@ -118,26 +135,9 @@ impl<'a> Block<'a> {
         ensures front { self.new.front ≡ self.old.front }
     {
         if most > self.memory.bytes().len() {
-            self.lengthen();
+            self.memory.lengthen();
         }
         most.min(self.memory.bytes().len())
-    }
-
-    // Makes a block of 4,096 bytes as long as the longest one, if there is memory.
-    fn lengthen(&mut self)
-        requires { self.old.filled ≡ 0 }
-        ensures filled { self.new.filled ≡ 0 }
-        ensures start { self.new.start ≡ self.old.start }
-        ensures front { self.new.front ≡ self.old.front }
-    {
-        if let Memory::Borrowed(_) = self.memory
-            && let Ok(bytes) = half(self.alloc)
-        {
-            let _borrowed = mem::replace(&mut self.memory, Memory::Owned(bytes));
-        }
-        if let Memory::Owned(bytes) = &mut self.memory {
-            let _ = bytes.extend_from_slice(&ZEROES);
-        }
     }
 
     // Reads at most `most` bytes from a file that is at `offset`, and returns how many it read.
@@ -160,9 +160,11 @@ impl<'a> Block<'a> {
     {
         self.filled = 0;
         let most = self.room(most);
-        let count = match &mut self.memory {
-            Memory::Borrowed(bytes) => read_front(file, &mut bytes[..], most)?,
-            Memory::Owned(bytes) => read_front(file, bytes.as_mut_slice(), most)?,
+        let memory = &mut self.memory;
+        let count = if memory.owned.is_empty() {
+            read_front(file, memory.borrowed, most)?
+        } else {
+            read_front(file, memory.owned.as_mut_slice(), most)?
         };
         self.filled = count;
         self.start = offset;
@@ -182,13 +184,15 @@ fn read_front<R: Read>(file: &mut R, buffer: &mut [u8], most: usize) -> io::Resu
     file.read(&mut buffer[..most])
 }
 
-// As many zeroes as the first block has bytes, with room for as many more.
+// Adds as many zeroes as the first block has bytes. The first ones come with room for as many more.
 //
 // Errors: `AllocError` if they cannot be allocated.
-fn half(alloc: Global) -> Result<Vec<u8>, AllocError>
-    ensures { IfOk result (λ v. 0 < length v.items) }
+fn add_half(owned: &mut Vec<u8>) -> Result<(), AllocError>
+    ensures added { IfOk result (λ _. 0 < length owned.new.items) }
+    ensures keeps { length owned.old.items ≤ length owned.new.items }
 {
-    let mut bytes = Vec::with_capacity(alloc, SIZE)?;
-    bytes.extend_from_slice(&ZEROES)?;
-    Ok(bytes)
+    if owned.is_empty() {
+        owned.try_reserve_exact(SIZE)?;
+    }
+    owned.extend_from_slice(&ZEROES)
 }
