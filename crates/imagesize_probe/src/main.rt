@@ -93,7 +93,7 @@ impl<'a, R: Files + AllocGlobal> Open for Disk<'a, R> {
     fn close(&mut self, reader: FileReader<'a, R::File>)
         ensures { ◌≡◌ {A = Option Files} None None }
     {
-        self.block = Some(reader.into_block());
+        let _before = self.block.replace(reader.into_block());
     }
 
     fn load(&mut self, name: &str) -> ImageResult<Vec<u8>>
