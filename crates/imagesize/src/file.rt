@@ -7,38 +7,37 @@ ghost use Rattle.imagesize_source.specs.Limits.{allowance};
 ghost use Rattle.imagesize_source.specs.Errors.{budget_spent, is_memory};
 
 use crate::{ImageResult, reader_size};
-use imagesize_io::block::FIRST;
-use imagesize_io::file::length_of;
-use imagesize_io::{Block, FileReader, Told};
+use imagesize_io::file::BLOCK;
+use imagesize_io::{FileReader, Told};
 use imagesize_types::size::ImageSize;
-use std::alloc::Global;
 use std::fs;
 use std::path::AsPath;
 use std::rt::Files;
 
-/// Reads the size in pixels of the image in the file at a path, block by block.
+/// Reads the size in pixels of the image in the file at a path, block by block. It allocates nothing.
 ///
-/// Only a block of more than 4,096 bytes is allocated. If there is no memory for it, blocks have at most 4,096 bytes.
+/// It waits for the first bytes of a pipe or a terminal, takes them, and then fails, since it cannot seek there.
 ///
 /// Errors: those of `reader_size`, and `Fault` if the file cannot be opened.
 ///
 /// ```
 /// use imagesize::size;
 ///
-/// let size = size(&rt, rt.alloc(), "tiny.gif")?;
+/// let size = size(&rt, "tiny.gif")?;
 /// assert_eq!((size.width, size.height), (100, 100));
 /// ```
-pub fn size<F: Files, P: AsPath + Drop>(rt: &F, alloc: Global, path: P) -> ImageResult<ImageSize>
+pub fn size<F: Files, P: AsPath + Drop>(rt: &F, path: P) -> ImageResult<ImageSize>
     ensures memory { IfErr result (λ e. is_memory e ≡ false) }
 
     // A spent budget is the reported length plus 64.
     ensures spent { IfErr result (λ e. IfSome (budget_spent e) (λ budget. allowance ≤ budget)) }
 {
-    let file = fs::open(rt, path)?;
-    let length = length_of(&file);
-    let mut memory = [0; FIRST];
-    let block = Block::borrowed(alloc, &mut memory);
-    size_over(FileReader::over(block, file, length))
+    let mut memory = [0; BLOCK];
+    let mut reader = FileReader::new(fs::open(rt, path)?, None, &mut memory);
+    // The first block is read before the end is sought. This saves a call for the length, and a seek back to the start. If the read
+    // fails, `reader_size` tries it again.
+    let _ = reader.read_told(&mut []);
+    size_over(reader)
 }
 
 // The size of the image in a reader's bytes. It is generic, so that its clauses speak of readers with a model. A file has none.

@@ -4,7 +4,7 @@ use Rattle.std.proofs.Common.{◌≡◌, ℕ, ◌+◌, ◌-◌, ◌≤◌, min, 
 use Rattle.std.proofs.lemmas.Bool.Decides.{nat_tests}
 use Rattle.std.proofs.lemmas.List.{length-append, length-take, length-drop, take-append-drop, append_assoc, drop_all}
 use Rattle.std.specs.Io.KnownBytes.{Consumes, IsAtEnd, ReadConsumes, prepend_known}
-use Rattle.imagesize_io.specs.Block.{bytes_in, held_from}
+use Rattle.imagesize_io.specs.Block.{held_from}
 use Rattle.imagesize_io.specs.File.{held_of}
 use Rattle.imagesize_io.specs.declared.file.FileReader.{FileReader}
 use Rattle.imagesize_io.specs.ReaderState.{kept_window}
@@ -73,22 +73,22 @@ given (Some xs) (Some ys) held buffer n reads end few gives = (
 -- a reader that held no byte, read a block, and gave some bytes of it
 pub fetched : {R : Type 0} (remaining : R → Option (List ℕ)) (known : Option (List ℕ)) (old read left : FileReader R) (buffer : List ℕ) (count n : ℕ)
     → held_of old ≡ []
-    → Consumes known (remaining read.file) (take count (bytes_in read.block.memory)) → (count ≡ 0 → IsAtEnd (remaining read.file))
+    → Consumes known (remaining read.file) (take count read.block.memory.now) → (count ≡ 0 → IsAtEnd (remaining read.file))
     → read.block.filled ≡ count → read.block.start ≡ old.offset
-    → read.block.front.items ≡ kept_window old.block.front.items old.offset (take count (bytes_in read.block.memory))
+    → read.block.front.items ≡ kept_window old.block.front.items old.offset (take count read.block.memory.now)
     → read.offset ≡ old.offset
     → n ≡ min (length buffer) (length (held_of read)) → take n buffer ≡ take n (held_of read)
     → left.file ≡ read.file → left.block ≡ read.block → left.offset ≡ read.offset + n
     → ReadConsumes {E = Stop} known (prepend_known (held_of left) (remaining left.file)) (Ok n) buffer
     × (old.offset + count ≡ left.offset + length (held_of left))
 fetched remaining known old read left buffer count n none reads at_end filled start front at few gives file block moves =
-    let bytes = take count (bytes_in read.block.memory) in
-    let behind = behind_front (take old.block.filled (bytes_in old.block.memory)) old.block.front.items old.block.start old.offset none in
+    let bytes = take count read.block.memory.now in
+    let behind = behind_front (take old.block.filled old.block.memory.now) old.block.front.items old.block.start old.offset none in
     let ends : length read.block.front.items ≤ old.offset + length bytes =
     rw front (front_ends old.block.front.items bytes old.offset behind) in
     let held : held_of read ≡ bytes = rw (filled, start, at) (whole bytes read.block.front.items old.offset ends) in
     let size : length bytes ≡ count =
-    omega (arith, length-take count (bytes_in read.block.memory), read.block.within, filled) in
+    omega (arith, length-take count read.block.memory.now, read.block.within, filled) in
     let least : n ≡ min (length buffer) (length bytes) = few ∙ ap (λ h. min (length buffer) (length h)) held in
     let there : left.offset ≡ old.offset + n = moves ∙ ap (λ k. k + n) at in
     let left_is : held_of left ≡ drop n bytes =
@@ -105,13 +105,13 @@ pub lost : {R : Type 0} (old new : FileReader R) → length (held_of old) ≡ 0 
 lost old new few at front (inl same) = rw (same, at) (drop_all 0 (held_of old) (omega (arith, few)))
 lost old new few at front (inr zero) = by_place (is_inside new.block.start (length block) new.offset) refl where
   block : List ℕ
-  block = take new.block.filled (bytes_in new.block.memory)
+  block = take new.block.filled new.block.memory.now
 
   by_place : (b : Bool) → is_inside new.block.start (length block) new.offset ≡ b
       → cond b (drop (new.offset - new.block.start) block) (drop new.offset new.block.front.items) ≡ []
-  by_place true is = absurd (grind (arith, nat_tests, length-take new.block.filled (bytes_in new.block.memory), zero))
+  by_place true is = absurd (grind (arith, nat_tests, length-take new.block.filled new.block.memory.now, zero))
   by_place false is =
       let none = drop_all 0 (held_of old) (omega (arith, few)) in
-      let before = take old.block.filled (bytes_in old.block.memory) in
+      let before = take old.block.filled old.block.memory.now in
       let behind = behind_front before old.block.front.items old.block.start old.offset none in
       rw (at, front) (drop_all old.offset old.block.front.items behind)

@@ -4,12 +4,12 @@ use Rattle.std.specs.Io.KnownBytes.{Keeps}
 use Rattle.std.specs.Io.Seek.{SeekMoves}
 use Rattle.std.specs.declared.io.Error.{Error}
 use Rattle.std.specs.declared.io.traits.SeekFrom.TheVariants.{Start}
-use Rattle.imagesize_io.specs.Block.{bytes_in, held_from}
+use Rattle.imagesize_io.specs.Block.{held_from}
 use Rattle.imagesize_io.specs.declared.file.FileReader.{FileReader}
 
 -- the bytes that a reader of a file holds from its offset on
 abbrev pub held_of : {R : Type 0} → FileReader R → List ℕ
-held_of r = held_from (take r.block.filled (bytes_in r.block.memory)) r.block.start r.block.front.items r.offset
+held_of r = held_from (take r.block.filled r.block.memory.now) r.block.start r.block.front.items r.offset
 
 -- a file stays if it is at an offset, and is sought there if not
 abbrev pub IsSoughtTo : {R : Type 0} → (R → Option ℕ) → (R → Option (List ℕ)) → R → R → Option ℕ → ℕ → Type 0

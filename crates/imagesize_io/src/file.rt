@@ -4,36 +4,41 @@ ghost use Rattle.std.specs.Io.KnownBytes.{Consumes, IsAtEnd, Keeps, ReadConsumes
 ghost use Rattle.std.specs.Io.Seek.{IsAtOffset, SeekMoves};
 ghost use Rattle.std.specs.Result.{result_ok};
 ghost use Rattle.std.specs.declared.io.Error.{Error};
-ghost use Rattle.imagesize_io.specs.Block.{bytes_in};
 ghost use Rattle.imagesize_io.specs.File.{IsSoughtTo, held_of};
 ghost use Rattle.imagesize_io.specs.ReaderState.{kept_window};
 ghost use Rattle.imagesize_io.specs.StopOf.{stop_of};
 
-use crate::block::{Block, FIRST, SIZE};
+use crate::block::Block;
 use crate::{Stop, Told};
 use imagesize_source::part::copy_front;
-use std::alloc::{AllocError, Global};
 use std::fs::OpenFile;
 use std::io::{self, ErrorKind, Read, Seek, SeekFrom};
 
+/// How many bytes a block of a file has at most. Memory of this length serves any `FileReader`.
+pub const BLOCK: usize = 8192;
+
+// How many bytes the first block has at most, and one after a seek.
+const FIRST: usize = 4096;
+
 /// Reads a file that was just opened, or any other reader at offset 0.
 ///
-/// It reads blocks of at most 4,096 bytes, and of 8,192 where it reads on from the end of a block. The last block and the first 32
-/// bytes are held: reading these again makes no call of the file. Only a seek from the end calls the file, and not if it goes to the
-/// end and the length is known. After any other seek, the next read seeks if it needs to, and returns the seek's error. A read at an
-/// offset above 2^64 - 8,193 fails with `InvalidInput`.
+/// It reads blocks into the caller's memory, and allocates nothing. A block has at most 4,096 bytes, and 8,192 where it reads on from
+/// the end of a block. The last block and the first 32 bytes are held: reading these again makes no call of the file. Only a seek from the end calls the file, and not if it goes to the
+/// end and the length is known. After any other seek, the next read seeks if it needs to, and returns the seek's error. A read of the
+/// file fails with `InvalidInput` at an offset above 2^64 - 8,193, and if the memory has no bytes.
 ///
 /// It has no model. The length is not checked. If something else moves the file, this reader does not notice.
 ///
 /// ```
 /// use imagesize::reader_size;
 /// use imagesize_io::FileReader;
-/// use imagesize_io::file::length_of;
+/// use imagesize_io::file::{BLOCK, length_of};
 /// use std::fs;
 ///
 /// let file = fs::open(&rt, "tiny.gif")?;
 /// let length = length_of(&file);
-/// let size = reader_size(FileReader::new(rt.alloc(), file, length)?)?;
+/// let mut memory = [0; BLOCK];
+/// let size = reader_size(FileReader::new(file, length, &mut memory))?;
 /// assert_eq!((size.width, size.height), (100, 100));
 /// ```
 #[derive(Drop)]
@@ -47,56 +52,42 @@ pub struct FileReader<'a, R: Read + Seek + Drop> {
 }
 
 impl<'a, R: Read + Seek + Drop> FileReader<'a, R> {
-    /// Wraps a file at offset 0, with its length in bytes if known. It makes no call of the file. A file at another offset gives wrong
-    /// bytes.
-    ///
-    /// Errors: `AllocError` if the block cannot be allocated.
-    pub fn new(alloc: Global, file: R, length: Option<u64>) -> Result<Self, AllocError>
-        ensures file { IfOk result (λ r. r.file ≡ file) }
-        ensures start { IfOk result (λ r. (r.position ≡ Some 0) × (r.offset ≡ 0)) }
-        ensures length { IfOk result (λ r. r.length ≡ length) }
-        ensures empty { IfOk result (λ r. held_of r ≡ []) }
-    {
-        let block = Block::new(alloc)?;
-        Ok(FileReader::over(block, file, length))
-    }
-
-    /// Wraps a file as `new` does, with a block of `Block::borrowed` or of an earlier reader. It allocates nothing. A read may, if the
-    /// block is borrowed.
-    pub fn over(mut block: Block<'a>, file: R, length: Option<u64>) -> Self
+    /// Wraps a file at offset 0, with its length in bytes if known, and the memory for its blocks. It makes no call of the file. A
+    /// file at another offset gives wrong bytes.
+    pub fn new(file: R, length: Option<u64>, memory: &'a mut [u8]) -> Self
         ensures file { result.file ≡ file }
         ensures start { (result.position ≡ Some 0) × (result.offset ≡ 0) }
         ensures length { result.length ≡ length }
         ensures empty { held_of result ≡ [] }
     {
-        block.forget();
         FileReader {
             file,
             position: Some(0),
-            block,
+            block: Block::new(memory),
             offset: 0,
             length,
         }
     }
 
-    /// Closes the file, and returns the block for the reader of the next one.
-    pub fn into_block(self) -> Block<'a> {
-        self.block
+    /// Closes the file, and returns the memory for the reader of the next one.
+    pub fn into_memory(self) -> &'a mut [u8] {
+        self.block.into_memory()
     }
 
     // Reads the block at the reader's offset. The file is sought there first, if it is elsewhere.
     //
-    // Errors: those of the file, and `InvalidInput` above the offset 2^64 - 8,193, since a block might end past 2^64 - 1.
+    // Errors: those of the file, and `InvalidInput` without memory, or above the offset 2^64 - 8,193, since a block might end past
+    // 2^64 - 1.
     fn fetch(&mut self) -> io::Result<usize>
         ensures reads { IfOk result (λ n. (file : R)
             × IsSoughtTo R.stream_position R.stream_bytes self.old.file file self.old.position self.old.offset
-            × Consumes (R.remaining file) (R.remaining self.new.file) (take n (bytes_in self.new.block.memory))
+            × Consumes (R.remaining file) (R.remaining self.new.file) (take n self.new.block.memory.now)
             × (n ≡ 0 → IsAtEnd (R.remaining self.new.file))) }
         ensures keeps { self.old.position ≡ Some self.old.offset
             → IfErr result (λ _. Keeps (R.remaining self.old.file) (R.remaining self.new.file)) }
         ensures block { IfOk result (λ n. (self.new.block.filled ≡ n) × (self.new.block.start ≡ self.old.offset)
             × (self.new.block.front.items ≡ kept_window self.old.block.front.items self.old.offset
-            (take n (bytes_in self.new.block.memory)))) }
+            (take n self.new.block.memory.now))) }
         ensures position { IfOk result (λ n. self.new.position ≡ Some (self.old.offset + n)) }
         ensures unknown { IfErr result (λ _. self.new.position ≡ None) }
         ensures fails { IfErr result (λ _. (self.new.block.front ≡ self.old.block.front)
@@ -105,16 +96,11 @@ impl<'a, R: Read + Seek + Drop> FileReader<'a, R> {
         ensures length { self.new.length ≡ self.old.length }
     {
         let position = self.position.take();
-        if self.offset > u64::MAX - SIZE as u64 {
+        let most = most_of(self.offset, position, self.block.room());
+        if most == 0 || self.offset > u64::MAX - BLOCK as u64 {
             return Err(io::Error::from(ErrorKind::InvalidInput));
         }
         go(&mut self.file, position, self.offset)?;
-        // At the start, and after a seek, a small block mostly has the bytes that are read next. It costs less.
-        let most = if self.offset > 0 && position == Some(self.offset) {
-            SIZE
-        } else {
-            FIRST
-        };
         let count = self.block.fill(&mut self.file, self.offset, most)?;
         self.position = Some(self.offset + count as u64);
         Ok(count)
@@ -140,6 +126,21 @@ impl<'a, R: Read + Seek + Drop> FileReader<'a, R> {
         self.position = Some(offset);
         Ok(offset)
     }
+}
+
+// How many bytes a block at an offset has at most, for a file at `position` and memory of `room` bytes.
+fn most_of(offset: u64, position: Option<u64>, room: usize) -> usize
+    ensures block { result ≤ 8192 }
+    ensures fits { result ≤ room }
+    ensures some { 0 < room → 0 < result }
+{
+    // At the start, and after a seek, a small block mostly has the bytes that are read next. It costs less.
+    let most = if offset > 0 && position == Some(offset) {
+        BLOCK
+    } else {
+        FIRST
+    };
+    most.min(room)
 }
 
 // Seeks a file to an offset, if it is elsewhere.
@@ -181,7 +182,7 @@ impl<R: Read + Seek + Drop> Told for FileReader<'_, R> {
             × (self.new.position ≡ Some (self.new.offset + length (held_of self.new)))
             × (self.new.block.start ≡ self.old.offset)
             × (self.new.block.front.items ≡ kept_window self.old.block.front.items self.old.offset
-            (take self.new.block.filled (bytes_in self.new.block.memory)))) }
+            (take self.new.block.filled self.new.block.memory.now))) }
         ensures keeps { self.old.position ≡ Some self.old.offset
             → IfErr result (λ _. Keeps (R.remaining self.old.file) (R.remaining self.new.file)) }
         ensures unknown { IfErr result (λ _. self.new.position ≡ None) }

@@ -1,7 +1,7 @@
 //! Readers as sources: a reader's model and its offset, and how its bytes are read at offsets within a budget.
 #![tactic(auto)]
 
-pub mod block;
+mod block;
 pub mod counting;
 pub mod file;
 pub mod memory;
@@ -10,6 +10,5 @@ pub mod reader;
 pub mod told;
 mod window;
 
-pub use block::Block;
 pub use file::FileReader;
 pub use told::{Stop, Told};

@@ -2,12 +2,10 @@
 //! depends on.
 #![tactic(auto)]
 
-ghost use Rattle.std.specs.Prelude.{◌≡◌, ◌||◌, [], IsTrue, IfOk, IfErr, MatchResult, Option, None, Ok, Err};
+ghost use Rattle.std.specs.Prelude.{◌≡◌, ◌||◌, [], IsTrue, IfOk, IfErr, Option, None};
 ghost use Rattle.std.specs.Io.Buffered.{writer_buffer};
 ghost use Rattle.imagesize_probe.specs.Run.{Files, Loads, LoadsNone};
 ghost use Rattle.imagesize_source.specs.Errors.{is_fault, is_memory};
-ghost use Rattle.imagesize_source.specs.declared.error.ImageError.TheVariants.{IoError};
-ghost use Rattle.imagesize_source.specs.declared.error.Reason.TheVariants.{Memory};
 
 #[cfg(test)]
 mod fakes;
@@ -15,13 +13,13 @@ mod report;
 mod run;
 
 use imagesize::{ImageError, ImageResult, Reason};
-use imagesize_io::file::length_of;
-use imagesize_io::{Block, FileReader};
+use imagesize_io::FileReader;
+use imagesize_io::file::{BLOCK, length_of};
 use run::{Open, WHOLE, exit_code, run};
 use std::io::{self, BufWriter, ErrorKind, Printer, Read};
 use std::process::ExitCode;
 use std::rt::Files;
-use std::{env, fs};
+use std::{env, fs, mem};
 
 fn main(rt: HostRuntime) -> ExitCode {
     ExitCode::from(exit_code(run_arguments(&rt)))
@@ -35,10 +33,11 @@ fn run_arguments(rt: &HostRuntime) -> io::Result<u8> {
     let _program = arguments.next();
     let arguments: Vec<String> = arguments.collect(rt.alloc())?;
     let mut output = buffered(rt, 8192);
+    let memory = &mut [0; BLOCK];
     run(
         rt.alloc(),
         &arguments,
-        &mut Disk { rt, block: None },
+        &mut Disk { rt, memory },
         &mut output,
         &mut rt.stderr(),
     )
@@ -54,22 +53,12 @@ fn buffered<R: Print + AllocGlobal>(rt: &R, capacity: usize) -> BufWriter<Printe
     }
 }
 
-// What was made, or `Memory`, if it could not be allocated.
-fn or_memory<T, E: Drop>(made: Result<T, E>) -> ImageResult<T>
-    ensures { MatchResult made (λ value. result ≡ Ok value) (λ _. result ≡ Err (IoError Memory)) }
-{
-    match made {
-        Ok(value) => Ok(value),
-        Err(_) => Err(ImageError::IoError(Reason::Memory)),
-    }
-}
-
 // Opens files.
 #[derive(Drop)]
 struct Disk<'a, R> {
     rt: &'a R,
-    // The block of the last file, for the next one. It saves an allocation and 4 KiB of zeroes for each.
-    block: Option<Block<'a>>,
+    // The memory for the blocks of the next file. Empty while a reader has it.
+    memory: &'a mut [u8],
 }
 
 impl<'a, R: Files + AllocGlobal> Open for Disk<'a, R> {
@@ -84,16 +73,14 @@ impl<'a, R: Files + AllocGlobal> Open for Disk<'a, R> {
     {
         let file = fs::open(self.rt, name)?;
         let length = length_of(&file);
-        match self.block.take() {
-            Some(block) => Ok(FileReader::over(block, file, length)),
-            None => or_memory(FileReader::new(self.rt.alloc(), file, length)),
-        }
+        let memory = mem::replace(&mut self.memory, &mut []);
+        Ok(FileReader::new(file, length, memory))
     }
 
     fn close(&mut self, reader: FileReader<'a, R::File>)
         ensures { ◌≡◌ {A = Option Files} None None }
     {
-        let _before = self.block.replace(reader.into_block());
+        self.memory = reader.into_memory();
     }
 
     fn load(&mut self, name: &str) -> ImageResult<Vec<u8>>

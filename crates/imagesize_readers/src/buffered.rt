@@ -1,8 +1,8 @@
 //! Buffered readers keep their block if it has the offset of a seek. A reader of a file calls the file no more than needed.
 
-use imagesize_io::block::FIRST;
+use imagesize_io::file::BLOCK;
 use imagesize_io::reader::{Origin, ReaderSource, open, settle};
-use imagesize_io::{Block, FileReader, Stop, Told};
+use imagesize_io::{FileReader, Stop, Told};
 use imagesize_source::Text;
 use imagesize_source::source::Source;
 use std::io::{self, BufReader, Cursor, ErrorKind, Read, Seek, SeekFrom};
@@ -82,7 +82,8 @@ fn made_on_walk<H: AllocGlobal + Abort>(
 ) -> Result<Made, Fail> {
     let bytes = Vec::from_elem(rt.alloc(), 7u8, length as usize)?;
     let mut made = NONE;
-    let mut reader = FileReader::new(rt.alloc(), counting(&bytes, &mut made), told)?;
+    let mut memory = [0; BLOCK];
+    let mut reader = FileReader::new(counting(&bytes, &mut made), told, &mut memory);
     walk(rt, &mut reader, length, step)?;
     drop(reader);
     Ok(made)
@@ -104,7 +105,8 @@ fn the_first_bytes_are_given_again_from_far_behind(rt: HostRuntime) -> Result<()
     bytes[31] = 2;
     bytes[32] = 3;
     let mut made = NONE;
-    let mut reader = FileReader::new(rt.alloc(), counting(&bytes, &mut made), Some(20_000))?;
+    let mut memory = [0; BLOCK];
+    let mut reader = FileReader::new(counting(&bytes, &mut made), Some(20_000), &mut memory);
     assert!(rt; matches!(reader.read_told(&mut [0u8; 12]), Ok(12)));
     assert_eq!(rt; reader.seek_told(SeekFrom::Start(19_982))?, 19_982);
     assert!(rt; matches!(reader.read_told(&mut [0u8; 18]), Ok(18)));
@@ -127,7 +129,8 @@ fn the_first_bytes_are_given_again_from_far_behind(rt: HostRuntime) -> Result<()
 #[test]
 fn a_reader_of_known_length_reads_nothing_at_its_end(rt: HostRuntime) -> Result<(), Fail> {
     let bytes = [1u8, 2, 3];
-    let mut reader = FileReader::new(rt.alloc(), Cursor::new(bytes.as_slice()), Some(3))?;
+    let mut memory = [0; 3];
+    let mut reader = FileReader::new(Cursor::new(bytes.as_slice()), Some(3), &mut memory);
     let mut buffer = [0u8; 2];
     assert_eq!(rt; reader.seek_told(SeekFrom::End(0))?, 3);
     assert_eq!(rt; reader.seek_told(SeekFrom::Current(0))?, 3);
@@ -154,7 +157,8 @@ fn a_walk_over_blocks_makes_two_calls_an_offset(rt: HostRuntime) -> Result<(), F
 fn an_offset_behind_in_the_block_is_reached_with_no_call(rt: HostRuntime) -> Result<(), Fail> {
     let bytes = [1u8, 2, 3, 4, 5, 6, 7, 8];
     let mut made = NONE;
-    let mut reader = FileReader::new(rt.alloc(), counting(&bytes, &mut made), None)?;
+    let mut memory = [0; BLOCK];
+    let mut reader = FileReader::new(counting(&bytes, &mut made), None, &mut memory);
     assert_eq!(rt; reader.seek_told(SeekFrom::Start(2))?, 2);
     let mut buffer = [0u8; 4];
     assert!(rt; matches!(reader.read_told(&mut buffer), Ok(4)));
@@ -167,48 +171,69 @@ fn an_offset_behind_in_the_block_is_reached_with_no_call(rt: HostRuntime) -> Res
     Ok(())
 }
 
-// Reads blocks of a file of 60,000 bytes.
-fn check_blocks<H: Abort>(rt: &H, mut reader: FileReader<'_, Cursor<&[u8]>>) -> Result<(), Fail> {
-    // The offset of each block, and how many bytes it has after the first one.
-    for (offset, held) in [
-        (0, 4095),
-        (4096, 8191),
-        (12_288, 8191),
-        (50_000, 4095),
-        (54_096, 5903),
-    ] {
-        assert_eq!(rt; reader.seek_told(SeekFrom::Start(offset))?, offset);
+// Reads blocks of a file of 60,000 bytes. Each has an offset, and how many bytes it has after the first one.
+fn check_blocks<H: AllocGlobal + Abort>(
+    rt: &H,
+    memory: &mut [u8],
+    blocks: &[(u64, usize)],
+) -> Result<(), Fail> {
+    let bytes = Vec::from_elem(rt.alloc(), 7u8, 60_000)?;
+    let mut reader = FileReader::new(Cursor::new(bytes.as_slice()), Some(60_000), memory);
+    for (offset, held) in blocks {
+        assert_eq!(rt; reader.seek_told(SeekFrom::Start(*offset))?, *offset);
         assert!(rt; matches!(reader.read_told(&mut [0u8; 1]), Ok(1)));
-        assert_eq!(rt; reader.held().len(), held);
+        assert_eq!(rt; reader.held().len(), *held);
     }
     Ok(())
 }
 
 #[test]
 fn a_block_is_small_at_the_start_and_after_a_seek(rt: HostRuntime) -> Result<(), Fail> {
-    let bytes = Vec::from_elem(rt.alloc(), 7u8, 60_000)?;
-    let inner = Cursor::new(bytes.as_slice());
-    check_blocks(&rt, FileReader::new(rt.alloc(), inner, Some(60_000))?)?;
-    let mut memory = [0; FIRST];
-    let block = Block::borrowed(rt.alloc(), &mut memory);
-    let inner = Cursor::new(bytes.as_slice());
-    check_blocks(&rt, FileReader::over(block, inner, Some(60_000)))
+    let blocks = [
+        (0, 4095),
+        (4096, 8191),
+        (12_288, 8191),
+        (50_000, 4095),
+        (54_096, 5903),
+    ];
+    check_blocks(&rt, &mut [0; BLOCK], &blocks)?;
+    check_blocks(&rt, &mut [0; 20_000], &blocks)
 }
 
 #[test]
-fn a_borrowed_block_serves_the_next_file(rt: HostRuntime) -> Result<(), Fail> {
-    let mut memory = [0; FIRST];
-    let mut block = Block::borrowed(rt.alloc(), &mut memory);
+fn a_block_is_no_longer_than_the_memory(rt: HostRuntime) -> Result<(), Fail> {
+    check_blocks(
+        &rt,
+        &mut [0; 5000],
+        &[(0, 4095), (4096, 4999), (9096, 4999)],
+    )?;
+    check_blocks(&rt, &mut [0; 10], &[(0, 9), (10, 9), (500, 9)])
+}
+
+#[test]
+fn a_file_is_not_read_without_memory(rt: HostRuntime) -> Result<(), Fail> {
+    let mut reader = FileReader::new(Cursor::new([1u8].as_slice()), Some(1), &mut []);
+    let Err(Stop::Fault(error)) = reader.read_told(&mut [0u8; 1]) else {
+        panic!(rt; "no fault");
+    };
+    assert_eq!(rt; error.kind(), ErrorKind::InvalidInput);
+    Ok(())
+}
+
+#[test]
+fn one_memory_serves_the_next_file(rt: HostRuntime) -> Result<(), Fail> {
+    let mut array = [0; BLOCK];
+    let mut memory = array.as_mut_slice();
     for byte in [1u8, 2] {
         let bytes = Vec::from_elem(rt.alloc(), byte, 5000)?;
-        let mut reader = FileReader::over(block, Cursor::new(bytes.as_slice()), Some(5000));
+        let mut reader = FileReader::new(Cursor::new(bytes.as_slice()), Some(5000), memory);
         let mut buffer = [0u8; 3];
         assert!(rt; matches!(reader.read_told(&mut buffer), Ok(3)));
         assert_eq!(rt; buffer, [byte; 3]);
         assert_eq!(rt; reader.seek_told(SeekFrom::Start(4096))?, 4096);
         assert!(rt; matches!(reader.read_told(&mut buffer), Ok(3)));
         assert_eq!(rt; buffer, [byte; 3]);
-        block = reader.into_block();
+        memory = reader.into_memory();
     }
     Ok(())
 }
@@ -244,7 +269,8 @@ fn an_interrupted_read_of_a_file_is_read_again(rt: HostRuntime) -> Result<(), Fa
         inner: Cursor::new(bytes.as_slice()),
         interrupts: false,
     };
-    let mut reader = FileReader::new(rt.alloc(), slow, Some(3))?;
+    let mut memory = [0; BLOCK];
+    let mut reader = FileReader::new(slow, Some(3), &mut memory);
     let mut buffer = [0u8; 4];
     for byte in bytes {
         assert!(rt; matches!(reader.read_told(&mut buffer), Err(Stop::Interrupted(_))));
@@ -262,7 +288,8 @@ fn an_interrupted_read_of_a_file_is_read_again(rt: HostRuntime) -> Result<(), Fa
 fn an_offset_that_no_file_has_is_refused(rt: HostRuntime) -> Result<(), Fail> {
     let bytes = [1u8, 2, 3];
     let inner = Cursor::new(bytes.as_slice());
-    let mut reader = FileReader::new(rt.alloc(), inner, Some(3))?;
+    let mut memory = [0; BLOCK];
+    let mut reader = FileReader::new(inner, Some(3), &mut memory);
     assert_eq!(rt; reader.seek_told(SeekFrom::Start(1))?, 1);
     assert!(rt; reader.seek_told(SeekFrom::Current(i64::MIN)).is_err());
     assert_eq!(rt; reader.seek_told(SeekFrom::Current(0))?, 1);

@@ -65,10 +65,10 @@ pub fn ended_behind(text: Text, first: &[u8], rest: &[u8]) -> Option<usize>
     }
 }
 
-// Whether a word has begun in these bytes, which do not end it. If it has, the last of them is a byte of the word.
+/// Whether a word has begun in these bytes, which do not end it. If it has, the last of them is a byte of the word.
 #[inline(always)]
 #[tactic(auto, using(crate::proofs::Unended::begun_at))]
-fn has_begun(bytes: &[u8]) -> bool
+pub fn has_begun(bytes: &[u8]) -> bool
     requires { is_ended Text.Word bytes.now ≡ false }
     ensures { result ≡ has_begun bytes.now }
 {

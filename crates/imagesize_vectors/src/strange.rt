@@ -6,6 +6,7 @@ use imagesize::{
     reader_type,
 };
 use imagesize_io::FileReader;
+use imagesize_io::file::BLOCK;
 use imagesize_readers::readers::{Calls, Claiming, Counting, Endless};
 use std::io::{self, BufReader, Cursor, Read, Seek, SeekFrom};
 use std::test::Fail;
@@ -190,7 +191,8 @@ fn a_buffered_reader_that_has_grown_is_read_until_the_budget_is_spent(
         assert_eq!(rt; probed.taken, 164);
         assert!(rt; is_spent(&kind.reader_size(&mut reader)), "{kind:?}");
         let inner = Cursor::new(bytes.as_slice());
-        let file = FileReader::new(rt.alloc(), inner, Some(100))?;
+        let mut memory = [0; BLOCK];
+        let file = FileReader::new(inner, Some(100), &mut memory);
         assert!(rt; is_spent(&reader_size(file)), "{kind:?}");
     }
     Ok(())

@@ -1,4 +1,4 @@
-ghost use Rattle.std.specs.Prelude.{◌≡◌, ◌++◌, IfOk, IfErr, None, Some, Ok, IfSome, false, length, map};
+ghost use Rattle.std.specs.Prelude.{◌≡◌, ◌++◌, IfOk, IfErr, MatchResult, None, Some, Ok, Err, IfSome, false, length, map};
 ghost use Rattle.std.specs.String.{string_bytes};
 ghost use Rattle.imagesize_probe.specs.Run.{lines_of, is_any_refused, names_in, wants_spans};
 ghost use Rattle.imagesize_probe.specs.Status.{exit_status};
@@ -7,7 +7,7 @@ ghost use Rattle.imagesize_source.specs.declared.error.Reason.TheVariants.{Memor
 
 use super::{Open, WHOLE, exit_code, run};
 use crate::fakes::Weak;
-use crate::{Disk, buffered, or_memory};
+use crate::{Disk, buffered};
 use imagesize::{ImageError, ImageResult, Reason, Told};
 use std::alloc::{AllocError, Global};
 use std::fs;
@@ -53,6 +53,16 @@ impl Open for Shelf {
             "16777217" => zeros(self.alloc, 16_777_217),
             _ => Err(ImageError::from(lost())),
         }
+    }
+}
+
+// What was made, or `Memory`, if it could not be allocated.
+fn or_memory<T, E: Drop>(made: Result<T, E>) -> ImageResult<T>
+    ensures { MatchResult made (λ value. result ≡ Ok value) (λ _. result ≡ Err (IoError Memory)) }
+{
+    match made {
+        Ok(value) => Ok(value),
+        Err(_) => Err(ImageError::IoError(Reason::Memory)),
     }
 }
 
@@ -315,7 +325,8 @@ fn refused_lines<R: Files + AllocGlobal + Abort>(
     let arguments = strings(alloc, arguments)?;
     let mut output = Vec::new(alloc);
     let mut errors = Vec::new(alloc);
-    let mut disk = Disk { rt, block: None };
+    let memory = &mut [0; 8192];
+    let mut disk = Disk { rt, memory };
     let status = run(alloc, &arguments, &mut disk, &mut output, &mut errors)?;
     assert_eq!(rt; status, 1);
     Ok(String::from_utf8(output)?)
@@ -345,18 +356,16 @@ fn files_that_cannot_be_read_have_a_line(rt: HostRuntime) -> Result<(), Fail> {
 
 #[test]
 fn a_block_serves_one_file_after_another(rt: HostRuntime) -> Result<(), Fail> {
-    let mut disk = Disk {
-        rt: &rt,
-        block: None,
-    };
+    let memory = &mut [0; 100];
+    let mut disk = Disk { rt: &rt, memory };
     let mut reader = disk.open("/dev/zero")?;
     assert!(rt; matches!(reader.read_told(&mut [0u8; 12]), Ok(12)));
-    assert!(rt; !reader.held().is_empty());
+    assert_eq!(rt; reader.held().len(), 88);
     disk.close(reader);
     assert!(rt; disk.open("no such file").is_err());
-    assert!(rt; disk.block.is_some());
+    assert_eq!(rt; disk.memory.len(), 100);
     let reader = disk.open("/dev/null")?;
-    assert!(rt; disk.block.is_none());
+    assert!(rt; disk.memory.is_empty());
     assert!(rt; reader.held().is_empty());
     Ok(())
 }
