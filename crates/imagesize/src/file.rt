@@ -36,7 +36,7 @@ pub fn size<F: Files, P: AsPath + Drop>(rt: &F, path: P) -> ImageResult<ImageSiz
     let mut reader = FileReader::new(fs::open(rt, path)?, None, &mut memory);
     // The first block is read before the end is sought. This saves a call for the length, and a seek back to the start. If the read
     // fails, `reader_size` tries it again.
-    let _ = reader.read_told(&mut []);
+    let _ = reader.read_told(&mut [0; 0]);
     size_over(reader)
 }
 
