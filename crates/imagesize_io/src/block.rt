@@ -44,6 +44,13 @@ impl<'a> Block<'a> {
         self.memory.len()
     }
 
+    // The offset at which the block ends.
+    pub(crate) fn end(&self) -> u64
+        ensures { result ≡ self.now.start + self.now.filled }
+    {
+        self.start + self.filled as u64
+    }
+
     // The bytes from an offset on, as far as they are held.
     #[inline]
     pub(crate) fn held(&self, offset: u64) -> &[u8]

@@ -96,7 +96,7 @@ impl<'a, R: Read + Seek + Drop> FileReader<'a, R> {
         ensures length { self.new.length ≡ self.old.length }
     {
         let position = self.position.take();
-        let most = most_of(self.offset, position, self.block.room());
+        let most = most_of(self.offset, self.block.end(), self.block.room());
         if most == 0 || self.offset > u64::MAX - BLOCK as u64 {
             return Err(io::Error::from(ErrorKind::InvalidInput));
         }
@@ -128,14 +128,14 @@ impl<'a, R: Read + Seek + Drop> FileReader<'a, R> {
     }
 }
 
-// How many bytes a block at an offset has at most, for a file at `position` and memory of `room` bytes.
-fn most_of(offset: u64, position: Option<u64>, room: usize) -> usize
+// How many bytes a block at an offset has at most, if the last block ended at `end`, in memory of `room` bytes.
+fn most_of(offset: u64, end: u64, room: usize) -> usize
     ensures block { result ≤ 8192 }
     ensures fits { result ≤ room }
     ensures some { 0 < room → 0 < result }
 {
     // At the start, and after a seek, a small block mostly has the bytes that are read next. It costs less.
-    let most = if offset > 0 && position == Some(offset) {
+    let most = if offset > 0 && offset == end {
         BLOCK
     } else {
         FIRST

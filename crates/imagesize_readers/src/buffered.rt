@@ -201,6 +201,21 @@ fn a_block_is_small_at_the_start_and_after_a_seek(rt: HostRuntime) -> Result<(),
 }
 
 #[test]
+fn a_block_is_long_behind_the_one_before(rt: HostRuntime) -> Result<(), Fail> {
+    let bytes = Vec::from_elem(rt.alloc(), 7u8, 20_000)?;
+    let mut memory = [0; BLOCK];
+    let mut reader = FileReader::new(Cursor::new(bytes.as_slice()), None, &mut memory);
+    assert!(rt; matches!(reader.read_told(&mut [0u8; 0]), Ok(0)));
+    assert_eq!(rt; reader.held().len(), 4096);
+    // The file is then at its end, and the read goes back.
+    assert_eq!(rt; reader.seek_told(SeekFrom::End(0))?, 20_000);
+    assert_eq!(rt; reader.seek_told(SeekFrom::Start(4096))?, 4096);
+    assert!(rt; matches!(reader.read_told(&mut [0u8; 1]), Ok(1)));
+    assert_eq!(rt; reader.held().len(), 8191);
+    Ok(())
+}
+
+#[test]
 fn a_block_is_no_longer_than_the_memory(rt: HostRuntime) -> Result<(), Fail> {
     check_blocks(
         &rt,
