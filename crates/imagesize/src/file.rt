@@ -10,11 +10,13 @@ use crate::{ImageResult, reader_size};
 use imagesize_io::file::BLOCK;
 use imagesize_io::{FileReader, Told};
 use imagesize_types::size::ImageSize;
+use std::alloc::Global;
 use std::fs;
 use std::path::AsPath;
 use std::rt::Files;
 
-/// Reads the size in pixels of the image in the file at a path, block by block. It allocates nothing.
+/// Reads the size in pixels of the image in the file at a path, block by block. It allocates nothing. The allocator is not used: callers
+/// of earlier versions pass one.
 ///
 /// It waits for the first bytes of a pipe or a terminal, takes them, and then fails, since it cannot seek there.
 ///
@@ -23,10 +25,10 @@ use std::rt::Files;
 /// ```
 /// use imagesize::size;
 ///
-/// let size = size(&rt, "tiny.gif")?;
+/// let size = size(&rt, rt.alloc(), "tiny.gif")?;
 /// assert_eq!((size.width, size.height), (100, 100));
 /// ```
-pub fn size<F: Files, P: AsPath + Drop>(rt: &F, path: P) -> ImageResult<ImageSize>
+pub fn size<F: Files, P: AsPath + Drop>(rt: &F, _alloc: Global, path: P) -> ImageResult<ImageSize>
     ensures memory { IfErr result (λ e. is_memory e ≡ false) }
 
     // A spent budget is the reported length plus 64.

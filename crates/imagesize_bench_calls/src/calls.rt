@@ -134,6 +134,6 @@ pub fn make<F: Files + AllocGlobal, R: Results>(
 }
 
 #[inline(never)]
-fn add_size_of_file<F: Files, R: Results>(rt: &F, file: &str, results: &mut R) {
-    results.add_size(size(rt, file));
+fn add_size_of_file<F: Files + AllocGlobal, R: Results>(rt: &F, file: &str, results: &mut R) {
+    results.add_size(size(rt, rt.alloc(), file));
 }

@@ -37,8 +37,8 @@ fn read_names(rt: &(impl Input + AllocGlobal)) -> io::Result<Vec<String>> {
 }
 
 // Adds the size of the image in each of these files.
-fn add_sizes(rt: &impl Files, names: &[String], digest: &mut Digest) {
+fn add_sizes(rt: &(impl Files + AllocGlobal), names: &[String], digest: &mut Digest) {
     for name in names {
-        digest.add(&size(rt, name.as_str()));
+        digest.add(&size(rt, rt.alloc(), name.as_str()));
     }
 }

@@ -46,8 +46,8 @@ fn main(rt: HostRuntime) -> io::Result<()> {
 }
 
 // Prints the size of a file, or why it has none.
-fn print_size(rt: &(impl Files + Print), name: &str) -> io::Result<()> {
-    match size(rt, name) {
+fn print_size(rt: &(impl Files + Print + AllocGlobal), name: &str) -> io::Result<()> {
+    match size(rt, rt.alloc(), name) {
         Ok(ImageSize { width, height }) => println!(rt; "{width}x{height}"),
         Err(error) => println!(rt; "{error}"),
     }
