@@ -6,19 +6,18 @@ ghost use Rattle.imagesize_io.specs.Answers.{Answers};
 ghost use Rattle.imagesize_source.specs.Limits.{allowance};
 ghost use Rattle.imagesize_source.specs.Errors.{budget_spent, is_memory};
 
-use crate::{ImageResult, reader_size};
+use crate::{ImageError, ImageResult, reader_size};
 use imagesize_io::file::BLOCK;
-use imagesize_io::{FileReader, Told};
+use imagesize_io::{FileReader, Stop, Told};
 use imagesize_types::size::ImageSize;
 use std::alloc::Global;
 use std::fs;
 use std::path::AsPath;
 use std::rt::Files;
 
-/// Reads the size in pixels of the image in the file at a path, block by block. It allocates nothing. The allocator is not used: callers
-/// of earlier versions pass one.
+/// Reads the size in pixels of the image in the file at a path, block by block. It allocates nothing, and does not use the allocator.
 ///
-/// It waits for the first bytes of a pipe or a terminal, takes them, and then fails, since it cannot seek there.
+/// It waits for the first bytes of a pipe or a terminal, reads them, and then fails, since it cannot seek there.
 ///
 /// Errors: those of `reader_size`, and `Fault` if the file cannot be opened.
 ///
@@ -36,9 +35,11 @@ pub fn size<F: Files, P: AsPath + Drop>(rt: &F, _alloc: Global, path: P) -> Imag
 {
     let mut memory = [0; BLOCK];
     let mut reader = FileReader::new(fs::open(rt, path)?, None, &mut memory);
-    // The first block is read before the end is sought. This saves a call for the length, and a seek back to the start. If the read
-    // fails, `reader_size` tries it again.
-    let _ = reader.read_told(&mut [0; 0]);
+    // The first block is read before the end is sought: a seek costs less than the file's metadata, and most sizes need no seek back.
+    // If the read is interrupted, `reader_size` reads again.
+    if let Err(Stop::Fault(error)) = reader.read_told(&mut [0; 0]) {
+        return Err(ImageError::from(error));
+    }
     size_over(reader)
 }
 

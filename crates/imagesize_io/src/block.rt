@@ -23,6 +23,7 @@ impl<'a> Block<'a> {
     // A block of no bytes.
     pub(crate) fn new(memory: &'a mut [u8]) -> Self
         ensures empty { (result.filled ≡ 0) × (result.front.items ≡ []) }
+        ensures memory { result.memory.now ≡ memory.old }
     {
         Block {
             memory,
@@ -33,12 +34,14 @@ impl<'a> Block<'a> {
     }
 
     // The caller's memory.
-    pub(crate) fn into_memory(self) -> &'a mut [u8] {
+    pub(crate) fn into_memory(self) -> &'a mut [u8]
+        ensures { result.now ≡ self.entry.memory.now }
+    {
         self.memory
     }
 
     // How many bytes the memory has.
-    pub(crate) fn room(&self) -> usize
+    pub(crate) fn capacity(&self) -> usize
         ensures { result ≡ length self.now.memory.now }
     {
         self.memory.len()

@@ -14,18 +14,19 @@ use imagesize_source::part::copy_front;
 use std::fs::OpenFile;
 use std::io::{self, ErrorKind, Read, Seek, SeekFrom};
 
-/// How many bytes a block of a file has at most. Memory of this length serves any `FileReader`.
+/// How many bytes a block of a file has at most.
 pub const BLOCK: usize = 8192;
 
-// How many bytes the first block has at most, and one after a seek.
+// How many bytes a block has at most at the start of a file, and elsewhere than at the end of the block before.
 const FIRST: usize = 4096;
 
 /// Reads a file that was just opened, or any other reader at offset 0.
 ///
-/// It reads blocks into the caller's memory, and allocates nothing. A block has at most 4,096 bytes, and 8,192 where it reads on from
-/// the end of a block. The last block and the first 32 bytes are held: reading these again makes no call of the file. Only a seek from the end calls the file, and not if it goes to the
-/// end and the length is known. After any other seek, the next read seeks if it needs to, and returns the seek's error. A read of the
-/// file fails with `InvalidInput` at an offset above 2^64 - 8,193, and if the memory has no bytes.
+/// It reads blocks into the caller's memory, and allocates nothing. A block has at most 4,096 bytes. One that begins where the block
+/// before ends has 8,192. No block is longer than the memory. The last block and the first 32 bytes are held: reading these again makes
+/// no call of the file. Only a seek from the end calls the file, and not if it goes to the end and the length is known. After any other
+/// seek, the next read seeks if it needs to, and returns the seek's error. A read of the file fails with `InvalidInput` at an offset
+/// above 2^64 - 8,193, and if the memory has no bytes.
 ///
 /// It has no model. The length is not checked. If something else moves the file, this reader does not notice.
 ///
@@ -52,13 +53,14 @@ pub struct FileReader<'a, R: Read + Seek + Drop> {
 }
 
 impl<'a, R: Read + Seek + Drop> FileReader<'a, R> {
-    /// Wraps a file at offset 0, with its length in bytes if known, and the memory for its blocks. It makes no call of the file. A
-    /// file at another offset gives wrong bytes.
+    /// Wraps a file at offset 0, with its length in bytes if known, and the memory for its blocks, of which `BLOCK` bytes suffice. It
+    /// makes no call of the file. A file at another offset gives wrong bytes.
     pub fn new(file: R, length: Option<u64>, memory: &'a mut [u8]) -> Self
         ensures file { result.file ≡ file }
         ensures start { (result.position ≡ Some 0) × (result.offset ≡ 0) }
         ensures length { result.length ≡ length }
         ensures empty { held_of result ≡ [] }
+        ensures memory { result.block.memory.now ≡ memory.old }
     {
         FileReader {
             file,
@@ -70,7 +72,9 @@ impl<'a, R: Read + Seek + Drop> FileReader<'a, R> {
     }
 
     /// Closes the file, and returns the memory for the reader of the next one.
-    pub fn into_memory(self) -> &'a mut [u8] {
+    pub fn into_memory(self) -> &'a mut [u8]
+        ensures { result.now ≡ self.entry.block.memory.now }
+    {
         self.block.into_memory()
     }
 
@@ -96,11 +100,12 @@ impl<'a, R: Read + Seek + Drop> FileReader<'a, R> {
         ensures length { self.new.length ≡ self.old.length }
     {
         let position = self.position.take();
-        let most = most_of(self.offset, self.block.end(), self.block.room());
-        if most == 0 || self.offset > u64::MAX - BLOCK as u64 {
+        let capacity = self.block.capacity();
+        if capacity == 0 || self.offset > u64::MAX - BLOCK as u64 {
             return Err(io::Error::from(ErrorKind::InvalidInput));
         }
         go(&mut self.file, position, self.offset)?;
+        let most = most_of(self.offset, self.block.end(), capacity);
         let count = self.block.fill(&mut self.file, self.offset, most)?;
         self.position = Some(self.offset + count as u64);
         Ok(count)
@@ -128,19 +133,19 @@ impl<'a, R: Read + Seek + Drop> FileReader<'a, R> {
     }
 }
 
-// How many bytes a block at an offset has at most, if the last block ended at `end`, in memory of `room` bytes.
-fn most_of(offset: u64, end: u64, room: usize) -> usize
+// How many bytes a block at an offset has at most, if the block before ended at `end`.
+fn most_of(offset: u64, end: u64, capacity: usize) -> usize
     ensures block { result ≤ 8192 }
-    ensures fits { result ≤ room }
-    ensures some { 0 < room → 0 < result }
+    ensures fits { result ≤ capacity }
+    ensures some { 0 < capacity → 0 < result }
 {
-    // At the start, and after a seek, a small block mostly has the bytes that are read next. It costs less.
+    // Elsewhere than at the end of the block before, a small block mostly has the bytes that are read next. It costs less.
     let most = if offset > 0 && offset == end {
         BLOCK
     } else {
         FIRST
     };
-    most.min(room)
+    most.min(capacity)
 }
 
 // Seeks a file to an offset, if it is elsewhere.

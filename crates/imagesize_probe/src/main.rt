@@ -2,7 +2,7 @@
 //! depends on.
 #![tactic(auto)]
 
-ghost use Rattle.std.specs.Prelude.{◌≡◌, ◌||◌, [], IsTrue, IfOk, IfErr, Option, None};
+ghost use Rattle.std.specs.Prelude.{◌≡◌, ◌||◌, [], true, IsTrue, IfOk, IfErr, Option, None};
 ghost use Rattle.std.specs.Io.Buffered.{writer_buffer};
 ghost use Rattle.imagesize_probe.specs.Run.{Files, Loads, LoadsNone};
 ghost use Rattle.imagesize_source.specs.Errors.{is_fault, is_memory};
@@ -33,11 +33,15 @@ fn run_arguments(rt: &HostRuntime) -> io::Result<u8> {
     let _program = arguments.next();
     let arguments: Vec<String> = arguments.collect(rt.alloc())?;
     let mut output = buffered(rt, 8192);
-    let memory = &mut [0; BLOCK];
+    let mut memory = [0; BLOCK];
+    let mut disk = Disk {
+        rt,
+        memory: &mut memory,
+    };
     run(
         rt.alloc(),
         &arguments,
-        &mut Disk { rt, memory },
+        &mut disk,
         &mut output,
         &mut rt.stderr(),
     )
@@ -69,7 +73,7 @@ impl<'a, R: Files + AllocGlobal> Open for Disk<'a, R> {
     fn open(&mut self, name: &str) -> ImageResult<FileReader<'a, R::File>>
         ensures opens { Unit {0} }
         ensures keeps { ◌≡◌ {A = Option Files} None None }
-        ensures refuses { IfErr result (λ e. IsTrue (is_fault e || is_memory e)) }
+        ensures refuses { IfErr result (λ e. is_fault e ≡ true) }
     {
         let file = fs::open(self.rt, name)?;
         let length = length_of(&file);

@@ -201,7 +201,7 @@ fn a_block_is_small_at_the_start_and_after_a_seek(rt: HostRuntime) -> Result<(),
 }
 
 #[test]
-fn a_block_is_long_behind_the_one_before(rt: HostRuntime) -> Result<(), Fail> {
+fn a_block_is_long_after_the_one_before(rt: HostRuntime) -> Result<(), Fail> {
     let bytes = Vec::from_elem(rt.alloc(), 7u8, 20_000)?;
     let mut memory = [0; BLOCK];
     let mut reader = FileReader::new(Cursor::new(bytes.as_slice()), None, &mut memory);

@@ -9,6 +9,7 @@ use super::{Open, WHOLE, exit_code, run};
 use crate::fakes::Weak;
 use crate::{Disk, buffered};
 use imagesize::{ImageError, ImageResult, Reason, Told};
+use imagesize_io::file::BLOCK;
 use std::alloc::{AllocError, Global};
 use std::fs;
 use std::io::{self, Cursor, ErrorKind, Write};
@@ -325,8 +326,11 @@ fn refused_lines<R: Files + AllocGlobal + Abort>(
     let arguments = strings(alloc, arguments)?;
     let mut output = Vec::new(alloc);
     let mut errors = Vec::new(alloc);
-    let memory = &mut [0; 8192];
-    let mut disk = Disk { rt, memory };
+    let mut memory = [0; BLOCK];
+    let mut disk = Disk {
+        rt,
+        memory: &mut memory,
+    };
     let status = run(alloc, &arguments, &mut disk, &mut output, &mut errors)?;
     assert_eq!(rt; status, 1);
     Ok(String::from_utf8(output)?)
@@ -355,9 +359,12 @@ fn files_that_cannot_be_read_have_a_line(rt: HostRuntime) -> Result<(), Fail> {
 }
 
 #[test]
-fn a_block_serves_one_file_after_another(rt: HostRuntime) -> Result<(), Fail> {
-    let memory = &mut [0; 100];
-    let mut disk = Disk { rt: &rt, memory };
+fn one_memory_serves_one_file_after_another(rt: HostRuntime) -> Result<(), Fail> {
+    let mut memory = [0; 100];
+    let mut disk = Disk {
+        rt: &rt,
+        memory: &mut memory,
+    };
     let mut reader = disk.open("/dev/zero")?;
     assert!(rt; matches!(reader.read_told(&mut [0u8; 12]), Ok(12)));
     assert_eq!(rt; reader.held().len(), 88);

@@ -7,5 +7,5 @@ returns-clause-reads g c = (
   c.go.new.file,
   rw c.take-position.ensures.value at c.in_ok-go.ensures.goes,
   c.in_ok-count.ensures.reads,
-  λ none. c.in_ok-count.ensures.end none (grind (arith, nat_tests, c.if-most-eq0.false)),
+  λ none. c.in_ok-count.ensures.end none (c.most_of-most.ensures.some (grind (arith, nat_tests, c.if-capacity-eq0.false))),
 )
