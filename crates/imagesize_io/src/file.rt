@@ -53,8 +53,8 @@ pub struct FileReader<'a, R: Read + Seek + Drop> {
 }
 
 impl<'a, R: Read + Seek + Drop> FileReader<'a, R> {
-    /// Wraps a file at offset 0, with its length in bytes if known, and the memory for its blocks, of which `BLOCK` bytes suffice. It
-    /// makes no call of the file. A file at another offset gives wrong bytes.
+    /// Wraps a file at offset 0, with its length in bytes if known. Its blocks are read into the memory: `BLOCK` bytes suffice. It makes
+    /// no call of the file. A file at another offset gives wrong bytes.
     pub fn new(file: R, length: Option<u64>, memory: &'a mut [u8]) -> Self
         ensures file { result.file ≡ file }
         ensures start { (result.position ≡ Some 0) × (result.offset ≡ 0) }
