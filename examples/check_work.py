@@ -142,7 +142,7 @@ def check_order(probe):
 
 def traced(command, name):
     """The system calls of a command, with arguments and results, from the first one that opens a file."""
-    calls = "trace=open,openat,read,pread64,readv,lseek,write,writev"
+    calls = "trace=open,openat,read,pread64,readv,lseek,write,writev,fstat,newfstatat,statx"
     with tempfile.NamedTemporaryFile("r") as log:
         subprocess.run(["strace", "-f", "-o", log.name, "-e", calls, *command], stdout=subprocess.DEVNULL, check=False)
         found = re.findall(r"(\w+)\((.*)\) += (-?\d+)", log.read())
@@ -158,21 +158,35 @@ def counted(command, name):
     return {"opens": opens, "reads": len(read), "bytes": sum(read), "seeks": seeks, "writes": writes}
 
 
+def check_pipe(sizes):
+    """`size` of a pipe reads its first bytes, and is an error."""
+    os.mkfifo("pipe")
+    pipe = os.open("pipe", os.O_RDWR | os.O_NONBLOCK)
+    os.write(pipe, GIF)
+    lines, _, status = run(sizes, "pipe", timeout=PATIENCE)
+    assert (lines, status) == ("Illegal seek (os error 29)\n", 0), f"a pipe: {lines}, status {status}"
+    assert not select.select([pipe], [], [], 0)[0], "bytes that are left in a pipe"
+    os.close(pipe)
+    print("a pipe: size is an error")
+
+
 def check_calls(probe, sizes):
     """A file is opened once, only its first bytes are read, in blocks, and lines are written in blocks. Where a file is read on, each
-    block after the first has 8 KiB."""
+    block after the first has 8 KiB. `size` reads a block before it seeks to the end, and back if it reads on."""
     front = {"opens": 1, "reads": 4, "bytes": 16384, "seeks": 0, "writes": 2}
     whole = {"opens": 1, "reads": 100, "bytes": len(LONG_JPEG) * 3 // 2, "seeks": 4, "writes": 20}
     lines = {"opens": 1, "reads": 1 + -(-(len(LONG_HDR) - 4096) // 8192), "bytes": len(LONG_HDR), "seeks": 0, "writes": 2}
     for command, most in [
-        ([sizes, "long.jpeg"], front),
+        ([sizes, "long.jpeg"], front | {"seeks": 1}),
         ([probe, "long.jpeg"], front),
         ([probe, "--spans", "long.jpeg"], whole),
-        ([sizes, "long.hdr"], lines),
+        ([sizes, "long.hdr"], lines | {"seeks": 2}),
         ([probe, "long.hdr"], lines),
     ]:
         got = counted(command, command[-1])
         assert got["opens"] == 1 and all(got[call] <= most[call] for call in most), f"{command}: {got}, and at most {most}"
+    calls = [call for call, _, _ in traced([sizes, "tiny.gif"], "tiny.gif")][:4]
+    assert calls == ["openat", "read", "lseek", "write"], f"size: {calls}"
     print("system calls: a file is opened once, and read in blocks, as far as its size needs them")
 
 
@@ -236,6 +250,7 @@ def main(folder, probe, sizes):
         check_files(probe, sizes)
         check_memory(probe)
         check_order(probe)
+        check_pipe(sizes)
         for tool, check in [("strace", lambda: check_calls(probe, sizes)), ("valgrind", lambda: check_instructions(folder, probe)),
                             ("valgrind", lambda: check_streams(folder))]:
             if shutil.which(tool):

@@ -358,23 +358,25 @@ fn files_that_cannot_be_read_have_a_line(rt: HostRuntime) -> Result<(), Fail> {
     Ok(())
 }
 
-#[test]
-fn one_memory_serves_one_file_after_another(rt: HostRuntime) -> Result<(), Fail> {
-    let mut memory = [0; 100];
-    let mut disk = Disk {
-        rt: &rt,
-        memory: &mut memory,
-    };
+// Opens two files, one after another.
+fn check_memory<R: Files + AllocGlobal + Abort>(rt: &R, memory: &mut [u8]) -> Result<(), Fail> {
+    let length = memory.len();
+    let mut disk = Disk { rt, memory };
     let mut reader = disk.open("/dev/zero")?;
     assert!(rt; matches!(reader.read_told(&mut [0u8; 12]), Ok(12)));
-    assert_eq!(rt; reader.held().len(), 88);
+    assert!(rt; !reader.held().is_empty());
     disk.close(reader);
     assert!(rt; disk.open("no such file").is_err());
-    assert_eq!(rt; disk.memory.len(), 100);
+    assert_eq!(rt; disk.memory.len(), length);
     let reader = disk.open("/dev/null")?;
     assert!(rt; disk.memory.is_empty());
     assert!(rt; reader.held().is_empty());
     Ok(())
+}
+
+#[test]
+fn one_memory_serves_one_file_after_another(rt: HostRuntime) -> Result<(), Fail> {
+    check_memory(&rt, &mut [0; 100])
 }
 
 #[test]
