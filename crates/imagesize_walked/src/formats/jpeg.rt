@@ -3,10 +3,12 @@ ghost use Rattle.std.specs.Prelude.{◌≡◌, ℕ, ◌<◌, ◌≤◌, ◌+◌,
 ghost use Rattle.imagesize_walked.specs.Jpeg.{is_frame, is_jpeg, is_own_end, is_own_frame, jpeg};
 ghost use Rattle.imagesize_walked.specs.Walks.{depth_behind, is_plain, jpeg_first, jpeg_holds, jpeg_step, HasRole};
 ghost use Rattle.imagesize_walked.specs.declared.formats.jpeg.Segments.{Segments};
+ghost use Rattle.imagesize_source.specs.Reading.{number_read};
 ghost use Rattle.imagesize_source.specs.State.{Runs, State};
 ghost use Rattle.imagesize_source.specs.Strides.{Strides};
+ghost use Rattle.imagesize_source.specs.declared.endian.Endian.TheVariants as endian;
 
-use imagesize_source::readings::{read_bytes, read_u16_behind};
+use imagesize_source::readings::{read_bytes, read_u16, read_u16_behind};
 use imagesize_source::source::Source;
 use imagesize_source::walk::{Found, RecordResult, Records, ended, walk_on};
 use imagesize_source::{Endian, Halt};
@@ -91,7 +93,7 @@ impl Records for Segments {
             }
             Role::End => Err(Halt::Corrupted),
             Role::Other { depth } => {
-                let length = read_u16_behind(source, offset, 2, Endian::Big)? as u64;
+                let length = read_length(source, offset)? as u64;
                 if let Some(depth) = depth {
                     self.depth = depth;
                 }
@@ -105,6 +107,19 @@ impl Records for Segments {
     #[tactic(auto, using(crate::proofs::Jpeg::jpeg_ends))]
     fn at_end(&self) -> Result<ImageSize, Halt> {
         ended()
+    }
+}
+
+// The length of the segment at an offset: how many bytes it has after its marker. In held bytes, this saves 4 of 43 instructions
+// a segment beside `read_u16_behind` alone, whose sum saturates.
+#[inline(always)]
+fn read_length<S: Source>(source: &mut S, offset: u64) -> Result<u16, Halt>
+    ensures { Runs (S.state source.old) (S.state source.new) result
+        (number_read (S.state source.old).held.input endian.Big (offset + 2) 2) }
+{
+    match offset.checked_add(2) {
+        Some(behind) => read_u16(source, behind, Endian::Big),
+        None => read_u16_behind(source, offset, 2, Endian::Big),
     }
 }
 
