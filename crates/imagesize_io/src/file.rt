@@ -1,10 +1,12 @@
 //! A file as a reader, which is read block by block.
-ghost use Rattle.std.specs.Prelude.{◌≡◌, ◌≢◌, ℕ, ℤ, ◌+◌, ◌^◌, ◌<◌, ◌≤◌, ◌⊎◌, min, [], length, take, Some, None, Ok, pos, IfOk, IfErr, IfSome};
+ghost use Rattle.std.specs.Prelude.{◌≡◌, ◌≢◌, ℕ, ℤ, ◌+◌, ◌^◌, ◌<◌, ◌≤◌, ◌⊎◌, min, [], length, take, Some, None, Ok, pos, IfOk, IfErr, IfSome, IsErrAnd};
 ghost use Rattle.std.specs.Io.KnownBytes.{Consumes, IsAtEnd, Keeps, ReadConsumes, prepend_known};
 ghost use Rattle.std.specs.Io.Seek.{IsAtOffset, SeekMoves};
 ghost use Rattle.std.specs.Result.{result_ok};
 ghost use Rattle.std.specs.declared.io.Error.{Error};
-ghost use Rattle.imagesize_io.specs.File.{IsSoughtTo, held_of};
+ghost use Rattle.std.specs.IoError.{error_kind};
+ghost use Rattle.std.specs.declared.io.ErrorKind.TheVariants.{InvalidInput};
+ghost use Rattle.imagesize_io.specs.File.{HasNoBlock, IsInvalid, IsSoughtTo, held_of};
 ghost use Rattle.imagesize_io.specs.ReaderState.{kept_window};
 ghost use Rattle.imagesize_io.specs.StopOf.{stop_of};
 
@@ -96,6 +98,8 @@ impl<'a, R: Read + Seek + Drop> FileReader<'a, R> {
         ensures unknown { IfErr result (λ _. self.new.position ≡ None) }
         ensures fails { IfErr result (λ _. (self.new.block.front ≡ self.old.block.front)
             × ((self.new.block ≡ self.old.block) ⊎ (self.new.block.filled ≡ 0))) }
+        ensures refuses { HasNoBlock self.old → IsErrAnd result (λ e. error_kind e ≡ InvalidInput)
+            × (self.new.file ≡ self.old.file) }
         ensures offset { self.new.offset ≡ self.old.offset }
         ensures length { self.new.length ≡ self.old.length }
     {
@@ -191,6 +195,9 @@ impl<R: Read + Seek + Drop> Told for FileReader<'_, R> {
         ensures keeps { self.old.position ≡ Some self.old.offset
             → IfErr result (λ _. Keeps (R.remaining self.old.file) (R.remaining self.new.file)) }
         ensures unknown { IfErr result (λ _. self.new.position ≡ None) }
+
+        // Without memory, or where a block might end past 2^64 - 1, the read fails with `InvalidInput` and does not call the file.
+        ensures refuses { held_of self.old ≡ [] → HasNoBlock self.old → IsErrAnd result IsInvalid × (self.new.file ≡ self.old.file) }
 
         // A read that fails moves no offset, and leaves the first bytes. The block is gone.
         ensures fails { IfErr result (λ _. (self.new.offset ≡ self.old.offset) × (self.new.block.front ≡ self.old.block.front)
