@@ -2,14 +2,10 @@
 use Rattle.std.specs.Prelude.{◌≡◌, ◌≢◌, ◌⊎◌, ℕ, ◌+◌, ◌^◌, ◌≤◌, List, [], take, Option, Some, Ok}
 use Rattle.std.specs.Io.KnownBytes.{Keeps}
 use Rattle.std.specs.Io.Seek.{SeekMoves}
-use Rattle.std.specs.IoError.{error_kind}
 use Rattle.std.specs.declared.io.Error.{Error}
-use Rattle.std.specs.declared.io.ErrorKind.TheVariants.{InvalidInput}
 use Rattle.std.specs.declared.io.traits.SeekFrom.TheVariants.{Start}
 use Rattle.imagesize_io.specs.Block.{held_from}
 use Rattle.imagesize_io.specs.declared.file.FileReader.{FileReader}
-use Rattle.imagesize_io.specs.declared.told.Stop.{Stop}
-use Rattle.imagesize_io.specs.declared.told.Stop.TheVariants.{Fault, Interrupted}
 
 -- the bytes that a reader of a file holds from its offset on
 abbrev pub held_of : {R : Type 0} → FileReader R → List ℕ
@@ -25,8 +21,3 @@ IsSoughtTo position bytes old new at offset =
 -- a reader that can read no block: it has no memory, or a block of 8,192 bytes at its offset would end past 2^64 - 1
 abbrev pub HasNoBlock : {R : Type 0} → FileReader R → Type 0
 HasNoBlock r = (r.block.memory.now ≡ []) ⊎ (2 ^ 64 ≤ r.offset + 8192)
-
--- a fault with `ErrorKind::InvalidInput`
-abbrev pub IsInvalid : Stop → Type 0
-IsInvalid (Fault e) = error_kind e ≡ InvalidInput
-IsInvalid (Interrupted e) = ⊥
