@@ -19,5 +19,5 @@ IsSoughtTo position bytes old new at offset =
     × ((there : ℕ) × SeekMoves {E = Error} (position old) (position new) (bytes old) (Start offset) (Ok there)))
 
 -- a reader that can read no block: it has no memory, or a block of 8,192 bytes at its offset would end past 2^64 - 1
-abbrev pub HasNoBlock : {R : Type 0} → FileReader R → Type 0
-HasNoBlock r = (r.block.memory.now ≡ []) ⊎ (2 ^ 64 ≤ r.offset + 8192)
+abbrev pub CanReadNoBlock : {R : Type 0} → FileReader R → Type 0
+CanReadNoBlock r = (r.block.memory.now ≡ []) ⊎ (2 ^ 64 ≤ r.offset + 8192)

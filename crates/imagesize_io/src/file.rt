@@ -6,7 +6,7 @@ ghost use Rattle.std.specs.Result.{result_ok};
 ghost use Rattle.std.specs.declared.io.Error.{Error};
 ghost use Rattle.std.specs.IoError.{error_kind};
 ghost use Rattle.std.specs.declared.io.ErrorKind.TheVariants.{InvalidInput};
-ghost use Rattle.imagesize_io.specs.File.{HasNoBlock, IsSoughtTo, held_of};
+ghost use Rattle.imagesize_io.specs.File.{CanReadNoBlock, IsSoughtTo, held_of};
 ghost use Rattle.imagesize_io.specs.ReaderState.{kept_window};
 ghost use Rattle.imagesize_io.specs.StopOf.{stop_of};
 
@@ -28,8 +28,9 @@ const FIRST: usize = 4096;
 /// before ends has 8,192. No block is longer than the memory. The last block and the first 32 bytes are held: reading these again makes
 /// no call of the file. Only a seek from the end calls the file, and not if it goes to the end and the length is known. After any other
 /// seek, the next read seeks if it needs to, and returns the seek's error. A read of the file fails with `InvalidInput` at an offset
-/// above 2^64 - 8,193, and if the memory has no bytes. The reader has no model. The length is not checked. If something else moves
-/// the file, this reader does not notice.
+/// above 2^64 - 8,193, or if the memory has no bytes.
+///
+/// It has no model. The length is not checked. If something else moves the file, this reader does not notice.
 ///
 /// ```
 /// use imagesize::reader_size;
@@ -80,7 +81,7 @@ impl<'a, R: Read + Seek + Drop> FileReader<'a, R> {
     }
 
     // Reads the block at the reader's offset. The file is sought there first, if it is elsewhere.
-    // Errors: those of the file, and `InvalidInput` without memory, or where a block might end past 2^64 - 1.
+    // Errors: those of the file, and `InvalidInput` without memory, or above the offset 2^64 - 8,193.
     fn fetch(&mut self) -> io::Result<usize>
         ensures reads { IfOk result (λ n. (file : R)
             × IsSoughtTo R.stream_position R.stream_bytes self.old.file file self.old.position self.old.offset
@@ -95,7 +96,7 @@ impl<'a, R: Read + Seek + Drop> FileReader<'a, R> {
         ensures unknown { IfErr result (λ _. self.new.position ≡ None) }
         ensures fails { IfErr result (λ _. (self.new.block.front ≡ self.old.block.front)
             × ((self.new.block ≡ self.old.block) ⊎ (self.new.block.filled ≡ 0))) }
-        ensures refuses { HasNoBlock self.old → (self.new.file ≡ self.old.file) × IsErrAnd result (λ e. error_kind e ≡ InvalidInput) }
+        ensures refuses { CanReadNoBlock self.old → (self.new.file ≡ self.old.file) × IsErrAnd result (λ e. error_kind e ≡ InvalidInput) }
         ensures offset { self.new.offset ≡ self.old.offset }
         ensures length { self.new.length ≡ self.old.length }
     {
@@ -192,8 +193,8 @@ impl<R: Read + Seek + Drop> Told for FileReader<'_, R> {
             → IfErr result (λ _. Keeps (R.remaining self.old.file) (R.remaining self.new.file)) }
         ensures unknown { IfErr result (λ _. self.new.position ≡ None) }
 
-        // Without memory, or where a block might end past 2^64 - 1, the read fails with `InvalidInput` and does not call the file.
-        ensures refuses { held_of self.old ≡ [] → HasNoBlock self.old → (self.new.file ≡ self.old.file)
+        // If no byte is held: without memory, or above the offset 2^64 - 8,193, the read fails with `InvalidInput`. The file is not called.
+        ensures refuses { held_of self.old ≡ [] → CanReadNoBlock self.old → (self.new.file ≡ self.old.file)
             × IsErrAnd result (λ stop. (e : Error) × (stop ≡ stop_of e) × (error_kind e ≡ InvalidInput)) }
 
         // A read that fails moves no offset, and leaves the first bytes. The block is gone.

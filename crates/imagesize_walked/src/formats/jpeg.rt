@@ -110,8 +110,8 @@ impl Records for Segments {
     }
 }
 
-// The length of the segment at an offset: how many bytes it has after its marker. In held bytes, this saves 4 of 43 instructions
-// a segment beside `read_u16_behind` alone, whose sum saturates.
+// The length of the segment at an offset: how many bytes it has after its marker. In held bytes, `checked_add` saves 4 of 40
+// instructions a segment compared with `read_u16_behind`, whose sum saturates. A sum that does not fit is past the end of every input.
 #[inline(always)]
 fn read_length<S: Source>(source: &mut S, offset: u64) -> Result<u16, Halt>
     ensures { Runs (S.state source.old) (S.state source.new) result
